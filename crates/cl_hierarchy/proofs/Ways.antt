@@ -1,5 +1,5 @@
 -- The way up through the rows of a lineage.
-use Rattle.std.proofs.Common.{◌≡◌, ◌∙◌, ◌<◌, ◌≤◌, ◌+◌, ℕ, zero, suc, Bool, true, false, if◌then◌else◌, inl, inr, arith, List, [], ◌∷◌, ◌++◌, Option, Some, None, append_assoc, length, length-append, map, take, refl, sym, ap, subst}
+use Rattle.std.proofs.Common.{◌≡◌, ◌∙◌, ◌<◌, ◌≤◌, ◌+◌, ℕ, zero, suc, Bool, true, false, if◌then◌else◌, inl, inr, arith, List, [], ◌∷◌, ◌++◌, Option, Some, None, append-nil, append_assoc, length, length-append, map, take, refl, sym, ap, subst}
 use Rattle.std.specs.Prelude.{option_to_list, slice_get}
 use Rattle.std.proofs.lemmas.Bool.{or_cases}
 use Rattle.std.proofs.lemmas.List.{length-map, map_push}
@@ -228,6 +228,29 @@ module _ (told : Option Content) (config : Configured) (rows : List Rowed) (top 
     }),
     begins_push ways w None ∙ ap (λ (m : ℕ). begins ways (Some m)) is ∙ h.begins_at,
   )
+
+-- ---- a look for the first superinterface
+
+-- what was passed stands behind these
+abbrev pub Passes : List Rowed → List Rowed → Type 0
+Passes whole left = (later : List Rowed) × (whole ≡ left ++ later)
+
+pub passes_none : (whole : List Rowed) → Passes whole whole
+passes_none whole = ([], sym (append-nil whole))
+
+module _ {A : Type 0} (v : A → Rowed) (whole : List Rowed) (left earlier : List A) (row : A) (split : left ≡ earlier ++ row ∷ []) (h : Passes whole (map v left)) where
+  parted : whole ≡ map v earlier ++ v row ∷ h.0
+  parted =
+      h.1 ∙ ap (λ (xs : List A). map v xs ++ h.0) split ∙ ap (λ (rs : List Rowed). rs ++ h.0) (map_push v earlier row) ∙ append_assoc (map v earlier) (v row ∷ []) h.0
+
+  pub passes_one : Passes whole (map v earlier)
+  passes_one = (v row ∷ h.0, parted)
+
+  pub passed_over : (under x : Rowed) → x ≡ v row → IsFirstOver under x → IsNext whole under true (map v earlier) (v row)
+  passed_over under x is over = record {
+    place = record { later = h.0; split = parted };
+    is_upper = subst (λ (y : Rowed). IsFirstOver under y) is over;
+  }
 
 -- ---- the same of what lies behind them in memory
 

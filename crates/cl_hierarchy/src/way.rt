@@ -74,8 +74,30 @@ fn is_first_over<T: Told>(row: &ClassRow<T>, under: &ClassRow<T>) -> bool
     is_first_named(row, under) && share_superclass(row, under)
 }
 
-/// Whether the way goes on to a superinterface, its row, and the rows before it: the row right before, where it can, so that
-/// none is looked for.
+/// The row of the first superinterface of a class, where it has the same superclass, and the rows before it. It is looked for
+/// down to the row of the superclass, which stands before it then.
+fn first_over_row<'a, T: Told>(
+    rows: &'a [Arc<ClassRow<T>>],
+    under: &ClassRow<T>,
+) -> Option<(&'a Arc<ClassRow<T>>, &'a [Arc<ClassRow<T>>])>
+    ensures next { IfSome result (λ p. IsNext (map (λ r. r.value) rows.now) under.now true
+        (map (λ r. r.value) p.1.now) p.0.now.value) }
+    ensures shorter { IfSome result (λ p. length p.1.now < length rows.now) }
+{
+    let mut left = rows;
+    while let Some((row, earlier)) = left.split_last() {
+        if is_superclass(row, under) {
+            return None;
+        }
+        if is_first_over(row, under) {
+            return Some((row, earlier));
+        }
+        left = earlier;
+    }
+    None
+}
+
+/// Whether the way goes on to a superinterface, its row, and the rows before it. The superclass mostly stands right before.
 fn next_up<'a, T: Told>(
     rows: &'a [Arc<ClassRow<T>>],
     under: &ClassRow<T>,
@@ -93,9 +115,9 @@ fn next_up<'a, T: Told>(
         if is_superclass(row, under) {
             return Some((false, row, earlier));
         }
-        if is_first_over(row, under) {
-            return Some((true, row, earlier));
-        }
+    }
+    if let Some((row, earlier)) = first_over_row(rows, under) {
+        return Some((true, row, earlier));
     }
     let (row, earlier) = superclass_row(rows, under)?;
     Some((false, row, earlier))

@@ -19,9 +19,11 @@
   interfaces    2,000 interfaces over one another; the last is linked
   beside        two chains of 1,000 interfaces, and a class that names the last of each; it is linked
   comb          1,000 interfaces over one another, each of which names another first that names none; the last is linked
+  fringe        the same, each of which names the other last
+  twos          2,000 interfaces, each of which names the two before it, the farther first; the last is linked
 
-and of overriding, plain, topped, distinct, many, inherited, naming, interfaces, beside, comb and repeated one more with so many
-classes that it has about a megabyte, as plain_mb.
+and of overriding, plain, topped, distinct, many, inherited, naming, interfaces, beside, comb, fringe, twos and repeated one more with
+so many classes that it has about a megabyte, as plain_mb.
 
 Each is a bundle: classlink bundle < FILE.
 """
@@ -184,23 +186,39 @@ def beside(path, count=1000):
     bundle(path, TWO, classes, ["link app p/C\n"])
 
 
-def comb(path, count=1000):
+def teeth(path, count, others):
+    """Interfaces over one another, which name by others what else they name: another of its own each, before or behind."""
     classes, above = [TOP], []
     for n in range(count):
         classes.append(section("app", f"p/T{n}", flags="0601"))
-        classes.append(section("app", f"p/S{n}", interfaces=[f"p/T{n}", *above], flags="0601"))
+        classes.append(section("app", f"p/S{n}", interfaces=others(above, f"p/T{n}"), flags="0601"))
         above = [f"p/S{n}"]
+    bundle(path, TWO, classes, [f"link app p/S{count - 1}\n"])
+
+
+def comb(path, count=1000):
+    teeth(path, count, lambda above, tooth: [tooth, *above])
+
+
+def fringe(path, count=1000):
+    teeth(path, count, lambda above, tooth: [*above, tooth])
+
+
+def twos(path, count=2000):
+    classes = [TOP]
+    for n in range(count):
+        classes.append(section("app", f"p/S{n}", interfaces=[f"p/S{k}" for k in (n - 2, n - 1) if k >= 0], flags="0601"))
     bundle(path, TWO, classes, [f"link app p/S{count - 1}\n"])
 
 
 def main(folder):
     os.makedirs(folder, exist_ok=True)
     references = methods, settled, constraints, refused
-    chains = overriding, repeated, plain, topped, wide, distinct, many, inherited, naming, interfaces, beside, comb
+    chains = overriding, repeated, plain, topped, wide, distinct, many, inherited, naming, interfaces, beside, comb, fringe, twos
     for make in *references, ladder, links, *chains:
         make(f"{folder}/{make.__name__}")
     counts = {overriding: 15000, plain: 22000, topped: 22000, distinct: 15000, many: 1000, inherited: 14000, naming: 17000}
-    for make, count in {**counts, interfaces: 14000, beside: 7000, comb: 6500, repeated: 7500}.items():
+    for make, count in {**counts, interfaces: 14000, beside: 7000, comb: 6500, fringe: 6500, twos: 11000, repeated: 7500}.items():
         make(f"{folder}/{make.__name__}_mb", count)
 
 

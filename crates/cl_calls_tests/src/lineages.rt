@@ -301,7 +301,8 @@ fn ask_classes<R: Abort>(
     assert!(rt; has_front(alloc, tables, D, 4, D)?);
     assert!(rt; !has_front(alloc, tables, D, 3, J2)?);
     assert!(rt; has_front(alloc, tables, 6001, 1, 6000)?);
-    assert!(rt; !has_front(alloc, tables, 6003, 2, 6001)?);
+    assert!(rt; has_front(alloc, tables, 6003, 2, 6001)?);
+    assert!(rt; !has_front(alloc, tables, 6003, 3, 6002)?);
     assert!(rt; stands_at(alloc, tables, 6003, 2, &[TOP, 6000])?);
     assert!(rt; stands_at(alloc, tables, 6003, 3, &[TOP, 6000])?);
     assert!(rt; stands_at(alloc, tables, D, 3, &[TOP])?);

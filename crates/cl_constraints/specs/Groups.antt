@@ -1,26 +1,6 @@
 -- The constraints of one name, kept as groups of joined loaders; what they mean is of JVMS SE 8,
 -- 5.3.4.
-use Rattle.std.specs.Prelude.{
-  ◌≡◌,
-  ◌⊎◌,
-  ℕ,
-  Bool,
-  true,
-  false,
-  ◌==◌,
-  ◌&&◌,
-  not,
-  List,
-  [],
-  ◌∷◌,
-  ◌++◌,
-  Option,
-  Some,
-  None,
-  find,
-  filter,
-  if◌then◌else◌,
-}
+use Rattle.std.specs.Prelude.{◌≡◌, ◌⊎◌, ℕ, Bool, true, false, ◌&&◌, not, List, [], ◌∷◌, ◌++◌, Option, Some, None, find, filter, if◌then◌else◌}
 use Rattle.std.specs.List.{AllByRecursion, list_any}
 use Rattle.cl_model.specs.Probes.{is_in}
 use Rattle.cl_constraints.specs.declared.record.Entered.{Entered}

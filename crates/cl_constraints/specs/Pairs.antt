@@ -1,18 +1,5 @@
 -- The constraints of one name, kept as lists; what they mean is of JVMS SE 8, 5.3.4.
-use Rattle.std.specs.Prelude.{
-  ◌≡◌,
-  ℕ,
-  Bool,
-  ◌==◌,
-  ◌&&◌,
-  not,
-  List,
-  Option,
-  Some,
-  find,
-  option_map,
-  if◌then◌else◌,
-}
+use Rattle.std.specs.Prelude.{◌≡◌, ℕ, Bool, ◌==◌, ◌&&◌, not, List, Option, Some, if◌then◌else◌}
 use Rattle.std.specs.List.{AllByRecursion, fold, list_any}
 use Rattle.cl_constraints.specs.declared.plain.Pair.{Pair}
 use Rattle.cl_constraints.specs.declared.plain.Placed.{Placed}

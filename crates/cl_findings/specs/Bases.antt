@@ -21,7 +21,6 @@ use Rattle.cl_model.specs.Content.{Content}
 use Rattle.cl_hierarchy.specs.Drafts.{IsSpelt}
 use Rattle.cl_hierarchy.specs.Imposed.{Sprung, OfReference, OfPreparation}
 use Rattle.cl_hierarchy.specs.Imposed as imposed
-use Rattle.cl_hierarchy.specs.Frames.{frame_of}
 use Rattle.cl_hierarchy.specs.Lineages.{IsLined, rows_in}
 use Rattle.cl_hierarchy.specs.Paths.{Pathed, frames_of, at_loader, at_name}
 use Rattle.cl_findings.specs.Findings.{Based}

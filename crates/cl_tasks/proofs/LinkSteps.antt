@@ -14,7 +14,7 @@ use Rattle.cl_model.specs.Views.{need_of}
 use Rattle.cl_model.proofs.Bind.{some_same}
 use Rattle.cl_config.specs.Views.{Configured}
 use Rattle.cl_hierarchy.specs.Imposed.{Listed, Sprung, equal_need}
-use Rattle.cl_hierarchy.specs.Lineages.{IsInOrder, Lined}
+use Rattle.cl_hierarchy.specs.Lineages.{Lined}
 use Rattle.cl_hierarchy.specs.Rows.{Rowed}
 use Rattle.cl_registry.specs.Imposing.{IsPreparedBy}
 use Rattle.cl_registry.specs.Tables.{Shown, state_of}
@@ -22,9 +22,9 @@ use Rattle.cl_registry.proofs.Schedules.{some_at}
 use Rattle.cl_tasks.specs.Deriving.{IsPast}
 use Rattle.cl_tasks.specs.Calls.{equalities_in, own_homes, past_loads}
 use Rattle.cl_tasks.specs.Follows.{CallsWithin, EndsAsRefused, Posts, Tells}
-use Rattle.cl_tasks.specs.Linking.{AskedTold, LineageTold, ListTold, MarkedTold, PreparedTold, RefusedTold, WholeTold}
+use Rattle.cl_tasks.specs.Linking.{AskedTold, ListTold, MarkedTold, PreparedTold, RefusedTold, WholeTold}
 use Rattle.cl_tasks.specs.Measures.{chain_left, linking_left, prepared_left, whole_left}
-use Rattle.cl_tasks.specs.Rooms.{chain_room, last_room, linking_room, listed_room, marked_room, prepared_room, whole_room}
+use Rattle.cl_tasks.specs.Rooms.{chain_room, last_room, linking_room, marked_room, prepared_room, whole_room}
 use Rattle.cl_tasks.specs.Stages.{IsAtPlace, IsChain, behind, chain_calls, chain_facts, class_in, linking_at, list_calls, task_at}
 use Rattle.cl_tasks.specs.Steps.{IsPlain, LeadsBy, Steps, task_room}
 use Rattle.cl_tasks.specs.Tasks.{Stands}
@@ -38,7 +38,7 @@ use Rattle.cl_tasks.specs.declared.turn.Reply.TheVariants as reply
 use Rattle.cl_tasks.proofs.Deriving.{past_derives}
 use Rattle.cl_tasks.proofs.Lead.{HasPost, plain_steps}
 use Rattle.cl_tasks.proofs.LinkFacts.{list_chain, list_imposed, list_of, list_traced, row_there, met_more}
-use Rattle.cl_tasks.proofs.LinkLeads.{chain_some_calls, fewer_calls, post_calls, post_room}
+use Rattle.cl_tasks.proofs.LinkLeads.{fewer_calls, post_calls, post_room}
 use Rattle.std.proofs.lemmas.Option.{none-some}
 
 same_turns : (m : ℕ) → m ≤ m

@@ -19,6 +19,7 @@ use Rattle.std.specs.Prelude.{
   Option,
   Some,
   None,
+  unwrap_or,
   Result,
   Ok,
   Err,
@@ -38,7 +39,6 @@ use Rattle.cl_config.specs.Fields.{
   optional_text,
   name_of,
   order_of,
-  or_else,
   each_from,
 }
 use Rattle.cl_config.specs.declared.limits.TheConstants.{MOST_IMPORTS, MOST_LOADER_NAME_BYTES}
@@ -105,7 +105,7 @@ entry_of wrong before d = do
   imports ← imports_at wrong (get_member (codes "imports") ms)
   if is_new_name before name
       then unless_many (record
-      { name = name; dir = or_else name dir; parent = parent; order = order; imports = imports })
+      { name = name; dir = unwrap_or dir name; parent = parent; order = order; imports = imports })
       else Err wrong
 
 -- the loaders, each behind those before it

@@ -78,11 +78,6 @@ order_of wrong (Some d) = required wrong (as_str d) >>= λ text.
     then Ok ParentFirst
     else if pointwise nat_eq text (codes "child") then Ok ChildFirst else Err wrong
 
--- what is there, or else this
-abbrev pub or_else : List ℕ → Option (List ℕ) → List ℕ
-or_else other None = other
-or_else other (Some text) = text
-
 -- what each value of an array gives, behind what there is already, or the first fault
 unfoldable pub each_from : {A : Type 0} → (List A → Data → Result A ConfigFault) → List A → Items
     → Result (List A) ConfigFault

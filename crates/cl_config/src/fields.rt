@@ -1,12 +1,12 @@
 //! What a table has under its keys.
 
-ghost use Rattle.std.specs.Prelude.{◌≡◌, ◌<◌, ◌^◌, List, [], length, map, string_bytes, nat_eq, Ok};
+ghost use Rattle.std.specs.Prelude.{◌≡◌, ◌<◌, ◌^◌, List, [], length, map, string_bytes, nat_eq, unwrap_or, Ok};
 ghost use Rattle.std.specs.List.{list_any};
 ghost use Rattle.std.specs.Cmp.Lexicographic.{pointwise};
 ghost use Rattle.std.specs.Option.{option_map};
 ghost use Rattle.toml.specs.Data.{Data, get_member, as_str};
 ghost use Rattle.toml.specs.View.{view, table_view, array_view};
-ghost use Rattle.cl_config.specs.Fields.{has_only, required, table_of, text_of, optional_text, name_of, or_else};
+ghost use Rattle.cl_config.specs.Fields.{has_only, required, table_of, text_of, optional_text, name_of};
 ghost use Rattle.cl_names.specs.Escape.{unescaped};
 ghost use Rattle.cl_config.specs.Steps.{Finds, Gives};
 
@@ -162,7 +162,7 @@ fn name_in_text(alloc: Global, wrong: ConfigFault, text: &str) -> Result<Name, C
 
 /// The text that is there, or else a copy of the other.
 pub fn or_else(alloc: Global, other: &Text, text: Option<Text>) -> Result<Text, ConfigError>
-    ensures { Gives (λ x. x) result (Ok (or_else other.now text)) }
+    ensures { Gives (λ x. x) result (Ok (unwrap_or text other.now)) }
 {
     match text {
         Some(text) => Ok(text),

@@ -1,12 +1,13 @@
 -- What the groups of one name say of joined loaders and their homes once two loaders are joined.
 use Rattle.std.proofs.Common.{◌≡◌, ◌⊎◌, inl, inr, ℕ, Bool, true, false, ◌==◌, ◌&&◌, ◌||◌, not, List, [], ◌∷◌, ◌++◌, Option, Some, None, filter, refl, sym, ap, ◌↔◌, ◌∙◌, subst, eq-eqb}
 use Rattle.std.specs.List.{list_any}
+use Rattle.std.specs.Option.{option_or}
 use Rattle.std.proofs.lemmas.Bool.{and_from, and_left, and_parts, and_right, eqb-true, or_cases, or_from, or_left, or_right}
 use Rattle.std.proofs.lemmas.List.Folds.{list_any-append}
 use Rattle.std.specs.Prelude.{if◌then◌else◌, Result, Ok, Err, OnOk, OnErr}
 use Rattle.cl_constraints.specs.declared.record.Entered.{Entered}
 use Rattle.cl_constraints.specs.Records.{home_in}
-use Rattle.cl_constraints.specs.Groups.{Joint, Grouped, group_of, shared, AreJoined, AreApart, HasItsHome, HaveHomes, IsGrouped, class_in, IsClassOf, members, or_else, without, joint_of, merged}
+use Rattle.cl_constraints.specs.Groups.{Joint, Grouped, group_of, shared, AreJoined, AreApart, HasItsHome, HaveHomes, IsGrouped, class_in, IsClassOf, members, without, joint_of, merged}
 use Rattle.cl_model.specs.Probes.{is_in}
 use Rattle.cl_constraints.specs.Singles.{Divides, Joins}
 use Rattle.cl_constraints.proofs.Grouping.{class_shared, divides_by, in_group, joined_member, members_joined, shared_found}
@@ -181,7 +182,7 @@ kept_shared a b x y (g ∷ gs) h i j = at (is_in g.loaders a) (is_in g.loaders b
 shared_merged : (v : Grouped) (a b x y : ℕ) → is_in (members v.groups a ++ members v.groups b) x ≡ true → is_in (members v.groups a ++ members v.groups b) y ≡ true → AreJoined (merged v a b) x y
 shared_merged v a b x y h k =
     let all = members v.groups a ++ members v.groups b in
-    inr (list_any-append (λ g. is_in g.loaders x && is_in g.loaders y) (kept a b v.groups) (record { home = or_else (class_in v a) (class_in v b); loaders = all } ∷ [])
+    inr (list_any-append (λ g. is_in g.loaders x && is_in g.loaders y) (kept a b v.groups) (record { home = option_or (class_in v a) (class_in v b); loaders = all } ∷ [])
     ∙ or_right (shared (kept a b v.groups) x y) ((is_in all x && is_in all y) || false) (or_left (is_in all x && is_in all y) false (and_from (is_in all x) (is_in all y) h k)))
 
 unshared : (gs : List Joint) (a b x : ℕ) → AreApart gs → is_in (members gs a ++ members gs b) x ≡ false → (shared gs a x ≡ false) × (shared gs b x ≡ false)
@@ -194,7 +195,7 @@ unshared gs a b x apart h = (at a (shared gs a x) refl (λ s. has_merged gs a b 
 pub merged_from : (v : Grouped) (a b x y : ℕ) → IsGrouped v → AreJoined (merged v a b) x y → Joins (λ p q. AreJoined v.groups p q) a b x y
 merged_from v a b x y ok (inl e) = inl (inl e)
 merged_from v a b x y ok (inr s) =
-    elim (or_cases (shared (kept a b v.groups) x y) ((is_in all x && is_in all y) || false) (sym (list_any-append (λ g. is_in g.loaders x && is_in g.loaders y) (kept a b v.groups) (record { home = or_else (class_in v a) (class_in v b); loaders = all } ∷ [])) ∙ s)) as (λ _. Joins (λ p q. AreJoined v.groups p q) a b x y) [
+    elim (or_cases (shared (kept a b v.groups) x y) ((is_in all x && is_in all y) || false) (sym (list_any-append (λ g. is_in g.loaders x && is_in g.loaders y) (kept a b v.groups) (record { home = option_or (class_in v a) (class_in v b); loaders = all } ∷ [])) ∙ s)) as (λ _. Joins (λ p q. AreJoined v.groups p q) a b x y) [
       | inl k ↦ inl (inr (any_kept (λ g. is_in g.loaders x && is_in g.loaders y) a b v.groups k))
       | inr k ↦ elim (or_cases (is_in all x && is_in all y) false k) as (λ _. Joins (λ p q. AreJoined v.groups p q) a b x y) [
         | inl q ↦ both (merged_has v.groups a b x ok.apart (and_parts (is_in all x) (is_in all y) q).0) (merged_has v.groups a b y ok.apart (and_parts (is_in all x) (is_in all y) q).1)
@@ -231,7 +232,7 @@ merged_to v a b x y ok (inl (inr s)) = at (is_in all x) refl
     at true e = shared_merged v a b x y e (has_merged v.groups a b y ok.apart (along (merged_has v.groups a b x ok.apart e)))
     at false e =
         let none = unshared v.groups a b x ok.apart e in
-        inr (list_any-append (λ g. is_in g.loaders x && is_in g.loaders y) (kept a b v.groups) (record { home = or_else (class_in v a) (class_in v b); loaders = all } ∷ [])
+        inr (list_any-append (λ g. is_in g.loaders x && is_in g.loaders y) (kept a b v.groups) (record { home = option_or (class_in v a) (class_in v b); loaders = all } ∷ [])
         ∙ or_left (shared (kept a b v.groups) x y) ((is_in all x && is_in all y) || false) (kept_shared a b x y v.groups s none.0 none.1))
 
 pub merged_joined : (v : Grouped) (a b x y : ℕ) → IsGrouped v → AreJoined (merged v a b) x y ↔ Joins (λ p q. AreJoined v.groups p q) a b x y
@@ -249,7 +250,7 @@ homes_push rs [] n old new = (new, tt)
 homes_push rs (g ∷ gs) n old new = (old.0, homes_push rs gs n old.1 new)
 
 -- the home of the new group
-merged_home : (v : Grouped) (a b : ℕ) (p q : Option ℕ) → IsGrouped v → IsClassOf v a p → IsClassOf v b q → (Divides (λ x. home_in v.records x) (λ x y. AreJoined v.groups x y) a b → ⊥) → HasItsHome v.records (record { home = or_else p q; loaders = members v.groups a ++ members v.groups b })
+merged_home : (v : Grouped) (a b : ℕ) (p q : Option ℕ) → IsGrouped v → IsClassOf v a p → IsClassOf v b q → (Divides (λ x. home_in v.records x) (λ x y. AreJoined v.groups x y) a b → ⊥) → HasItsHome v.records (record { home = option_or p q; loaders = members v.groups a ++ members v.groups b })
 merged_home v a b p q ok ca cb fits =
     record {
       every = λ x place i e. every p q ca cb x place (merged_has v.groups a b x ok.apart i) e;
@@ -263,22 +264,22 @@ merged_home v a b p q ok ca cb fits =
         at true k = eqb-true m n k
         at false k = absurd (fits (divides_by v a b m n cm cn (λ s. (let t : (m == n) ≡ true = eq-eqb m n s in let z : false ≡ true = sym k ∙ t in absurd cc))))
 
-    every : (p q : Option ℕ) → IsClassOf v a p → IsClassOf v b q → (x place : ℕ) → AreJoined v.groups a x ⊎ AreJoined v.groups b x → home_in v.records x ≡ Some place → or_else p q ≡ Some place
+    every : (p q : Option ℕ) → IsClassOf v a p → IsClassOf v b q → (x place : ℕ) → AreJoined v.groups a x ⊎ AreJoined v.groups b x → home_in v.records x ≡ Some place → option_or p q ≡ Some place
     every None q cp cq x place (inl j) e = let z : None ≡ Some place = cp.every x place j e in absurd cc
     every None q cp cq x place (inr j) e = cq.every x place j e
     every (Some m) q cp cq x place (inl j) e = cp.every x place j e
     every (Some m) None cp cq x place (inr j) e = let z : None ≡ Some place = cq.every x place j e in absurd cc
     every (Some m) (Some n) cp cq x place (inr j) e = ap (λ (z : ℕ). Some z) (same m n cp cq) ∙ cq.every x place j e
 
-    some : (p q : Option ℕ) → IsClassOf v a p → IsClassOf v b q → (place : ℕ) → or_else p q ≡ Some place → (l : ℕ) × (is_in (members v.groups a ++ members v.groups b) l ≡ true) × (home_in v.records l ≡ Some place)
+    some : (p q : Option ℕ) → IsClassOf v a p → IsClassOf v b q → (place : ℕ) → option_or p q ≡ Some place → (l : ℕ) × (is_in (members v.groups a ++ members v.groups b) l ≡ true) × (home_in v.records l ≡ Some place)
     some None q cp cq place e = let f = cq.some place e in (f.0, has_merged v.groups a b f.0 ok.apart (inr f.1), f.2)
     some (Some m) q cp cq place e = let f = cp.some place e in (f.0, has_merged v.groups a b f.0 ok.apart (inl f.1), f.2)
 
 pub merged_grouped : (v : Grouped) (a b : ℕ) → IsGrouped v → (Divides (λ x. home_in v.records x) (λ x y. AreJoined v.groups x y) a b → ⊥) → IsGrouped (record { records = v.records; groups = merged v a b })
 merged_grouped v a b ok fits =
     record {
-      apart = apart_push (kept a b v.groups) (record { home = or_else (class_in v a) (class_in v b); loaders = all }) (kept_apart a b v.groups ok.apart) outside;
-      homes = homes_push v.records (kept a b v.groups) (record { home = or_else (class_in v a) (class_in v b); loaders = all }) (kept_homes v.records a b v.groups ok.homes) (merged_home v a b (class_in v a) (class_in v b) ok (class_shared v a (class_in v a) ok refl) (class_shared v b (class_in v b) ok refl) fits);
+      apart = apart_push (kept a b v.groups) (record { home = option_or (class_in v a) (class_in v b); loaders = all }) (kept_apart a b v.groups ok.apart) outside;
+      homes = homes_push v.records (kept a b v.groups) (record { home = option_or (class_in v a) (class_in v b); loaders = all }) (kept_homes v.records a b v.groups ok.homes) (merged_home v a b (class_in v a) (class_in v b) ok (class_shared v a (class_in v a) ok refl) (class_shared v b (class_in v b) ok refl) fits);
     }
   where
     all : List ℕ

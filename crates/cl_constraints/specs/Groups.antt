@@ -2,6 +2,7 @@
 -- 5.3.4.
 use Rattle.std.specs.Prelude.{◌≡◌, ◌⊎◌, ℕ, Bool, true, false, ◌&&◌, not, List, [], ◌∷◌, ◌++◌, Option, Some, None, find, filter, if◌then◌else◌}
 use Rattle.std.specs.List.{AllByRecursion, list_any}
+use Rattle.std.specs.Option.{option_or}
 use Rattle.cl_model.specs.Probes.{is_in}
 use Rattle.cl_constraints.specs.declared.record.Entered.{Entered}
 use Rattle.cl_constraints.specs.Records.{home_in}
@@ -82,11 +83,6 @@ members groups loader = loaders_or loader (group_of groups loader)
 abbrev pub with_home : ℕ → ℕ → Joint → Joint
 with_home loader place g = if is_in g.loaders loader then record g { home = Some place } else g
 
--- the first home that there is
-abbrev pub or_else : Option ℕ → Option ℕ → Option ℕ
-or_else None other = other
-or_else (Some place) other = Some place
-
 -- the groups that neither of two loaders is in
 abbrev pub without : ℕ → ℕ → List Joint → List Joint
 without a b gs = filter (λ g. not (is_in g.loaders a) && not (is_in g.loaders b)) gs
@@ -95,7 +91,7 @@ without a b gs = filter (λ g. not (is_in g.loaders a) && not (is_in g.loaders b
 abbrev pub joint_of : Grouped → ℕ → ℕ → Joint
 joint_of v a b =
     record {
-      home = or_else (class_in v a) (class_in v b);
+      home = option_or (class_in v a) (class_in v b);
       loaders = members v.groups a ++ members v.groups b;
     }
 

@@ -1,17 +1,18 @@
 -- No search asks a loader twice.
-use Rattle.std.proofs.Common.{◌≡◌, ◌≢◌, ℕ, zero, suc, ◌<◌, ◌≤◌, nat_eq, nat_lt, Bool, true, false, List, [], ◌∷◌, ◌++◌, length, Option, Some, None, refl, sym, subst, arith}
+use Rattle.std.proofs.Common.{◌≡◌, ℕ, zero, suc, ◌<◌, ◌≤◌, nat_eq, nat_lt, Bool, true, false, List, [], ◌∷◌, ◌++◌, length, Option, Some, None, refl, sym, subst, arith}
 use Rattle.std.specs.Prelude.{find, slice_get, IfSome, if◌then◌else◌}
 use Rattle.std.specs.List.{AllByRecursion, starts_with}
+use Rattle.std.proofs.lemmas.Bool.{ne_eqb, or_from, or_parts}
 use Rattle.cl_classfile.specs.Files.{Name}
 use Rattle.cl_model.specs.Homes.{is_java}
-use Rattle.cl_model.specs.Probes.{route, route_from}
+use Rattle.cl_model.specs.Probes.{EachOnce, is_in, route, route_from}
 use Rattle.cl_config.specs.declared.order.Order.{Order}
 use Rattle.cl_config.specs.declared.order.Order.TheVariants.{ParentFirst, ChildFirst}
 use Rattle.cl_config.specs.Views.{Configured, Loader, Import}
 use Rattle.cl_config.specs.Configs.{IsConfig, LeadsBelow}
 use Rattle.cl_config.specs.Loaders.{loaders_of}
 use Rattle.cl_config.proofs.Below.{below_at}
-use Rattle.cl_delegation.specs.Routes.{NoneTwice, AsksOnce}
+use Rattle.cl_delegation.specs.Routes.{AsksOnce}
 use Rattle.cl_delegation.proofs.Ways.{by_import, alone, parent_first, child_first, target_below}
 
 Below : ℕ → List ℕ → Type 0
@@ -27,24 +28,24 @@ unfolding Below
 snoc_below n x [] lt t = (lt, tt)
 snoc_below n x (m ∷ ms) lt t = (t.0, snoc_below n x ms lt t.1)
 
-others : (n : ℕ) (ms : List ℕ) → Below n ms → AllByRecursion (λ m. n ≢ m) ms
+others : (n : ℕ) (ms : List ℕ) → Below n ms → is_in ms n ≡ false
 unfolding Below
-others n [] t = tt
-others n (m ∷ ms) t = (λ e. absurd (omega (arith, e, t.0)), others n ms t.1)
+others n [] t = refl
+others n (m ∷ ms) t = or_from _ _ (ne_eqb m n (λ e. absurd (omega (arith, e, t.0)))) (others n ms t.1)
 
-snoc_other : (x n : ℕ) (ms : List ℕ) → x < n → AllByRecursion (λ m. x ≢ m) ms → AllByRecursion (λ m. x ≢ m) (ms ++ n ∷ [])
-snoc_other x n [] lt t = (λ e. absurd (omega (arith, e)), tt)
-snoc_other x n (m ∷ ms) lt t = (t.0, snoc_other x n ms lt t.1)
+snoc_other : (x n : ℕ) (ms : List ℕ) → x < n → is_in ms x ≡ false → is_in (ms ++ n ∷ []) x ≡ false
+snoc_other x n [] lt none = or_from _ _ (ne_eqb n x (λ e. absurd (omega (arith, e, lt)))) refl
+snoc_other x n (m ∷ ms) lt none = let both = or_parts _ _ none in or_from _ _ both.0 (snoc_other x n ms lt both.1)
 
-snoc_once : (n : ℕ) (ms : List ℕ) → Below n ms → NoneTwice ms → NoneTwice (ms ++ n ∷ [])
+snoc_once : (n : ℕ) (ms : List ℕ) → Below n ms → EachOnce ms → EachOnce (ms ++ n ∷ [])
 unfolding Below
-snoc_once n [] t once = (tt, tt)
+snoc_once n [] t once = (refl, tt)
 snoc_once n (m ∷ ms) t once = (snoc_other m n ms t.0 once.0, snoc_once n ms t.1 once.1)
 
 -- a route goes through this loader and earlier ones, each once
 record IsOnce (loader : ℕ) (way : List ℕ) : Type 0 where
   below : Below (suc loader) way
-  once : NoneTwice way
+  once : EachOnce way
 
 -- what is known of the loaders below one
 Earlier : Configured → Name → ℕ → Type 0
@@ -56,7 +57,7 @@ narrow p n way lt t = record { below = weaker (suc p) (suc n) way (omega arith) 
 by_turn : (c : Configured) (name : Name) (n : ℕ) (l : Loader) (parent : Option ℕ) (order : Order) → slice_get c.loaders n ≡ Some l → find (λ m. starts_with nat_eq name m.prefix) l.imports ≡ None → l.parent ≡ parent → l.order ≡ order
     → IfSome parent (λ p. p < n) → Earlier c name n → IsOnce n (route_from (loaders_of c) name n)
 unfolding Below Earlier
-by_turn c name n l None order is none e f lt earlier = subst (λ (way : List ℕ). IsOnce n way) (sym (alone c name n l is none e)) (record { below = (omega arith, tt); once = (tt, tt) })
+by_turn c name n l None order is none e f lt earlier = subst (λ (way : List ℕ). IsOnce n way) (sym (alone c name n l is none e)) (record { below = (omega arith, tt); once = (refl, tt) })
 by_turn c name n l (Some p) ParentFirst is none e f lt earlier =
     let above = earlier p lt in
     let under : Below n (route_from (loaders_of c) name p) = weaker (suc p) n _ (omega arith) above.below in
@@ -95,8 +96,8 @@ pub asks_once : AsksOnce
 unfolding Earlier
 asks_once c loader name kept lt = choose (is_java name) (nat_lt loader (length (loaders_of c)))
   where
-    choose : (java known : Bool) → NoneTwice (elim java [ true ↦ if known then 0 ∷ [] else [] | false ↦ route_from (loaders_of c) name loader ])
-    choose true true = (tt, tt)
+    choose : (java known : Bool) → EachOnce (elim java [ true ↦ if known then 0 ∷ [] else [] | false ↦ route_from (loaders_of c) name loader ])
+    choose true true = (refl, tt)
     choose true false = tt
     choose false known = (all_earlier c kept name (suc loader) (omega arith) loader (omega arith)).once
 

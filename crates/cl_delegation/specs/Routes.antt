@@ -1,19 +1,13 @@
 -- A route asks no loader twice (JVMS SE 8, 5.3.2).
-use Rattle.std.specs.List.{AllByRecursion}
 use Rattle.cl_config.specs.Views.{Configured}
 use Rattle.cl_config.specs.Configs.{IsConfig}
 use Rattle.cl_config.specs.Loaders.{loaders_of}
-use Rattle.std.specs.Prelude.{◌≢◌, ◌<◌, ℕ, List, [], ◌∷◌, length}
+use Rattle.std.specs.Prelude.{◌<◌, ℕ, length}
 use Rattle.cl_classfile.specs.Files.{Name}
-use Rattle.cl_model.specs.Probes.{route}
-
--- no loader stands twice
-abbrev pub NoneTwice : List ℕ → Type 0
-NoneTwice [] = Unit {0}
-NoneTwice (l ∷ ls) = AllByRecursion (λ m. l ≢ m) ls × NoneTwice ls
+use Rattle.cl_model.specs.Probes.{EachOnce, route}
 
 -- a search through the loaders of a configuration asks none twice
 abbrev pub AsksOnce : Type 0
 AsksOnce =
     (c : Configured) (loader : ℕ) (name : Name) → IsConfig c → loader < length c.loaders
-    → NoneTwice (route (loaders_of c) loader name)
+    → EachOnce (route (loaders_of c) loader name)

@@ -9,6 +9,7 @@ use Rattle.cl_model.proofs.Complete.{is_class}
 use Rattle.cl_hierarchy.specs.Rows.{Rowed}
 use Rattle.cl_hierarchy.specs.Trees.{AllKnown, SupersBefore, forest, in_front, interfaces_in, kin_named, kin_under, kins_after, superclass_in}
 use Rattle.cl_hierarchy.specs.Lineages.{row_of}
+use Rattle.std.proofs.lemmas.Option.{same_Some}
 
 pub kins_push : (known : List Kin) (rows : List Rowed) (r : Rowed) → kins_after known (rows ++ r ∷ []) ≡ kin_under (kins_after known rows) r ∷ kins_after known rows
 kins_push known [] r = refl
@@ -79,9 +80,6 @@ pub record IsRowKin (known : List Kin) (c : Class) (row : Rowed) : Type 0 where
   pub superclass : AllKnown known (superclass_in row)
   pub interfaces : AllKnown known (interfaces_in row)
 
-some_row : (x y : Rowed) → (let o : Option Rowed = Some x in o) ≡ Some y → x ≡ y
-some_row x y e = cc
-
 pub row_kin : (known : List Kin) (rs : List Rowed) (c : Class) (row : Rowed) → SupersBefore known rs → row_of rs c ≡ Some row → IsRowKin (kins_after known rs) c row
 row_kin known [] c row h e = absurd cc
 row_kin known (r ∷ rs) c row h e = at (λ f. row_kin (kin_under known r ∷ known) rs c row h.1 f) (same_class r.class c) refl e
@@ -91,7 +89,7 @@ row_kin known (r ∷ rs) c row h e = at (λ f. row_kin (kin_under known r ∷ kn
 
     at : (row_of rs c ≡ Some row → IsRowKin final c row) → (b : Bool) → same_class r.class c ≡ b → (if b then Some r else row_of rs c) ≡ Some row → IsRowKin final c row
     at further true s f =
-        subst (λ (x : Rowed). IsRowKin final c x) (some_row r row f) (
+        subst (λ (x : Rowed). IsRowKin final c x) (same_Some r row f) (
         record {
           same = is_class r.class c s;
           kin =

@@ -13,6 +13,7 @@ use Rattle.cl_hierarchy.specs.Rows.{Rowed}
 use Rattle.cl_hierarchy.specs.Trees.{SupersBefore, forest, kin_named, kin_under, kins, kins_after, superclass_in}
 use Rattle.cl_hierarchy.proofs.Ancestry.{kin_stays, row_kin}
 use Rattle.cl_hierarchy.proofs.Ends.{all_push}
+use Rattle.std.proofs.lemmas.Option.{same_Some}
 
 -- ---- parts of rows in order
 
@@ -89,13 +90,10 @@ own_row l inside same h = ap (λ (x : Lined). row_of (rows_in x) inside.own.clas
 
 -- ---- climbs
 
-some_kin : (a b : Kin) → (let o : Option Kin = Some a in o) ≡ Some b → a ≡ b
-some_kin a b e = cc
-
 -- the first above, and what stands above that
 pub upward_first : (f : Forest) (k : Kin) → Some k ≡ first (upward f) → upward f ≡ k ∷ upward k.superclass
 upward_first Bare k e = absurd cc
-upward_first (Tree c f sup ints others) k e = ap (λ (x : Kin). x ∷ upward x.superclass) (some_kin (record { class = c; file = f; superclass = sup; interfaces = ints }) k (sym e))
+upward_first (Tree c f sup ints others) k e = ap (λ (x : Kin). x ∷ upward x.superclass) (same_Some (record { class = c; file = f; superclass = sup; interfaces = ints }) k (sym e))
 
 pub upward_none : (f : Forest) → None ≡ first (upward f) → upward f ≡ []
 upward_none Bare e = refl

@@ -1,16 +1,15 @@
 -- The rows up to a class's superclass, wherever it stands, are the superclass's lineage, and those up to its first superinterface are that one's.
-use Rattle.std.proofs.Common.{◌≡◌, ◌∙◌, inl, inr, Bool, true, false, if◌then◌else◌, List, [], ◌∷◌, ◌++◌, Option, Some, None, append_assoc, reverse, refl, sym, ap, subst}
+use Rattle.std.proofs.Common.{◌≡◌, ◌∙◌, Bool, true, false, if◌then◌else◌, List, [], ◌∷◌, ◌++◌, Option, Some, None, append_assoc, reverse, refl, sym, ap, subst}
 use Rattle.std.specs.List.{AllByRecursion}
 use Rattle.std.proofs.lemmas.List.{reverse-append}
 use Rattle.cl_model.specs.declared.class.Class.{Class}
 use Rattle.cl_model.specs.Ancestors.{EachClassOnce}
 use Rattle.cl_model.specs.Content.{Content}
 use Rattle.cl_model.specs.Homes.{World}
-use Rattle.cl_model.specs.Classes.{Above, is_among, same_class, superclass_of, superinterfaces_of}
+use Rattle.cl_model.specs.Classes.{Above, is_among, superclass_of, superinterfaces_of}
 use Rattle.cl_model.specs.Lineages.{Forest, Bare, Tree, IsLineage, Kin, StandsFor, alone, classes, lineage, once, once_after, postorder, superclasses, upward}
 use Rattle.cl_model.proofs.Ancestors.{Within, among_first, lineage_once, within_more}
 use Rattle.cl_model.proofs.Closed.{all_left}
-use Rattle.cl_model.proofs.Complete.{is_class, or_true}
 use Rattle.cl_config.specs.Views.{Configured}
 use Rattle.cl_delegation.specs.Worlds.{world_of}
 use Rattle.cl_hierarchy.specs.Lineages.{IsInOrder, IsLined, IsLineageOf, IsWithin, Lined, kin_of}
@@ -21,7 +20,7 @@ use Rattle.cl_hierarchy.proofs.Ancestry.{row_kin}
 use Rattle.cl_hierarchy.proofs.Climbs.{before_split, kins_both, placed_kin, placed_row}
 use Rattle.cl_hierarchy.proofs.Ends.{all_pop}
 use Rattle.cl_hierarchy.proofs.RowTables.{before_push}
-use Rattle.cl_hierarchy.proofs.Told.{lineage_ends}
+use Rattle.cl_hierarchy.proofs.Told.{lineage_ends, within_cons}
 use Rattle.cl_hierarchy.proofs.Tours.{classes_both, once_skips, within_right}
 
 -- ---- each class once
@@ -39,12 +38,6 @@ once_both seen (x ∷ xs) ys = at (once_both seen xs ys) (once_both (x.class ∷
         → (b : Bool) → Begins (if b then once_after seen xs else x ∷ once_after (x.class ∷ seen) xs) (if b then once_after seen (xs ++ ys) else x ∷ once_after (x.class ∷ seen) (xs ++ ys))
     at same more true = same
     at same more false = record { rest = more.rest; split = ap (λ (zs : List Kin). x ∷ zs) more.split }
-
-within_cons : (c : Class) (cs zs : List Class) → is_among zs c ≡ true → Within cs zs → Within (c ∷ cs) zs
-within_cons c cs zs h f = λ x e. elim (or_true (same_class x c) (is_among cs x) e) [
-  | inl s ↦ subst (λ (y : Class). is_among zs y ≡ true) (sym (is_class x c s)) h
-  | inr i ↦ f x i
-]
 
 -- of what stands behind these only what is left after them counts
 once_behind : (seen : List Class) (xs ys zs : List Kin) → ((more : List Class) → Within seen more → Within (classes xs) more → once_after more ys ≡ once_after more zs) → once_after seen (xs ++ ys) ≡ once_after seen (xs ++ zs)
@@ -70,10 +63,10 @@ among_these xs ys s =
 both : (b : Bool) → b ≡ true → b ≡ false → ⊥
 both b e f = absurd cc
 
-first_same : (x y : Kin) (xs ys : List Kin) → x ∷ xs ≡ y ∷ ys → x ≡ y
+pub first_same : (x y : Kin) (xs ys : List Kin) → x ∷ xs ≡ y ∷ ys → x ≡ y
 first_same x y xs ys e = cc
 
-rest_same : (x y : Kin) (xs ys : List Kin) → x ∷ xs ≡ y ∷ ys → xs ≡ ys
+pub rest_same : (x y : Kin) (xs ys : List Kin) → x ∷ xs ≡ y ∷ ys → xs ≡ ys
 rest_same x y xs ys e = cc
 
 -- where each class stands once, it stands at one place

@@ -36,11 +36,11 @@ all_among P all (n ∷ ns) among h =
     (of_contained P all n h (among n (in_front n ns)), all_among P all ns (among_behind all ns n among) h)
 
 -- where all are met, so are some of them
-met_each : (s : State) (ns : List Need) → AllMet s ns → AllByRecursion (Met s) ns
+pub met_each : (s : State) (ns : List Need) → AllMet s ns → AllByRecursion (Met s) ns
 met_each s [] h = tt
 met_each s (n ∷ ns) h = (h.0, met_each s ns h.1)
 
-each_met : (s : State) (ns : List Need) → AllByRecursion (Met s) ns → AllMet s ns
+pub each_met : (s : State) (ns : List Need) → AllByRecursion (Met s) ns → AllMet s ns
 each_met s [] h = tt
 each_met s (n ∷ ns) h = (h.0, each_met s ns h.1)
 

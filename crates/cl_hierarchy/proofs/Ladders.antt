@@ -4,7 +4,7 @@ use Rattle.std.specs.Prelude.{IfSome, OnOk, slice_get}
 use Rattle.std.specs.List.{AllByRecursion}
 use Rattle.std.proofs.lemmas.Bool.{eqb-true}
 use Rattle.std.proofs.lemmas.List.{length-map, map_push}
-use Rattle.std.proofs.lemmas.Option.{slice_get_within}
+use Rattle.std.proofs.lemmas.Option.{slice_get_within, same_Some}
 use Rattle.std.proofs.lemmas.Cmp.{nat_eq_equiv}
 use Rattle.cl_model.specs.Content.{Content}
 use Rattle.cl_model.specs.Lineages.{Kin}
@@ -21,7 +21,7 @@ use Rattle.cl_hierarchy.specs.declared.rung.Way.{Way}
 use Rattle.cl_hierarchy.proofs.Ends.{all_push}
 use Rattle.cl_hierarchy.proofs.Namings.{overs_push}
 use Rattle.cl_hierarchy.proofs.RowTables.{before_push}
-use Rattle.cl_hierarchy.proofs.Ways.{at_length, begins_push, lead_pop, some_is}
+use Rattle.cl_hierarchy.proofs.Ways.{at_length, begins_push, lead_pop}
 
 -- ---- marks more
 
@@ -78,7 +78,7 @@ module _ (told : Option Content) (x : Laddered) (h : IsLadder told x) where
       let u : IsUp x.rows ks (Some place) = subst (λ (o : Option ℕ). IsUp x.rows ks o) here isup in
       let k : HasRung x.marks bound (Some place) = subst (λ (o : Option ℕ). HasRung x.marks bound o) here has in
       let fact = rung_fact told x place row g h at is in
-      let same : u.0 ≡ row = some_is u.0 row (sym u.1 ∙ at) in
+      let same : u.0 ≡ row = same_Some u.0 row (sym u.1 ∙ at) in
       let over : ks ≡ kin_under (kins x.rows) row ∷ above_in x.rows row = u.2 ∙ ap (λ (r : Rowed). kin_under (kins x.rows) r ∷ above_in x.rows r) same in (
         far_same x.rows (Some own) ks (above_in x.rows row) g.far
             (ap (λ (ls : List Kin). others_of (Some own) ls) over ∙ pass_own own (kin_under (kins x.rows) row) (above_in x.rows row) mine)
@@ -109,7 +109,7 @@ rung_more told config rows marks more place r g h = record {
 
 -- what stands at a place of these with one more
 at_push : {A : Type 0} (xs : List A) (x y : A) (i : ℕ) → slice_get (xs ++ x ∷ []) i ≡ Some y → ((i < length xs) × (slice_get xs i ≡ Some y)) ⊎ ((i ≡ length xs) × (y ≡ x))
-at_push [] x y zero e = inr (refl, sym (some_is x y e))
+at_push [] x y zero e = inr (refl, sym (same_Some x y e))
 at_push [] x y (suc i) e = absurd cc
 at_push (z ∷ xs) x y zero e = inl (omega arith, e)
 at_push (z ∷ xs) x y (suc i) e = elim (at_push xs x y i e) [
@@ -147,7 +147,7 @@ module _ (told : Option Content) (config : Configured) (rows : List Rowed) (mark
 
 if_rung : (P : Rung → Type 0) (o : Option Rung) (g : Rung) → IfSome o P → o ≡ Some g → P g
 if_rung P None g h e = absurd cc
-if_rung P (Some f) g h e = subst P (some_is f g e) h
+if_rung P (Some f) g h e = subst P (same_Some f g e) h
 
 pub pushed : (told : Option Content) (x self : Laddered) (mark : Mark) (new : List Mark) → x ≡ self → IsLadder told x → length self.marks < length self.rows
     → ((r : Rowed) → slice_get self.rows (length self.marks) ≡ Some r → IfSome mark.rung (IsRung told self (length self.marks) r)) → AreOvers mark.overs (take (length self.marks) self.rows)
@@ -162,7 +162,7 @@ pushed told x self mark new same h room rung overs is =
 
 take_next : {A : Type 0} (xs : List A) (n : ℕ) (x : A) → slice_get xs n ≡ Some x → take (suc n) xs ≡ take n xs ++ x ∷ []
 take_next [] n x e = absurd cc
-take_next (y ∷ xs) zero x e = ap (λ z. z ∷ take 0 xs) (some_is y x e) ∙ ap (λ zs. x ∷ zs) (none xs)
+take_next (y ∷ xs) zero x e = ap (λ z. z ∷ take 0 xs) (same_Some y x e) ∙ ap (λ zs. x ∷ zs) (none xs)
   where
     none : {A : Type 0} (zs : List A) → take 0 zs ≡ []
     none [] = refl
@@ -230,7 +230,7 @@ place_within v told x rows far place bound h same is has =
     let m = ap (λ (rs : List Rowed). length rs) same in
     omega (arith, within, few, n, m)
 
-row_there : (rows : List Rowed) (place : ℕ) → place < length rows → (r : Rowed) × (slice_get rows place ≡ Some r)
+pub row_there : (rows : List Rowed) (place : ℕ) → place < length rows → (r : Rowed) × (slice_get rows place ≡ Some r)
 row_there [] place h = absurd (omega (arith, h))
 row_there (r ∷ rows) zero h = (r, refl)
 row_there (r ∷ rows) (suc place) h = row_there rows place (let k : place < length rows = omega (arith, h) in k)
@@ -279,7 +279,7 @@ module _ {A B : Type 0} (w : B → Rowed) (v : A → Rowed) (x : Laddered) (plac
     others = λ s below.
         let so = h.others s below in
         let now : IsFar x.rows own so.0 (Some at) = subst (λ (o : Option ℕ). IsFar x.rows own so.0 o) is so.1 in
-        let is_row : now.0 ≡ v row = some_is now.0 (v row) (sym now.1 ∙ there) in (
+        let is_row : now.0 ≡ v row = same_Some now.0 (v row) (sym now.1 ∙ there) in (
           above_in x.rows (v row),
           on.0,
           ap (λ (ks : List Kin). ks ++ others_of own (above_in x.rows (v row))) (map_push (kin_under (kins x.rows)) (map w found) (v row))
@@ -313,7 +313,7 @@ pass_rung told x w next own g many h has told_of mine r at =
     there = ap (λ (n : ℕ). slice_get x.rows n) (sym many) ∙ at
 
     same : h.row ≡ r
-    same = some_is h.row r (sym h.here.at ∙ there)
+    same = same_Some h.row r (sym h.here.at ∙ there)
 
     rung : IsRungOf x own (above_in x.rows r) w.place g
     rung = told_of (above_in x.rows r) w.place (subst (λ (y : Rowed). IsNextUp x.rows w.is_over (above_in x.rows y) next) same h.up) has
@@ -415,4 +415,4 @@ read_is v xs rows place x r same read at =
     let within = slice_get_within rows place r at in
     let n = length-map xs v in
     let m = ap (λ (rs : List Rowed). length rs) same in
-    some_is (v x) r (sym (read_at v xs rows place x same (omega (arith, within, n, m)) read) ∙ at)
+    same_Some (v x) r (sym (read_at v xs rows place x same (omega (arith, within, n, m)) read) ∙ at)

@@ -32,6 +32,7 @@ use Rattle.cl_hierarchy.proofs.PlaceTours.{row_in}
 use Rattle.cl_hierarchy.proofs.RowTables.{lineage_found}
 use Rattle.cl_hierarchy.proofs.Told.{AreTold, nothing_told, told_order}
 use Rattle.cl_hierarchy.proofs.Ways.{at_length}
+use Rattle.std.proofs.lemmas.Option.{same_Some}
 
 -- ---- each class of a lineage has its lineage
 
@@ -60,11 +61,8 @@ pub found_in : (P : Rowed → Type 0) (rows : List Rowed) (c : Class) (r : Rowed
 found_in P [] c r all e = absurd cc
 found_in P (x ∷ rows) c r all e = at (λ f. found_in P rows c r all.1 f) (same_class x.class c) e
   where
-    some_row : (y z : Rowed) → (let o : Option Rowed = Some y in o) ≡ Some z → y ≡ z
-    some_row y z f = cc
-
     at : (row_of rows c ≡ Some r → P r) → (b : Bool) → (if b then Some x else row_of rows c) ≡ Some r → P r
-    at further true f = subst (λ (y : Rowed). P y) (some_row x r f) all.0
+    at further true f = subst (λ (y : Rowed). P y) (same_Some x r f) all.0
     at further false f = further f
 
 pub all_found : (P : Rowed → Type 0) (rows xs : List Rowed) → AllByRecursion P rows → AllByRecursion (IsRowIn rows) xs → AllByRecursion P xs
@@ -102,11 +100,7 @@ part_own l start above own h i t =
     let is = told_order l.config rows start.class start above own (whole l h) i t in
     let same : own.class ≡ start.class = ap (λ (k : Kin). k.class) is.own_kin in
     let last : IsRowIn rows own = (all_pop (IsRowIn rows) above own t.all).1 in
-    some_row own start (sym last ∙ ap (λ (c : Class). row_of rows c) same ∙ i)
-  where
-    some_row : (y z : Rowed) → (let o : Option Rowed = Some y in o) ≡ Some z → y ≡ z
-    some_row y z f = cc
-
+    same_Some own start (sym last ∙ ap (λ (c : Class). row_of rows c) same ∙ i)
 -- ---- what was told by places
 
 rows_in_all : (rows : List Rowed) (ps : List ℕ) → SupersBefore [] rows → AllByRecursion (HasRow rows) ps → AllByRecursion (IsRowIn rows) (rows_at rows ps)
@@ -126,10 +120,7 @@ rows_many rows (p ∷ ps) h = ap (λ (o : Option Rowed). length (option_to_list 
 row_of_place : (rows : List Rowed) (ps : List ℕ) (i p : ℕ) → AllByRecursion (HasRow rows) ps → slice_get ps i ≡ Some p → slice_get (rows_at rows ps) i ≡ slice_get rows p
 row_of_place rows [] i p h e = absurd cc
 row_of_place rows (q ∷ ps) zero p h e =
-    ap (λ (o : Option Rowed). slice_get (option_to_list o ++ rows_at rows ps) 0) h.0.1 ∙ sym h.0.1 ∙ ap (λ (n : ℕ). slice_get rows n) (some_place q p e)
-  where
-    some_place : (x y : ℕ) → (let o : Option ℕ = Some x in o) ≡ Some y → x ≡ y
-    some_place x y f = cc
+    ap (λ (o : Option Rowed). slice_get (option_to_list o ++ rows_at rows ps) 0) h.0.1 ∙ sym h.0.1 ∙ ap (λ (n : ℕ). slice_get rows n) (same_Some q p e)
 row_of_place rows (q ∷ ps) (suc i) p h e = ap (λ (o : Option Rowed). slice_get (option_to_list o ++ rows_at rows ps) (suc i)) h.0.1 ∙ row_of_place rows ps i p h.1 e
 
 -- ---- the ladder of what was told

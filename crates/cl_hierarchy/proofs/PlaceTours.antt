@@ -3,7 +3,7 @@ use Rattle.std.proofs.Common.{◌≡◌, ◌∙◌, ◌<◌, ◌+◌, ◌⊎◌,
 use Rattle.std.specs.Prelude.{IfSome, OnOk, option_to_list, replicate, set, slice_get}
 use Rattle.std.specs.List.{AllByRecursion}
 use Rattle.std.proofs.lemmas.List.{map_push}
-use Rattle.std.proofs.lemmas.Option.{slice_get_within}
+use Rattle.std.proofs.lemmas.Option.{slice_get_within, same_Some}
 use Rattle.cl_model.specs.declared.class.Class.{Class}
 use Rattle.cl_model.specs.Classes.{is_among, same_class}
 use Rattle.cl_model.specs.Lineages.{Kin, alone, once}
@@ -27,7 +27,7 @@ use Rattle.cl_hierarchy.proofs.Rungs.{place_of, take_with}
 use Rattle.cl_hierarchy.proofs.Stages.{IsStage, ended_by, first_stage, preserved_by, smaller_by}
 use Rattle.cl_hierarchy.proofs.SuperTables.{supers_at}
 use Rattle.cl_hierarchy.proofs.Tours.{lineage_told}
-use Rattle.cl_hierarchy.proofs.Ways.{some_is}
+
 
 -- ---- rows at places
 
@@ -60,7 +60,7 @@ row_in rows p r ordered e = placed_row rows (take p rows) r ordered (place_of ro
 not_later : (known : List Kin) (rows : List Rowed) (q : ℕ) (s : Rowed) (k : Kin) → SupersBefore known rows → slice_get rows q ≡ Some s → kin_named known s.class ≡ Some k → ⊥
 not_later known [] q s k h e named = absurd cc
 not_later known (x ∷ rows) zero s k h e named =
-    let gone : kin_named known s.class ≡ None = subst (λ (y : Rowed). kin_named known y.class ≡ None) (some_is x s e) h.0.is_new in
+    let gone : kin_named known s.class ≡ None = subst (λ (y : Rowed). kin_named known y.class ≡ None) (same_Some x s e) h.0.is_new in
     absurd cc
 not_later known (x ∷ rows) (suc q) s k h e named = not_later (kin_under known x ∷ known) rows q s k h.1 e (keeps known x s.class k h.0.is_new named)
 
@@ -68,10 +68,10 @@ one_place : (known : List Kin) (rows : List Rowed) (p q : ℕ) (r s : Rowed) →
 one_place known [] p q r s h e f same = absurd cc
 one_place known (x ∷ rows) zero zero r s h e f same = refl
 one_place known (x ∷ rows) zero (suc q) r s h e f same =
-    let is : s.class ≡ x.class = same ∙ sym (ap (λ (y : Rowed). y.class) (some_is x r e)) in
+    let is : s.class ≡ x.class = same ∙ sym (ap (λ (y : Rowed). y.class) (same_Some x r e)) in
     absurd (not_later (kin_under known x ∷ known) rows q s (kin_under known x) h.1 f (named_first known x s.class (same_back x.class s.class (sym is))))
 one_place known (x ∷ rows) (suc p) zero r s h e f same =
-    let is : r.class ≡ x.class = sym same ∙ sym (ap (λ (y : Rowed). y.class) (some_is x s f)) in
+    let is : r.class ≡ x.class = sym same ∙ sym (ap (λ (y : Rowed). y.class) (same_Some x s f)) in
     absurd (not_later (kin_under known x ∷ known) rows p r (kin_under known x) h.1 e (named_first known x r.class (same_back x.class r.class (sym is))))
 one_place known (x ∷ rows) (suc p) (suc q) r s h e f same = ap suc (one_place (kin_under known x ∷ known) rows p q r s h.1 e f same)
 
@@ -122,7 +122,7 @@ or_false false b e = e
 marked_more : (rows : List Rowed) (cs : List Class) (told : List Bool) (p : ℕ) (r : Rowed) → SupersBefore [] rows → slice_get rows p ≡ Some r → AreMarked rows cs told → AreMarked rows (cs ++ r.class ∷ []) (set told p true)
 marked_more rows cs told p r ordered at h = λ q s e. elim (same_or p q) [
   | inl is ↦
-      let same : r ≡ s = some_is r s (sym at ∙ ap (λ (n : ℕ). slice_get rows n) is ∙ e) in
+      let same : r ≡ s = same_Some r s (sym at ∙ ap (λ (n : ℕ). slice_get rows n) is ∙ e) in
       subst (λ (n : ℕ). slice_get (set told p true) n ≡ Some (is_among (cs ++ r.class ∷ []) s.class)) is (
       set_same told p true (slice_get_within told p (is_among cs r.class) (h p r at))
       ∙ sym (ap (λ (b : Bool). Some b) (among_push cs r.class s.class ∙ or_true (is_among cs s.class) (same_class s.class r.class) (ap (λ (x : Rowed). same_class x.class r.class) (sym same) ∙ same_self r.class))))
@@ -170,12 +170,9 @@ toured_is rows old new ms told e =
 bit : (rows : List Rowed) (old : Placed) (r : Rowed) (p : ℕ) (b : Bool) → slice_get rows p ≡ Some r → IsPlaced rows old → IfSome (slice_get old.is_told p) (λ c. b ≡ c) → b ≡ is_among (classes_at rows old.told) r.class
 bit rows old r p b at placed h = has (slice_get old.is_told p) (placed.is_told_is p r at) h
   where
-    some_bool : (x y : Bool) → (let o : Option Bool = Some x in o) ≡ Some y → x ≡ y
-    some_bool x y e = cc
-
     has : (o : Option Bool) → o ≡ Some (is_among (classes_at rows old.told) r.class) → IfSome o (λ c. b ≡ c) → b ≡ is_among (classes_at rows old.told) r.class
     has None e f = absurd cc
-    has (Some c) e f = f ∙ some_bool c (is_among (classes_at rows old.told) r.class) e
+    has (Some c) e f = f ∙ same_Some c (is_among (classes_at rows old.told) r.class) e
 
 -- to come to a class that was told leads to nothing
 pub came_again : (table : List Supers) (old : Placed) (p : ℕ) (b wanted : Bool) → IfSome (slice_get old.is_told p) (λ c. b ≡ c) → b ≡ true → Steps table old p (tasks.Come wanted) old

@@ -13,6 +13,7 @@ use Rattle.cl_hierarchy.specs.Rows.{Rowed}
 use Rattle.cl_hierarchy.specs.Trees.{AllKnown, IsAfter, SupersBefore, forest, in_front, kin_named, kin_under, kins, kins_after}
 use Rattle.cl_hierarchy.specs.RowTables.{AreRows, AreRowsAfter, IsRowAfter, StandAbove, StandsAbove}
 use Rattle.cl_hierarchy.proofs.Ancestry.{kins_push, no_row, row_kin}
+use Rattle.std.proofs.lemmas.Option.{same_Some}
 
 -- ---- one row more
 
@@ -75,15 +76,12 @@ supers_before told config rows h = rows_before told config [] rows tt h
 abbrev AllLineages : Configured → Content → List Kin → Type 0
 AllLineages config content known = AllByRecursion (λ (k : Kin). IsLineage (world_of config content) k) known
 
-some_kin : (k l : Kin) → (let o : Option Kin = Some k in o) ≡ Some l → k ≡ l
-some_kin k l e = cc
-
 pub lineage_found : (config : Configured) (content : Content) (known : List Kin) (c : Class) (k : Kin) → kin_named known c ≡ Some k → AllLineages config content known → IsLineage (world_of config content) k
 lineage_found config content [] c k e all = absurd cc
 lineage_found config content (x ∷ known) c k e all = at (λ f. lineage_found config content known c k f all.1) (same_class c x.class) e
   where
     at : (kin_named known c ≡ Some k → IsLineage (world_of config content) k) → (b : Bool) → (if b then Some x else kin_named known c) ≡ Some k → IsLineage (world_of config content) k
-    at further true f = subst (λ (y : Kin). IsLineage (world_of config content) y) (some_kin x k f) all.0
+    at further true f = subst (λ (y : Kin). IsLineage (world_of config content) y) (same_Some x k f) all.0
     at further false f = further f
 
 module _ (config : Configured) (content : Content) (earlier : List Rowed) (ordered : SupersBefore [] earlier) (all : AllLineages config content (kins earlier)) (c : Class) where

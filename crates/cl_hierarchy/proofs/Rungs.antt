@@ -3,7 +3,7 @@ use Rattle.std.proofs.Common.{◌≡◌, ◌∙◌, ◌<◌, ◌≤◌, ◌+◌,
 use Rattle.std.specs.Prelude.{Contains, IfSome, is_some, slice_get}
 use Rattle.std.specs.List.{AllByRecursion}
 use Rattle.std.proofs.lemmas.List.Elements.{Contains-append_left}
-use Rattle.std.proofs.lemmas.Option.{slice_get_within}
+use Rattle.std.proofs.lemmas.Option.{slice_get_within, same_Some}
 use Rattle.cl_model.specs.Content.{Content}
 use Rattle.cl_model.specs.Lineages.{Kin, superclasses}
 use Rattle.cl_config.specs.Views.{Configured}
@@ -20,7 +20,7 @@ use Rattle.cl_hierarchy.specs.declared.rung.Rung.{Rung}
 use Rattle.cl_hierarchy.proofs.Climbs.{placed_kin, placed_row}
 use Rattle.cl_hierarchy.proofs.Inside.{kin_inside, whole}
 use Rattle.cl_hierarchy.proofs.Ladders.{has_wider, rung_fact}
-use Rattle.cl_hierarchy.proofs.Ways.{at_length, some_is, take_length, take_many}
+use Rattle.cl_hierarchy.proofs.Ways.{at_length, take_length, take_many}
 
 -- ---- rows up to a place
 
@@ -37,7 +37,7 @@ map_take f (x ∷ xs) (suc n) = ap (λ ys. f x ∷ ys) (map_take f xs n)
 -- these and the row at a place are those up to the next place
 pub take_with : {A : Type 0} (xs : List A) (n : ℕ) (x : A) → slice_get xs n ≡ Some x → take (suc n) xs ≡ take n xs ++ x ∷ []
 take_with [] n x e = absurd cc
-take_with (y ∷ xs) zero x e = ap (λ zs. y ∷ zs) (none_of xs) ∙ ap (λ z. z ∷ []) (some_is y x e)
+take_with (y ∷ xs) zero x e = ap (λ zs. y ∷ zs) (none_of xs) ∙ ap (λ z. z ∷ []) (same_Some y x e)
 take_with (y ∷ xs) (suc n) x e = ap (λ zs. y ∷ zs) (take_with xs n x e)
 
 pub fewer : {A : Type 0} (xs : List A) (m n : ℕ) → m ≤ n → take m (take n xs) ≡ take m xs
@@ -80,8 +80,8 @@ get_fewer (y ∷ xs) (suc n) (suc i) x e = get_fewer xs n i x e
 -- a row among those up to a place stands behind those before it
 pub place_in : (rows : List Rowed) (p n : ℕ) (r own : Rowed) → p ≤ n → slice_get rows p ≡ Some r → slice_get rows n ≡ Some own → IsPlace (take n rows ++ own ∷ []) (take p rows) r
 place_in [] p n r own h e f = absurd cc
-place_in (y ∷ rows) zero zero r own h e f = record { later = []; split = ap (λ (z : Rowed). z ∷ []) (sym (some_is y own f) ∙ some_is y r e) }
-place_in (y ∷ rows) zero (suc n) r own h e f = record { later = take n rows ++ own ∷ []; split = ap (λ (z : Rowed). z ∷ (take n rows ++ own ∷ [])) (some_is y r e) }
+place_in (y ∷ rows) zero zero r own h e f = record { later = []; split = ap (λ (z : Rowed). z ∷ []) (sym (same_Some y own f) ∙ same_Some y r e) }
+place_in (y ∷ rows) zero (suc n) r own h e f = record { later = take n rows ++ own ∷ []; split = ap (λ (z : Rowed). z ∷ (take n rows ++ own ∷ [])) (same_Some y r e) }
 place_in (y ∷ rows) (suc p) zero r own h e f = absurd (omega (arith, h))
 place_in (y ∷ rows) (suc p) (suc n) r own h e f =
     let more = place_in rows p n r own (let k : p ≤ n = omega (arith, h) in k) e f in
@@ -90,7 +90,7 @@ place_in (y ∷ rows) (suc p) (suc n) r own h e f =
 -- a row stands behind those before it
 pub place_of : (rows : List Rowed) (p : ℕ) (r : Rowed) → slice_get rows p ≡ Some r → IsPlace rows (take p rows) r
 place_of [] p r e = absurd cc
-place_of (y ∷ rows) zero r e = record { later = rows; split = ap (λ (z : Rowed). z ∷ rows) (some_is y r e) }
+place_of (y ∷ rows) zero r e = record { later = rows; split = ap (λ (z : Rowed). z ∷ rows) (same_Some y r e) }
 place_of (y ∷ rows) (suc p) r e = let more = place_of rows p r e in record { later = more.later; split = ap (λ (rs : List Rowed). y ∷ rs) more.split }
 
 -- ---- a lineage on its ladder
@@ -181,20 +181,16 @@ module _ (told : Option Content) (x : Laddered) (place : ℕ) (own : Rowed) (unm
   on_stem p on =
       subst (λ (n : ℕ). HasRung x.marks (place + 1) (Some n)) on.many (stem_rung on.earlier on.row on.stands.later on.stands.split on.climb)
 
-  pub front_on : (p : ℕ) (r : Rowed) (g : Rung) → slice_get x.rows p ≡ Some r → IsRungAt x.marks p g → IsOnLadder told x p r unmixed
-  front_on p r g at is = record {
-    at = at;
-    lined = (rung_fact told x p r g ladder at is).lined;
-    rung = (omega arith, (is.0, is.1, (g, is.2)));
-    unmixed_are = h.unmixed_are;
+  front_cut : (p : ℕ) (l : Lined) → p ≤ place → IsCut x p l → IsFront here p l
+  front_cut p l le cut = record {
+    config = cut.config_is;
+    stands = subst (λ (rs : List Rowed). IsPlace (rows_in here) rs l.own) (sym cut.above) (place_in x.rows p place l.own own le cut.own h.at);
+    many = ap (λ (rs : List Rowed). length rs) cut.above ∙ take_many x.rows p (let within = slice_get_within x.rows p l.own cut.own in omega (arith, within));
   }
 
-  pub front_is : (p : ℕ) (r : Rowed) → p ≤ place → slice_get x.rows p ≡ Some r → IsFront here p (record { config = x.config; above = take p x.rows; own = r })
-  front_is p r le at = record {
-    config = refl;
-    stands = place_in x.rows p place r own le at h.at;
-    many = take_many x.rows p (let within = slice_get_within x.rows p r at in omega (arith, within));
-  }
+  pub fronts_cut : (p : ℕ) (o : Option Lined) → p ≤ place → IfSome o (IsCut x p) → IfSome o (IsFront here p)
+  fronts_cut p None le cut = tt
+  fronts_cut p (Some l) le cut = front_cut p l le cut
 
   -- ---- superclasses of other loaders
 
@@ -237,19 +233,19 @@ module _ (told : Option Content) (x : Laddered) (place : ℕ) (own : Rowed) (unm
   others_rows items v by (Ok f) is = all_in v (items f) is.rows_are
 
 -- of none all is so
-unmixed_none : (rows : List Rowed) → IsUnmixed (take 0 rows)
+pub unmixed_none : (rows : List Rowed) → IsUnmixed (take 0 rows)
 unmixed_none rows = subst (λ (rs : List Rowed). IsUnmixed rs) (sym (none_of rows)) (λ r j c inr_. absurd (nothing r inr_))
   where
     nothing : (r : Rowed) → Contains [] r → ⊥
     nothing r i = absurd (let lt = i.1 in omega (arith, lt))
 
 -- what stands up to a rung is a lineage
-pub rung_on : (told : Option Content) (x : Laddered) (place : ℕ) (r : Rowed) (g : Rung) → IsLadder told x → slice_get x.rows place ≡ Some r → IsRungAt x.marks place g → IsOnLadder told x place r 0
-rung_on told x place r g ladder at is = record {
+pub rung_on : (told : Option Content) (x : Laddered) (place : ℕ) (r : Rowed) (g : Rung) (unmixed : ℕ) → IsLadder told x → slice_get x.rows place ≡ Some r → IsRungAt x.marks place g → IsUnmixed (take unmixed x.rows) → IsOnLadder told x place r unmixed
+rung_on told x place r g unmixed ladder at is are = record {
   at = at;
   lined = (rung_fact told x place r g ladder at is).lined;
   rung = (omega arith, (is.0, is.1, (g, is.2)));
-  unmixed_are = unmixed_none x.rows;
+  unmixed_are = are;
 }
 
 -- a rung stands at the place of a row
@@ -265,10 +261,6 @@ rung_found marks place None b is meant h = absurd (not_none b is meant)
     not_none true e f = absurd cc
     not_none false e f = absurd cc
 rung_found marks place (Some g) b is meant h = (g, h)
-
-pub rung_missed : (a b : Bool) → a ≡ not b → b ≡ true → a ≡ true → ⊥
-rung_missed a true is meant h = absurd (let gone : false ≡ true = sym is ∙ h in cc)
-rung_missed a false is meant h = absurd cc
 
 -- made of the rows of a lineage, it stands on the last rung
 pub made_on : (told : Option Content) (config : Configured) (above : List Rowed) (own : Rowed) (x : Laddered) (n : ℕ) → IsMadeOf config above own x → n ≡ length above → IsLined told (record { config = config; above = above; own = own })
@@ -292,14 +284,6 @@ made_is config above own x n m is =
     ap (λ (c : Configured). let l : Lined = record { config = c; above = take n x.rows; own = own } in l) m.config_is
     ∙ ap (λ (rs : List Rowed). let l : Lined = record { config = config; above = rs; own = own } in l)
     (ap (λ (k : ℕ). take k x.rows) is ∙ ap (λ (rs : List Rowed). take (length above) rs) m.rows ∙ take_length above (own ∷ []))
-
--- a front in memory
-pub front_in : (l inside : Lined) (place : ℕ) (x y : Laddered) (own own_in : Rowed) → inside ≡ l → y ≡ x → own_in ≡ own → IsFront inside place (record { config = x.config; above = take place x.rows; own = own })
-    → IsFront l place (record { config = y.config; above = take place y.rows; own = own_in })
-front_in l inside place x y own own_in same ladder owned h =
-    subst (λ (z : Lined). IsFront z place (record { config = y.config; above = take place y.rows; own = own_in })) same
-    (subst (λ (z : Laddered). IsFront inside place (record { config = z.config; above = take place z.rows; own = own_in })) (sym ladder)
-    (subst (λ (r : Rowed). IsFront inside place (record { config = x.config; above = take place x.rows; own = r })) (sym owned) h))
 
 -- what stands up to a place of a ladder, in memory
 pub cut_of : (x y : Laddered) (own own_in : Rowed) (place : ℕ) → y ≡ x → own_in ≡ own → slice_get x.rows place ≡ Some own → IsCut x place (record { config = y.config; above = take place y.rows; own = own_in })

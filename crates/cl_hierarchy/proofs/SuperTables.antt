@@ -13,18 +13,19 @@ use Rattle.cl_hierarchy.specs.Trees.{interface_places}
 use Rattle.cl_hierarchy.specs.declared.supers.Supers.{Supers}
 use Rattle.cl_hierarchy.proofs.Placings.{unplaced}
 use Rattle.cl_hierarchy.proofs.Rungs.{all_of, take_with}
-use Rattle.cl_hierarchy.proofs.Ways.{at_length, some_is}
+use Rattle.cl_hierarchy.proofs.Ways.{at_length}
+use Rattle.std.proofs.lemmas.Option.{same_Some}
 
 -- ---- a table of places
 
-drop_all : {A : Type 0} (xs : List A) → drop (length xs) xs ≡ []
+pub drop_all : {A : Type 0} (xs : List A) → drop (length xs) xs ≡ []
 drop_all [] = refl
 drop_all (x ∷ xs) = drop_all xs
 
 drop_at : {A : Type 0} (xs : List A) (n : ℕ) (x : A) → slice_get xs n ≡ Some x → drop n xs ≡ x ∷ drop (suc n) xs
 drop_at [] n x e = absurd cc
-drop_at (y ∷ []) zero x e = ap (λ z. z ∷ []) (some_is y x e)
-drop_at (y ∷ (w ∷ xs)) zero x e = ap (λ z. z ∷ (w ∷ xs)) (some_is y x e)
+drop_at (y ∷ []) zero x e = ap (λ z. z ∷ []) (same_Some y x e)
+drop_at (y ∷ (w ∷ xs)) zero x e = ap (λ z. z ∷ (w ∷ xs)) (same_Some y x e)
 drop_at (y ∷ xs) (suc n) x e = drop_at xs n x e
 
 -- an empty table has the rows from the end on
@@ -155,5 +156,5 @@ all_told rows ss many h = subst (λ (rs : List Rowed). AreAllSupers rows rs ss) 
 pub supers_at : (rows rs : List Rowed) (ss : List Supers) (place : ℕ) (r : Rowed) → AreAllSupers rows rs ss → slice_get rs place ≡ Some r → (s : Supers) × (slice_get ss place ≡ Some s) × AreSupers rows r s
 supers_at rows [] ss place r h e = absurd cc
 supers_at rows (x ∷ rs) [] place r h e = absurd h
-supers_at rows (x ∷ rs) (s ∷ ss) zero r h e = (s, refl, subst (λ (y : Rowed). AreSupers rows y s) (some_is x r e) h.0)
+supers_at rows (x ∷ rs) (s ∷ ss) zero r h e = (s, refl, subst (λ (y : Rowed). AreSupers rows y s) (same_Some x r e) h.0)
 supers_at rows (x ∷ rs) (s ∷ ss) (suc place) r h e = supers_at rows rs ss place r h.1 e

@@ -21,10 +21,11 @@ use Rattle.cl_hierarchy.proofs.Climbs.{before_split}
 use Rattle.cl_hierarchy.proofs.Ends.{all_pop, last_of}
 use Rattle.cl_hierarchy.proofs.RowTables.{made, supers_before}
 use Rattle.cl_hierarchy.proofs.Tours.{classes_both, within_join, within_right}
+use Rattle.std.proofs.lemmas.Option.{same_Some}
 
 -- ---- classes among others
 
-within_cons : (c : Class) (cs zs : List Class) → is_among zs c ≡ true → Within cs zs → Within (c ∷ cs) zs
+pub within_cons : (c : Class) (cs zs : List Class) → is_among zs c ≡ true → Within cs zs → Within (c ∷ cs) zs
 within_cons c cs zs h f = λ x e. elim (or_true (same_class x c) (is_among cs x) e) [
   | inl s ↦ subst (λ (y : Class). is_among zs y ≡ true) (sym (is_class x c s)) h
   | inr i ↦ f x i
@@ -131,15 +132,12 @@ record IsNamed (ks : List Kin) (c : Class) (k : Kin) : Type 0 where
   same : k.class ≡ c
   among : is_among (classes ks) c ≡ true
 
-some_kin : (x y : Kin) → (let o : Option Kin = Some x in o) ≡ Some y → x ≡ y
-some_kin x y e = cc
-
 kin_is : (ks : List Kin) (c : Class) (k : Kin) → kin_named ks c ≡ Some k → IsNamed ks c k
 kin_is [] c k h = absurd cc
 kin_is (x ∷ ks) c k h = at (kin_is ks c k) (same_class c x.class) refl h
   where
     at : (kin_named ks c ≡ Some k → IsNamed ks c k) → (b : Bool) → same_class c x.class ≡ b → (if b then Some x else kin_named ks c) ≡ Some k → IsNamed (x ∷ ks) c k
-    at further true s i = record { same = ap (λ (y : Kin). y.class) (sym (some_kin x k i)) ∙ sym (is_class c x.class s); among = ap (λ (b : Bool). b || is_among (classes ks) c) s }
+    at further true s i = record { same = ap (λ (y : Kin). y.class) (sym (same_Some x k i)) ∙ sym (is_class c x.class s); among = ap (λ (b : Bool). b || is_among (classes ks) c) s }
     at further false s i = let n = further i in record { same = n.same; among = within_right (x.class ∷ []) (classes ks) c n.among }
 
 roots_are : (known : List Kin) (cs : List Class) → AllKnown known cs → Within cs (roots (forest known cs))
@@ -242,12 +240,9 @@ holds_more known r h = λ c k e. at c k (same_class c r.class) e
   where
     at : (c : Class) (k : Kin) (b : Bool) → (if b then Some (kin_under known r) else kin_named known c) ≡ Some k → Within (above_classes k) (r.class ∷ classes known)
     at c k true f =
-        subst (λ (x : Kin). Within (above_classes x) (r.class ∷ classes known)) (some_kin (kin_under known r) k f)
+        subst (λ (x : Kin). Within (above_classes x) (r.class ∷ classes known)) (same_Some (kin_under known r) k f)
         (within_later r.class (above_classes (kin_under known r)) (classes known) (under_within known r h))
     at c k false f = within_later r.class (above_classes k) (classes known) (h c k f)
-
-some_row : (x y : Rowed) → (let o : Option Rowed = Some x in o) ≡ Some y → x ≡ y
-some_row x y e = cc
 
 no_circle : (known : List Kin) (rs : List Rowed) (c : Class) (row : Rowed) → Holds known → SupersBefore known rs → row_of rs c ≡ Some row → is_among (above_classes (kin_under (kins_after known rs) row)) c ≡ false
 no_circle known [] c row holds h e = absurd cc
@@ -265,7 +260,7 @@ no_circle known (r ∷ rs) c row holds h e =
     at : (row_of rs c ≡ Some row → is_among (above_classes (kin_under final row)) c ≡ false) → (b : Bool) → same_class r.class c ≡ b → (if b then Some r else row_of rs c) ≡ Some row
         → is_among (above_classes (kin_under final row)) c ≡ false
     at further true s f =
-        subst (λ (x : Rowed). is_among (above_classes (kin_under final x)) c ≡ false) (some_row r row f)
+        subst (λ (x : Rowed). is_among (above_classes (kin_under final x)) c ≡ false) (same_Some r row f)
         (subst (λ (x : Class). is_among (above_classes (kin_under final r)) x ≡ false) (is_class r.class c s) here)
     at further false s f = further f
 
@@ -283,7 +278,7 @@ once_last seen (x ∷ ks) k s e =
     at same more false = ap (λ (ys : List Kin). x ∷ ys) more
 
 same_last : (xs ys : List Kin) (x y : Kin) → xs ++ x ∷ [] ≡ ys ++ y ∷ [] → x ≡ y
-same_last xs ys x y e = some_kin x y (sym (last_of xs x) ∙ ap (λ (zs : List Kin). slice_get zs (length zs - 1)) e ∙ last_of ys y)
+same_last xs ys x y e = same_Some x y (sym (last_of xs x) ∙ ap (λ (zs : List Kin). slice_get zs (length zs - 1)) e ∙ last_of ys y)
 
 -- ---- rows within the configuration, and lineages where a content is told
 
@@ -292,7 +287,7 @@ row_within told config earlier [] c r h e = absurd cc
 row_within told config earlier (x ∷ rows) c r h e = at (λ f. row_within told config (earlier ++ x ∷ []) rows c r h.1 f) (same_class x.class c) e
   where
     at : (row_of rows c ≡ Some r → IsWithin config r) → (b : Bool) → (if b then Some x else row_of rows c) ≡ Some r → IsWithin config r
-    at further true f = subst (λ (y : Rowed). IsWithin config y) (some_row x r f) h.0.within
+    at further true f = subst (λ (y : Rowed). IsWithin config y) (same_Some x r f) h.0.within
     at further false f = further f
 
 all_within : (told : Option Content) (config : Configured) (rows xs : List Rowed) → AreRows told config rows → AllByRecursion (IsRowIn rows) xs → AllByRecursion (IsWithin config) xs

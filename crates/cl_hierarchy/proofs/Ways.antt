@@ -23,6 +23,7 @@ use Rattle.cl_hierarchy.proofs.Ancestry.{row_kin}
 use Rattle.cl_hierarchy.proofs.Climbs.{placed_kin, placed_row, upward_none}
 use Rattle.cl_hierarchy.proofs.Cuts.{cut_interface, cut_superclass}
 use Rattle.cl_hierarchy.proofs.RowTables.{before_push}
+use Rattle.std.proofs.lemmas.Option.{same_Some}
 
 -- ---- places by number
 
@@ -38,13 +39,10 @@ take_length {A} [] later = first later
     first (x ∷ xs) = refl
 take_length (x ∷ earlier) later = ap (λ xs. x ∷ xs) (take_length earlier later)
 
-pub some_is : {A : Type 0} (a b : A) → Some a ≡ Some b → a ≡ b
-some_is a b e = cc
-
 -- the last of these stands at the place before their number
 last_at : {A : Type 0} (rest later : List A) (before : ℕ) (s : A) → before + 1 ≡ length rest → slice_get (rest ++ later) before ≡ Some s → rest ≡ take before rest ++ s ∷ []
 last_at [] later before s n e = absurd (omega (arith, n))
-last_at (x ∷ []) later zero s n e = ap (λ y. y ∷ []) (some_is x s e)
+last_at (x ∷ []) later zero s n e = ap (λ y. y ∷ []) (same_Some x s e)
 last_at (x ∷ (y ∷ rest)) later zero s n e = absurd (omega (arith, n))
 last_at (x ∷ rest) later (suc before) s n e = ap (λ ys. x ∷ ys) (last_at rest later before s (let m : before + 1 ≡ length rest = omega (arith, n) in m) e)
 
@@ -87,12 +85,12 @@ named_same [] c k e = absurd cc
 named_same (x ∷ known) c k e = at (λ t. named_same known c k t) (same_class c x.class) refl e
   where
     at : (kin_named known c ≡ Some k → c ≡ k.class) → (b : Bool) → same_class c x.class ≡ b → (if b then Some x else kin_named known c) ≡ Some k → c ≡ k.class
-    at further true s t = is_class c x.class s ∙ ap (λ (y : Kin). y.class) (some_is x k t)
+    at further true s t = is_class c x.class s ∙ ap (λ (y : Kin). y.class) (same_Some x k t)
     at further false s t = further t
 
 front_class : (o : Option Kin) (k : Kin) → Some k ≡ first (upward (in_front o Bare)) → o ≡ Some k
 front_class None k e = absurd cc
-front_class (Some j) k e = ap (λ (x : Kin). Some x) (some_is j k (sym e))
+front_class (Some j) k e = ap (λ (x : Kin). Some x) (same_Some j k (sym e))
 
 -- the superclass that is found is the one that is named
 up_named : (known : List Kin) (o : Option Name) (places : List ℕ) (k : Kin) → Some k ≡ first (upward (forest known (accepted_of (superclass_named o) places))) → accepted_of (superclass_named o) places ≡ k.class ∷ []
@@ -259,7 +257,7 @@ pub first_named : (ns : List Name) (places : List ℕ) (name : Name) (l : ℕ) (
 first_named [] places name l c e f s = absurd cc
 first_named (n ∷ ns) [] name l c e f s = absurd cc
 first_named (n ∷ ns) (p ∷ places) name l c e f s =
-    let same : class n p ≡ c = ap (λ (x : Name). class x p) (some_is n name (sym e)) ∙ ap (λ (x : ℕ). class name x) (some_is p l (sym f)) ∙ is_class (class name l) c s in
+    let same : class n p ≡ c = ap (λ (x : Name). class x p) (same_Some n name (sym e)) ∙ ap (λ (x : ℕ). class name x) (same_Some p l (sym f)) ∙ is_class (class name l) c s in
     (accepted_of (map (λ n. record { name = n; role = AsSuperinterface }) ns) places, ap (λ (x : Class). x ∷ accepted_of (map (λ n. record { name = n; role = AsSuperinterface }) ns) places) same)
 
 module _ {A : Type 0} (v : A → Rowed) (rows earlier : List A) (row : A) (under : Rowed) where

@@ -6,7 +6,7 @@ ghost use Rattle.std.specs.Option.{option_map};
 ghost use Rattle.cl_model.specs.Lineages.{alone, first, is_subclass, once, superclasses, superinterfaces};
 ghost use Rattle.cl_hierarchy.specs.Above.{AreOvers, IsUnmixed};
 ghost use Rattle.cl_hierarchy.specs.Fronts.{IsFront, IsOnStem};
-ghost use Rattle.cl_hierarchy.specs.Ladders.{HasRung};
+ghost use Rattle.cl_hierarchy.specs.Ladders.{HasRung, IsLadder};
 ghost use Rattle.cl_hierarchy.specs.Parts.{IsCut};
 ghost use Rattle.cl_hierarchy.specs.Lineages.{IsLined, IsRowIn, field_order, is_of_other, kin_at, kin_of, reaches, rows_in};
 ghost use Rattle.cl_hierarchy.specs.Tours.{stops, told_at};
@@ -118,14 +118,17 @@ impl<T: Told> Lineage<T> {
         })
     }
 
-    /// The lineage up to a place of a ladder, if it has a rung there.
+    /// The lineage up to a place of a ladder, of which so many rows, from the first, are unmixed: if it has a rung there.
     pub(crate) fn on_ladder(
         ladder: &Arc<Ladder<T>>,
         place: usize,
+        unmixed: usize,
     ) -> Result<Option<Lineage<T>>, AllocError>
+        requires { IsUnmixed (take unmixed ladder.now.value.rows) }
         ensures cut { IfOk result (λ o. IfSome o (IsCut ladder.now.value place)) }
         ensures some { (bound : ℕ) → HasRung ladder.now.value.marks bound (Some place)
             → IfOk result (λ o. is_some o ≡ true) }
+        ensures kept { IsLadder T.told ladder.now.value }
     {
         if ladder.rung(place).is_none() {
             return Ok(None);
@@ -139,7 +142,7 @@ impl<T: Told> Lineage<T> {
             ladder,
             own,
             place,
-            unmixed: 0,
+            unmixed,
         }))
     }
 
@@ -190,20 +193,10 @@ impl<T: Told> Lineage<T> {
         ensures front { IfOk result (λ o. IfSome o (λ l. IsFront self.now place l)) }
         ensures stem { IsOnStem self.now place → IfOk result (λ o. is_some o ≡ true) }
     {
-        if place > self.place || self.ladder.rung(place).is_none() {
+        if place > self.place {
             return Ok(None);
         }
-        let Some(own) = self.ladder.rows().get(place) else {
-            return Ok(None);
-        };
-        let ladder = Arc::try_clone(&self.ladder)?;
-        let own = Arc::try_clone(own)?;
-        Ok(Some(Lineage {
-            ladder,
-            own,
-            place,
-            unmixed: self.unmixed,
-        }))
+        Lineage::on_ladder(&self.ladder, place, self.unmixed)
     }
 
     /// Which loaders defined the superinterfaces that the classes above the class name, in constant time

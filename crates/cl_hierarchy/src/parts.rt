@@ -81,7 +81,7 @@ impl<T: Told> Part<T> {
     {
         match position(self.places.as_slice(), place) {
             None => Ok(None),
-            Some(at) => Lineage::on_ladder(&self.ladder, at),
+            Some(at) => Lineage::on_ladder(&self.ladder, at, 0),
         }
     }
 
@@ -91,7 +91,7 @@ impl<T: Told> Part<T> {
             (Some (length self.now.places.items - 1)) }
         ensures { IfOk result (IsCut self.now.ladder.value (length self.now.places.items - 1)) }
     {
-        match Lineage::on_ladder(&self.ladder, self.places.len() - 1)? {
+        match Lineage::on_ladder(&self.ladder, self.places.len() - 1, 0)? {
             None => unreachable!(),
             Some(lineage) => Ok(lineage),
         }

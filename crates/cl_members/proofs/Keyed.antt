@@ -15,6 +15,7 @@ use Rattle.cl_classfile.specs.References.{plain_symbol, plain_reference}
 use Rattle.cl_model.specs.Keys.{descriptor_of, key_of}
 use Rattle.cl_model.proofs.Keys as keys
 use Rattle.cl_members.specs.Symbols as symbols
+use Rattle.std.proofs.lemmas.Option.{same_Some}
 
 -- a symbol that the code found, and the key that is its
 pub record Names (key_in : files.Symbol → Option Key) (found : Option Symbol) (key : Key) : Type 0 where
@@ -58,14 +59,11 @@ interface_asked (Some (references.Method s)) t key e = absurd (apart_by (λ t x.
 interface_asked (Some (references.InterfaceMethod s)) t key e = record { symbol = s; is = refl; key_is = key_by (λ t x. ToInterfaceMethod t x) (named_type s.class.now) (method_key (plain_symbol s)) t key (λ u x f. cc) e }
 
 -- a symbol that was found is the one whose key was asked for
-some_symbol : (a b : Symbol) → (let o : Option Symbol = Some a in o) ≡ Some b → a ≡ b
-some_symbol a b e = cc
-
 pub is_there : (key_in : files.Symbol → Option Key) (found : Option Symbol) (key : Key) → Names key_in found key → found ≡ None → ⊥
 is_there key_in found key n e = absurd (let h : Some n.symbol ≡ None = sym n.is ∙ e in cc)
 
 pub is_its : (key_in : files.Symbol → Option Key) (found : Option Symbol) (key : Key) (s : Symbol) → Names key_in found key → found ≡ Some s → key_in (plain_symbol s) ≡ Some key
-is_its key_in found key s n e = ap (λ (x : Symbol). key_in (plain_symbol x)) (some_symbol s n.symbol (sym e ∙ n.is)) ∙ n.key_is
+is_its key_in found key s n e = ap (λ (x : Symbol). key_in (plain_symbol x)) (same_Some s n.symbol (sym e ∙ n.is)) ∙ n.key_is
 
 -- ---- keys of fields and of methods are keys
 

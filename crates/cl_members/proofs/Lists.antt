@@ -2,6 +2,7 @@
 use Rattle.std.proofs.Common.{◌≡◌, Bool, true, false, ◌||◌, if◌then◌else◌, List, [], ◌∷◌, ◌++◌, map, Option, Some, None, refl, sym, ap, ◌∙◌}
 use Rattle.std.specs.Prelude.{find, filter, option_map}
 use Rattle.std.specs.Option.{option_or}
+use Rattle.std.proofs.lemmas.Option.{same_Some}
 
 module _ {A B : Type 0} (f : A → B) (p : B → Bool) where
   -- what is found among the images
@@ -60,11 +61,8 @@ or_of false b c = refl
 
 -- ---- what was found passes
 
-some_same : {A : Type 0} (x y : A) → (let o : Option A = Some x in o) ≡ Some y → x ≡ y
-some_same x y e = cc
-
 passes_now : {A : Type 0} (p : A → Bool) (x a : A) (o : Option A) (b : Bool) → p x ≡ b → (if b then Some x else o) ≡ Some a → (o ≡ Some a → p a ≡ true) → p a ≡ true
-passes_now p x a o true t e others = ap p (sym (some_same x a e)) ∙ t
+passes_now p x a o true t e others = ap p (sym (same_Some x a e)) ∙ t
 passes_now p x a o false t e others = others e
 
 pub find_passes : {A : Type 0} (p : A → Bool) (xs : List A) (a : A) → find p xs ≡ Some a → p a ≡ true

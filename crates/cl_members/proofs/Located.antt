@@ -1,21 +1,20 @@
 -- What looking a member up answers, from where the lookup came to.
-use Rattle.std.proofs.Common.{◌≡◌, ℕ, Bool, true, false, nat_le, if◌then◌else◌, List, [], map, Option, Some, None, is_some, refl, sym, ap, subst, ◌∙◌}
+use Rattle.std.proofs.Common.{◌≡◌, ℕ, true, false, nat_le, if◌then◌else◌, List, [], map, Option, Some, None, is_some, refl, sym, ap, subst, ◌∙◌}
 use Rattle.std.specs.Prelude.{Ok, Err, find, option_map, option_and_then}
 use Rattle.cl_classfile.specs.Files.{Key, Symbol, Reference, ToField, ToMethod, ToInterfaceMethod, reference, file_of, field_key, method_key, is_interface}
 use Rattle.cl_model.specs.declared.class.Class.{Class}
 use Rattle.cl_model.specs.Classes.{IllegalAccess}
 use Rattle.cl_model.specs.Keys.{key_of}
-use Rattle.cl_model.specs.Lineages.{Kin, member_accessible, lookup_field}
+use Rattle.cl_model.specs.Lineages.{member_accessible, lookup_field, lookup_method, lookup_interface_method}
 use Rattle.cl_model.specs.Preparation.{class_names, equals_of}
 use Rattle.cl_model.specs.States.{Need, Equal}
 use Rattle.cl_model.specs.Works.{fail}
 use Rattle.cl_hierarchy.specs.Rows.{Rowed}
-use Rattle.cl_hierarchy.specs.Lineages.{Lined, IsInOrder, IsRowIn, TellsAccess, field_order, kin_at, kin_of, rows_in}
+use Rattle.cl_hierarchy.specs.Lineages.{Lined, IsInOrder, IsRowIn, field_order, kin_at, kin_of, rows_in}
 use Rattle.cl_hierarchy.specs.Imposed.{AreOfReference}
 use Rattle.cl_members.specs.declared.fault.LookupFault.{LookupFault}
 use Rattle.cl_members.specs.declared.fault.LookupFault.TheVariants as faults
 use Rattle.cl_members.specs.Asking.{AsksField, AsksMethod, AsksInterfaceMethod, LooksUp, IsDeniedIn, IsFoundAs, IsLocated, Located, Reaches, asked_key, key_at, verdict_of}
-use Rattle.cl_members.specs.Lookups.{method_owner, interface_method_owner}
 use Rattle.cl_members.specs.Members.{field_in, method_in}
 use Rattle.cl_members.proofs.Keyed.{field_keyed, method_keyed}
 use Rattle.cl_members.proofs.Lists.{among_is}
@@ -158,12 +157,12 @@ module _ {R : Type 0} (row : R → Rowed) where
 pub wrong_class : (d c : Lined) (i : ℕ) → AsksMethod d c i → true ≡ is_interface (kin_of c).file → LooksUp d c i (Err faults.WrongKind)
 wrong_class d c i a kind = fault_answers d c i (ToMethod a.target a.key) faults.WrongKind a.refers (method_of_interface (kin_of d) (kin_of c) a.key (sym kind)) tt
 
-pub no_method : (d c : Lined) (i : ℕ) → (a : AsksMethod d c i) → false ≡ is_interface (kin_of c).file → (key : Option Key) → key ≡ Some a.key → None ≡ method_owner key (kin_of c) → LooksUp d c i (Err faults.NoSuchMethod)
+pub no_method : (d c : Lined) (i : ℕ) → (a : AsksMethod d c i) → false ≡ is_interface (kin_of c).file → (key : Option Key) → key ≡ Some a.key → None ≡ option_and_then (lookup_method (kin_of c)) key → LooksUp d c i (Err faults.NoSuchMethod)
 no_method d c i a kind key is e =
     fault_answers d c i (ToMethod a.target a.key) faults.NoSuchMethod a.refers
-    (method_missing (kin_of d) (kin_of c) a.key (sym kind) (ap (λ (o : Option Key). method_owner o (kin_of c)) (sym is) ∙ sym e)) tt
+    (method_missing (kin_of d) (kin_of c) a.key (sym kind) (ap (option_and_then (lookup_method (kin_of c))) (sym is) ∙ sym e)) tt
 
-pub method_reached : (d c : Lined) (i : ℕ) (s : Symbol) → (a : AsksMethod d c i) → false ≡ is_interface (kin_of c).file → method_key s ≡ Some a.key → (owner : Rowed) → Some (kin_at c owner) ≡ method_owner (method_key s) (kin_of c)
+pub method_reached : (d c : Lined) (i : ℕ) (s : Symbol) → (a : AsksMethod d c i) → false ≡ is_interface (kin_of c).file → method_key s ≡ Some a.key → (owner : Rowed) → Some (kin_at c owner) ≡ option_and_then (lookup_method (kin_of c)) (method_key s)
     → (flags : ℕ) → Some flags ≡ option_map (λ m. m.flags) (method_in (method_key s) (file_of owner.file)) → IsRowIn (rows_in c) owner → Reaches d c i s owner flags
 method_reached d c i s a kind is owner e flags has inside =
     let key = method_keyed s.name s.descriptor a.key is in
@@ -177,20 +176,20 @@ method_reached d c i s a kind is owner e flags has inside =
       described = key.described;
       row = inside;
       has = ap (λ (o : Option Key). option_map (λ m. m.flags) (method_in o (file_of owner.file))) (sym is) ∙ sym has;
-      worked = method_found (kin_of d) (kin_of c) (kin_at c owner) a.key (sym kind) (ap (λ (o : Option Key). method_owner o (kin_of c)) (sym is) ∙ sym e);
+      worked = method_found (kin_of d) (kin_of c) (kin_at c owner) a.key (sym kind) (ap (option_and_then (lookup_method (kin_of c))) (sym is) ∙ sym e);
     }
 
 pub wrong_interface : (d c : Lined) (i : ℕ) → AsksInterfaceMethod d c i → false ≡ is_interface (kin_of c).file → LooksUp d c i (Err faults.WrongKind)
 wrong_interface d c i a kind = fault_answers d c i (ToInterfaceMethod a.target a.key) faults.WrongKind a.refers (interface_of_class (kin_of d) (kin_of c) a.key (sym kind)) tt
 
-pub no_interface_method : (d c : Lined) (i : ℕ) → (a : AsksInterfaceMethod d c i) → true ≡ is_interface (kin_of c).file → (key : Option Key) → key ≡ Some a.key → None ≡ interface_method_owner key (kin_of c)
+pub no_interface_method : (d c : Lined) (i : ℕ) → (a : AsksInterfaceMethod d c i) → true ≡ is_interface (kin_of c).file → (key : Option Key) → key ≡ Some a.key → None ≡ option_and_then (lookup_interface_method (kin_of c)) key
     → LooksUp d c i (Err faults.NoSuchMethod)
 no_interface_method d c i a kind key is e =
     fault_answers d c i (ToInterfaceMethod a.target a.key) faults.NoSuchMethod a.refers
-    (interface_missing (kin_of d) (kin_of c) a.key (sym kind) (ap (λ (o : Option Key). interface_method_owner o (kin_of c)) (sym is) ∙ sym e)) tt
+    (interface_missing (kin_of d) (kin_of c) a.key (sym kind) (ap (option_and_then (lookup_interface_method (kin_of c))) (sym is) ∙ sym e)) tt
 
 pub interface_method_reached : (d c : Lined) (i : ℕ) (s : Symbol) → (a : AsksInterfaceMethod d c i) → true ≡ is_interface (kin_of c).file → method_key s ≡ Some a.key → (owner : Rowed)
-    → Some (kin_at c owner) ≡ interface_method_owner (method_key s) (kin_of c) → (flags : ℕ) → Some flags ≡ option_map (λ m. m.flags) (method_in (method_key s) (file_of owner.file)) → IsRowIn (rows_in c) owner → Reaches d c i s owner flags
+    → Some (kin_at c owner) ≡ option_and_then (lookup_interface_method (kin_of c)) (method_key s) → (flags : ℕ) → Some flags ≡ option_map (λ m. m.flags) (method_in (method_key s) (file_of owner.file)) → IsRowIn (rows_in c) owner → Reaches d c i s owner flags
 interface_method_reached d c i s a kind is owner e flags has inside =
     let key = method_keyed s.name s.descriptor a.key is in
     record {
@@ -203,5 +202,5 @@ interface_method_reached d c i s a kind is owner e flags has inside =
       described = key.described;
       row = inside;
       has = ap (λ (o : Option Key). option_map (λ m. m.flags) (method_in o (file_of owner.file))) (sym is) ∙ sym has;
-      worked = interface_found (kin_of d) (kin_of c) (kin_at c owner) a.key (sym kind) (ap (λ (o : Option Key). interface_method_owner o (kin_of c)) (sym is) ∙ sym e);
+      worked = interface_found (kin_of d) (kin_of c) (kin_at c owner) a.key (sym kind) (ap (option_and_then (lookup_interface_method (kin_of c))) (sym is) ∙ sym e);
     }

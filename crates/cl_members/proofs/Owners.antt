@@ -1,32 +1,47 @@
 -- The class that method lookup comes to, step by step; it declares the method.
 use Rattle.std.proofs.Common.{◌≡◌, ℕ, Bool, true, false, if◌then◌else◌, List, [], ◌∷◌, Option, Some, None, is_some, refl, sym, ap, ◌∙◌}
-use Rattle.std.specs.Prelude.{filter, find, option_map}
+use Rattle.std.specs.Prelude.{filter, find, option_map, option_and_then}
 use Rattle.std.specs.Option.{option_or}
 use Rattle.cl_classfile.specs.Files.{Key, Member}
-use Rattle.cl_model.specs.Lineages.{Kin, first, if_declared, only, superclasses, superinterfaces}
-use Rattle.cl_members.specs.Members.{method_in, has_public, implements, offers}
-use Rattle.cl_members.specs.Lookups.{interface_method_owner, interface_owner, method_owner, offering, specific}
+use Rattle.cl_model.specs.Lineages.{Kin, first, if_declared, only, superclasses, superinterfaces, from_superinterfaces, is_default, is_offered, is_public_instance, lookup_interface_method, lookup_method, maximally_specific, method_of, offering}
+use Rattle.cl_members.specs.Members.{method_in, has_public}
 use Rattle.cl_members.proofs.Lists.{either_some, find_passes}
+use Rattle.std.proofs.lemmas.Option.{same_Some}
 
--- ---- step by step
+-- ---- step by step, by the key that texts are, if they are one
 
-pub own_is : (key : Option Key) (k : Kin) → true ≡ is_some (method_in key k.file) → Some k ≡ method_owner key k
-own_is key k e = rw (sym e) refl
+-- nothing is declared by what is no key
+never : {A : Type 0} (k a : Kin) → find (λ x. is_some (method_in None x.file)) (superclasses k) ≡ Some a → A
+never k a e = absurd (let t : false ≡ true = find_passes (λ x. is_some (method_in None x.file)) (superclasses k) a e in cc)
 
-pub super_is : (key : Option Key) (k a : Kin) → false ≡ is_some (method_in key k.file) → find (λ x. is_some (method_in key x.file)) (superclasses k) ≡ Some a → Some a ≡ method_owner key k
-super_is key k a none e = rw (sym none, e) refl
+never_public : {A : Type 0} (k a : Kin) → find (λ x. has_public None x.file) (superclasses k) ≡ Some a → A
+never_public k a e = absurd (let t : false ≡ true = find_passes (λ x. has_public None x.file) (superclasses k) a e in cc)
 
-pub beyond_is : (key : Option Key) (k : Kin) (o : Option Kin) → false ≡ is_some (method_in key k.file) → find (λ x. is_some (method_in key x.file)) (superclasses k) ≡ None → o ≡ interface_owner key k → o ≡ method_owner key k
-beyond_is key k o none e is = rw (sym none, e) is
+pub own_is : (key : Option Key) (k : Kin) → true ≡ is_some (method_in key k.file) → Some k ≡ option_and_then (lookup_method k) key
+own_is None k e = absurd cc
+own_is (Some key) k e = rw (sym e) refl
 
-pub own_of_interface : (key : Option Key) (k : Kin) → true ≡ is_some (method_in key k.file) → Some k ≡ interface_method_owner key k
-own_of_interface key k e = rw (sym e) refl
+pub super_is : (key : Option Key) (k a : Kin) → false ≡ is_some (method_in key k.file) → find (λ x. is_some (method_in key x.file)) (superclasses k) ≡ Some a → Some a ≡ option_and_then (lookup_method k) key
+super_is None k a none e = never k a e
+super_is (Some key) k a none e = rw (sym none, e) refl
 
-pub public_is : (key : Option Key) (k a : Kin) → false ≡ is_some (method_in key k.file) → find (λ x. has_public key x.file) (superclasses k) ≡ Some a → Some a ≡ interface_method_owner key k
-public_is key k a none e = rw (sym none, e) refl
+pub beyond_is : (key : Option Key) (k : Kin) (o : Option Kin) → false ≡ is_some (method_in key k.file) → find (λ x. is_some (method_in key x.file)) (superclasses k) ≡ None → o ≡ option_and_then (from_superinterfaces k) key
+    → o ≡ option_and_then (lookup_method k) key
+beyond_is None k o none e is = is
+beyond_is (Some key) k o none e is = rw (sym none, e) is
 
-pub beyond_public : (key : Option Key) (k : Kin) (o : Option Kin) → false ≡ is_some (method_in key k.file) → find (λ x. has_public key x.file) (superclasses k) ≡ None → o ≡ interface_owner key k → o ≡ interface_method_owner key k
-beyond_public key k o none e is = rw (sym none, e) is
+pub own_of_interface : (key : Option Key) (k : Kin) → true ≡ is_some (method_in key k.file) → Some k ≡ option_and_then (lookup_interface_method k) key
+own_of_interface None k e = absurd cc
+own_of_interface (Some key) k e = rw (sym e) refl
+
+pub public_is : (key : Option Key) (k a : Kin) → false ≡ is_some (method_in key k.file) → find (λ x. has_public key x.file) (superclasses k) ≡ Some a → Some a ≡ option_and_then (lookup_interface_method k) key
+public_is None k a none e = never_public k a e
+public_is (Some key) k a none e = rw (sym none, e) refl
+
+pub beyond_public : (key : Option Key) (k : Kin) (o : Option Kin) → false ≡ is_some (method_in key k.file) → find (λ x. has_public key x.file) (superclasses k) ≡ None → o ≡ option_and_then (from_superinterfaces k) key
+    → o ≡ option_and_then (lookup_interface_method k) key
+beyond_public None k o none e is = is
+beyond_public (Some key) k o none e is = rw (sym none, e) is
 
 -- ---- it declares the method
 
@@ -34,11 +49,8 @@ declared_is : (o : Option Member) (test : ℕ → Bool) → if_declared o test �
 declared_is None test e = absurd cc
 declared_is (Some m) test e = refl
 
-some_kin : (x y : Kin) → (let o : Option Kin = Some x in o) ≡ Some y → x ≡ y
-some_kin x y e = cc
-
 first_now : (p : Kin → Bool) (x a : Kin) (xs : List Kin) (b : Bool) → p x ≡ b → first (if b then x ∷ filter p xs else filter p xs) ≡ Some a → (first (filter p xs) ≡ Some a → p a ≡ true) → p a ≡ true
-first_now p x a xs true t e others = ap p (sym (some_kin x a e)) ∙ t
+first_now p x a xs true t e others = ap p (sym (same_Some x a e)) ∙ t
 first_now p x a xs false t e others = others e
 
 first_passes : (p : Kin → Bool) (xs : List Kin) (a : Kin) → first (filter p xs) ≡ Some a → p a ≡ true
@@ -53,26 +65,28 @@ only_first (x ∷ y ∷ xs) a e = absurd cc
 Declares : Option Key → Kin → Type 0
 Declares key a = is_some (method_in key a.file) ≡ true
 
-interface_declares : (key : Option Key) (k a : Kin) → interface_owner key k ≡ Some a → Declares key a
+interface_declares : (key : Key) (k a : Kin) → from_superinterfaces k key ≡ Some a → Declares (Some key) a
 unfolding Declares
 interface_declares key k a e =
-    either_some (only (filter (λ x. implements key x.file) (specific key k))) (first (offering key k)) a (Declares key) e
-    (λ f. declared_is (method_in key a.file) _ (first_passes (λ x. implements key x.file) (specific key k) a (only_first (filter (λ x. implements key x.file) (specific key k)) a f)))
-    (λ f. declared_is (method_in key a.file) _ (first_passes (λ x. offers key x.file) (superinterfaces k) a f))
+    either_some (only (filter (is_default key) (maximally_specific k key))) (first (offering k key)) a (Declares (Some key)) e
+    (λ f. declared_is (method_of a key) _ (first_passes (is_default key) (maximally_specific k key) a (only_first (filter (is_default key) (maximally_specific k key)) a f)))
+    (λ f. declared_is (method_of a key) _ (first_passes (is_offered key) (superinterfaces k) a f))
 
-pub method_declares : (key : Option Key) (k a : Kin) → Some a ≡ method_owner key k → is_some (method_in key a.file) ≡ true
+pub method_declares : (key : Option Key) (k a : Kin) → Some a ≡ option_and_then (lookup_method k) key → is_some (method_in key a.file) ≡ true
 unfolding Declares
-method_declares key k a e =
-    either_some (find (λ x. is_some (method_in key x.file)) (k ∷ superclasses k)) (interface_owner key k) a (Declares key) (sym e)
-    (λ f. find_passes (λ x. is_some (method_in key x.file)) (k ∷ superclasses k) a f) (λ f. interface_declares key k a f)
+method_declares None k a e = absurd cc
+method_declares (Some key) k a e =
+    either_some (find (λ x. is_some (method_of x key)) (k ∷ superclasses k)) (from_superinterfaces k key) a (Declares (Some key)) (sym e)
+    (λ f. find_passes (λ x. is_some (method_of x key)) (k ∷ superclasses k) a f) (λ f. interface_declares key k a f)
 
-pub interface_method_declares : (key : Option Key) (k a : Kin) → Some a ≡ interface_method_owner key k → is_some (method_in key a.file) ≡ true
+pub interface_method_declares : (key : Option Key) (k a : Kin) → Some a ≡ option_and_then (lookup_interface_method k) key → is_some (method_in key a.file) ≡ true
 unfolding Declares
-interface_method_declares key k a e =
-    either_some (find (λ x. is_some (method_in key x.file)) (k ∷ [])) (option_or (find (λ x. has_public key x.file) (superclasses k)) (interface_owner key k)) a (Declares key) (sym e)
-    (λ f. find_passes (λ x. is_some (method_in key x.file)) (k ∷ []) a f)
-    (λ f. either_some (find (λ x. has_public key x.file) (superclasses k)) (interface_owner key k) a (Declares key) f
-    (λ h. declared_is (method_in key a.file) _ (find_passes (λ x. has_public key x.file) (superclasses k) a h)) (λ h. interface_declares key k a h))
+interface_method_declares None k a e = absurd cc
+interface_method_declares (Some key) k a e =
+    either_some (find (λ x. is_some (method_of x key)) (k ∷ [])) (option_or (find (is_public_instance key) (superclasses k)) (from_superinterfaces k key)) a (Declares (Some key)) (sym e)
+    (λ f. find_passes (λ x. is_some (method_of x key)) (k ∷ []) a f)
+    (λ f. either_some (find (is_public_instance key) (superclasses k)) (from_superinterfaces k key) a (Declares (Some key)) f
+    (λ h. declared_is (method_of a key) _ (find_passes (is_public_instance key) (superclasses k) a h)) (λ h. interface_declares key k a h))
 
 -- so it has flags
 pub has_flags : (o : Option Member) → is_some o ≡ true → None ≡ option_map (λ m. m.flags) o → ⊥

@@ -17,6 +17,7 @@ use Rattle.cl_hierarchy.specs.Trees.{IsAfter, SupersBefore, forest, in_front, ki
 use Rattle.cl_hierarchy.specs.Lineages.{Lined, IsInOrder, kin_of, upwards, field_order}
 use Rattle.cl_hierarchy.proofs.Ancestry.{keeps}
 use Rattle.cl_members.proofs.Lists.{find_append, or_assoc}
+use Rattle.std.proofs.lemmas.Option.{same_Some}
 
 -- ---- field lookup goes through the tree from the front
 
@@ -97,9 +98,6 @@ forest_told : (known : List Kin) → Closed known → (cs : List Class) → AllB
 forest_told known closed [] = tt
 forest_told known closed (c ∷ cs) = front_told known closed c (forest known cs) (kin_named known c) refl (forest_told known closed cs)
 
-some_kin : (x y : Kin) → (let o : Option Kin = Some x in o) ≡ Some y → x ≡ y
-some_kin x y e = cc
-
 grow : (known : List Kin) (r : Rowed) → Closed known → IsAfter known r → Closed (kin_under known r ∷ known)
 grow known r closed after c k e = at (same_class c r.class) refl e
   where
@@ -120,7 +118,7 @@ grow known r closed after c k e = at (same_class c r.class) refl e
     )
 
     at : (b : Bool) → same_class c r.class ≡ b → (if b then Some (kin_under known r) else kin_named known c) ≡ Some k → AllByRecursion (Told (kin_under known r ∷ known)) (upwards (alone k))
-    at true s f = subst (λ (x : Kin). AllByRecursion (Told (kin_under known r ∷ known)) (upwards (alone x))) (some_kin (kin_under known r) k f) above
+    at true s f = subst (λ (x : Kin). AllByRecursion (Told (kin_under known r ∷ known)) (upwards (alone x))) (same_Some (kin_under known r) k f) above
     at false s f = all_map (Told known) (Told (kin_under known r ∷ known)) stays (upwards (alone k)) (closed c k f)
 
 closed_after : (known : List Kin) (rs : List Rowed) → Closed known → SupersBefore known rs → Closed (kins_after known rs)

@@ -1,16 +1,16 @@
 //! Methods of superinterfaces (JVMS SE 8, 5.4.3.3).
 
-ghost use Rattle.std.specs.Prelude.{◌≡◌, ◌||◌, not, filter, map, IfOk, IfSome, OnOk};
+ghost use Rattle.std.specs.Prelude.{◌≡◌, ◌||◌, not, filter, map, option_and_then, IfOk, IfSome, OnOk};
 ghost use Rattle.std.specs.List.{AllByRecursion};
 ghost use Rattle.std.specs.Option.{option_map, option_or};
 ghost use Rattle.cl_classfile.specs.Files.{file_of, method_key};
 ghost use Rattle.cl_classfile.specs.References.{plain_symbol};
 ghost use Rattle.cl_model.specs.Classes.{is_among, same_class};
-ghost use Rattle.cl_model.specs.Lineages.{first, only};
+ghost use Rattle.cl_model.specs.Lineages.{first, from_superinterfaces, only, superinterfaces};
 ghost use Rattle.cl_model.specs.declared.class.Class.{Class};
 ghost use Rattle.cl_hierarchy.specs.Lineages.{IsRowIn, kin_at, kin_of, rows_in};
 ghost use Rattle.cl_members.specs.Members.{offers, implements};
-ghost use Rattle.cl_members.specs.Lookups.{beneath, interface_owner, offering};
+ghost use Rattle.cl_members.specs.Lookups.{beneath};
 
 use crate::owning::{implements, offers};
 use cl_classfile::Symbol;
@@ -94,7 +94,8 @@ fn offering<T: Told>(
     symbol: Symbol<'_>,
 ) -> Result<Vec<Arc<ClassRow<T>>>, AllocError>
     ensures kins { IfOk result (λ v. map (λ r. kin_at c.now r.value) v.items
-        ≡ offering (method_key (plain_symbol symbol.entry)) (kin_of c.now)) }
+        ≡ filter (λ a. offers (method_key (plain_symbol symbol.entry)) a.file)
+        (superinterfaces (kin_of c.now))) }
     ensures rows { IfOk result (λ v. AllByRecursion (λ r. IsRowIn (rows_in c.now) r.value)
         v.items) }
 {
@@ -135,8 +136,9 @@ pub fn interface_owner<T: Told>(
     c: &Lineage<T>,
     symbol: Symbol<'_>,
 ) -> Result<Option<Arc<ClassRow<T>>>, AllocError>
-    ensures owner { IfOk result (λ o. option_map (λ r. kin_at c.now r.value) o ≡ interface_owner
-        (method_key (plain_symbol symbol.entry)) (kin_of c.now)) }
+    ensures owner { IfOk result (λ o. option_map (λ r. kin_at c.now r.value) o
+        ≡ option_and_then (from_superinterfaces (kin_of c.now))
+        (method_key (plain_symbol symbol.entry))) }
     ensures row { IfOk result (λ o. IfSome o (λ r. IsRowIn (rows_in c.now) r.value)) }
 {
     let mut rows = offering(alloc, c, symbol)?;

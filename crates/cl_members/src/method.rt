@@ -1,12 +1,12 @@
 //! Methods of classes and of interfaces (JVMS SE 8, 5.4.3.3, 5.4.3.4).
 
-ghost use Rattle.std.specs.Prelude.{◌≡◌, IfOk, IfSome};
+ghost use Rattle.std.specs.Prelude.{◌≡◌, option_and_then, IfOk, IfSome};
 ghost use Rattle.std.specs.Option.{option_map};
 ghost use Rattle.cl_classfile.specs.Files.{method_key};
 ghost use Rattle.cl_classfile.specs.References.{plain_symbol};
+ghost use Rattle.cl_model.specs.Lineages.{lookup_interface_method, lookup_method};
 ghost use Rattle.cl_hierarchy.specs.Lineages.{IsRowIn, kin_at, kin_of, rows_in};
 ghost use Rattle.cl_members.specs.Asking.{LooksUp, AsksMethod, AsksInterfaceMethod};
-ghost use Rattle.cl_members.specs.Lookups.{interface_method_owner, method_owner};
 
 use crate::asked::{interface_method_symbol, method_symbol};
 use crate::fault::LookupFault;
@@ -26,7 +26,8 @@ fn method_owner<T: Told>(
     symbol: Symbol<'_>,
 ) -> Result<Option<Arc<ClassRow<T>>>, AllocError>
     ensures owner { IfOk result (λ o. option_map (λ r. kin_at c.now r.value) o
-        ≡ method_owner (method_key (plain_symbol symbol.entry)) (kin_of c.now)) }
+        ≡ option_and_then (lookup_method (kin_of c.now))
+        (method_key (plain_symbol symbol.entry))) }
     ensures row { IfOk result (λ o. IfSome o (λ r. IsRowIn (rows_in c.now) r.value)) }
 {
     if has_method(c.own(), symbol) {
@@ -47,7 +48,8 @@ fn interface_method_owner<T: Told>(
     symbol: Symbol<'_>,
 ) -> Result<Option<Arc<ClassRow<T>>>, AllocError>
     ensures owner { IfOk result (λ o. option_map (λ r. kin_at c.now r.value) o
-        ≡ interface_method_owner (method_key (plain_symbol symbol.entry)) (kin_of c.now)) }
+        ≡ option_and_then (lookup_interface_method (kin_of c.now))
+        (method_key (plain_symbol symbol.entry))) }
     ensures row { IfOk result (λ o. IfSome o (λ r. IsRowIn (rows_in c.now) r.value)) }
 {
     if has_method(c.own(), symbol) {

@@ -1,9 +1,9 @@
-use Rattle.std.proofs.Common.{◌≡◌, map, sym, ap, subst, ◌∙◌}
+use Rattle.std.proofs.Common.{sym, ap, ◌∙◌}
 use Rattle.std.specs.Prelude.{find, is_some, option_map}
-use Rattle.cl_classfile.specs.Files.{reference, file_of, field_key}
+use Rattle.cl_classfile.specs.Files.{file_of, field_key}
 use Rattle.cl_classfile.specs.References.{plain_symbol}
 use Rattle.cl_hierarchy.specs.Rows.{Rowed}
-use Rattle.cl_hierarchy.specs.Lineages.{Lined, IsInOrder, IsRowIn, field_order, kin_at, kin_of, rows_in}
+use Rattle.cl_hierarchy.specs.Lineages.{IsInOrder, IsRowIn, rows_in}
 use Rattle.cl_members.specs.Members.{field_in}
 use Rattle.cl_members.proofs.Inside.{find_all}
 use Rattle.cl_members.proofs.Lists.{find_passes}

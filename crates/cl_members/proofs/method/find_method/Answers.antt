@@ -1,11 +1,10 @@
 use Rattle.std.proofs.Common.{◌≡◌, false, Option, IfSome, sym, ap, subst, ◌∙◌}
 use Rattle.std.specs.Prelude.{option_map}
 use Rattle.cl_classfile.specs.Structure.{Structure}
-use Rattle.cl_classfile.specs.Files.{file_of, is_interface, method_key, reference}
+use Rattle.cl_classfile.specs.Files.{file_of, is_interface, method_key}
 use Rattle.cl_classfile.specs.References.{plain_symbol}
 use Rattle.cl_hierarchy.specs.Rows.{Rowed}
-use Rattle.cl_hierarchy.specs.Lineages.{IsRowIn, Lined, kin_at, kin_of, rows_in}
-use Rattle.cl_members.specs.Lookups.{method_owner}
+use Rattle.cl_hierarchy.specs.Lineages.{IsRowIn, kin_at, kin_of, rows_in}
 use Rattle.cl_members.specs.Members.{method_in}
 use Rattle.cl_members.proofs.Located.{no_method, method_reached}
 use Rattle.cl_members.proofs.Owners.{has_flags, method_declares}

@@ -1,4 +1,4 @@
-use Rattle.std.proofs.Common.{◌≡◌, false, Option, Some, None, sym, ap, subst, ◌∙◌}
+use Rattle.std.proofs.Common.{◌≡◌, false, Option, Some, None, sym, ap, subst, ◌∙◌, true}
 use Rattle.std.specs.Prelude.{find, is_some, option_map}
 use Rattle.std.proofs.lemmas.Result.{IfOk-weaker}
 use Rattle.cl_classfile.specs.Files.{file_of, method_key}
@@ -9,8 +9,15 @@ use Rattle.cl_hierarchy.specs.Lineages.{IsRowIn, kin_at, kin_of, rows_in}
 use Rattle.cl_members.specs.Members.{has_public, method_in}
 use Rattle.cl_members.proofs.Inside.{find_all, own_inside}
 use Rattle.cl_members.proofs.Lists.{among_is}
-use Rattle.cl_members.proofs.Owners.{public_is, beyond_public}
+use Rattle.cl_members.proofs.Owners.{public_is, beyond_public, own_of_interface}
 use Rattle.cl_members.proofs.method.interface_method_owner.Goals as goal
+
+pub returns-then-has_method-clause-owner : goal.returns-then-has_method-clause-owner
+returns-then-has_method-clause-owner g c =
+    let there : true ≡ is_some (method_in (method_key (plain_symbol c.args.symbol)) (kin_of c.args.c.now).file) =
+    sym c.if-has_method.true ∙ c.has_method.ensures ∙ ap (λ (r : Rowed). is_some (method_in (method_key (plain_symbol c.args.symbol)) (file_of r.file))) (c.deref.ensures ∙ c.own.ensures.own) in
+    ap (λ (r : Rowed). let made : Option Kin = Some (kin_at c.args.c.now r) in made) (c.in_ok-try_clone.ensures ∙ c.own-then-has_method.ensures.own)
+    ∙ own_of_interface (method_key (plain_symbol c.args.symbol)) (kin_of c.args.c.now) there
 
 pub returns-in-Some-clause-owner : goal.returns-in-Some-clause-owner
 returns-in-Some-clause-owner g c =

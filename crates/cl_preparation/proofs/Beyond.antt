@@ -3,7 +3,7 @@ use Rattle.std.proofs.Common.{◌≡◌, ◌<◌, ◌≤◌, ◌+◌, ℕ, Bool,
 use Rattle.std.specs.Prelude.{slice_get, option_map}
 use Rattle.std.specs.List.{list_any}
 use Rattle.std.proofs.lemmas.List.{length-append, length-map}
-use Rattle.std.proofs.lemmas.Option.{slice_get-map, slice_get-get_or}
+use Rattle.std.proofs.lemmas.Option.{slice_get-map, slice_get-get_or, same_Some}
 use Rattle.cl_classfile.specs.Files.{file_of}
 use Rattle.cl_model.specs.Lineages.{Kin}
 use Rattle.cl_hierarchy.specs.Rows.{Rowed}
@@ -11,9 +11,7 @@ use Rattle.cl_preparation.specs.Fewer.{is_new}
 use Rattle.cl_preparation.specs.Relatives.{AreFilters, AreNames, bare}
 use Rattle.cl_preparation.proofs.Nearby.{listed_step, still}
 use Rattle.cl_preparation.proofs.Walking.{next_dropped}
-
-some_same : {A : Type 0} (a b : A) → (let o : Option A = Some a in o) ≡ Some b → a ≡ b
-some_same a b e = cc
+use Rattle.cl_hierarchy.proofs.Ladders.{row_there}
 
 -- the row at a place
 pub row_at : {A : Type 0} (v : A → Rowed) (xs : List A) (rows : List Rowed) (i : ℕ) (x : A) → map v xs ≡ rows → i < length xs → x ≡ get_or xs i x → slice_get rows i ≡ Some (v x)
@@ -36,7 +34,7 @@ read_from xs ys i x same h at = ap (λ zs. slice_get zs i) (sym same) ∙ slice_
 pub filters_more : (fs : List (Option (List Bool))) (rs : List Rowed) (f : Option (List Bool)) (r : Rowed) → slice_get rs (length fs) ≡ Some r → AreNames (file_of r.file).methods f
     → AreFilters fs rs → AreFilters (fs ++ f ∷ []) rs
 filters_more [] [] f r at is all = tt
-filters_more [] (s ∷ rs) f r at is all = (subst (λ (x : Rowed). AreNames (file_of x.file).methods f) (sym (some_same s r at)) is, tt)
+filters_more [] (s ∷ rs) f r at is all = (subst (λ (x : Rowed). AreNames (file_of x.file).methods f) (sym (same_Some s r at)) is, tt)
 filters_more (g ∷ fs) [] f r at is all = tt
 filters_more (g ∷ fs) (s ∷ rs) f r at is all = (all.0, filters_more fs rs f r at is all.1)
 
@@ -57,18 +55,13 @@ filter_at [] rs (suc i) f r all at there = absurd cc
 filter_at (g ∷ fs) [] zero f r all at there = absurd cc
 filter_at (g ∷ fs) [] (suc i) f r all at there = absurd cc
 filter_at (g ∷ fs) (s ∷ rs) zero f r all at there =
-    subst (λ (x : Rowed). AreNames (file_of x.file).methods f) (some_same s r there) (subst (λ (o : Option (List Bool)). AreNames (file_of s.file).methods o) (some_same g f at) all.0)
+    subst (λ (x : Rowed). AreNames (file_of x.file).methods f) (same_Some s r there) (subst (λ (o : Option (List Bool)). AreNames (file_of s.file).methods o) (same_Some g f at) all.0)
 filter_at (g ∷ fs) (s ∷ rs) (suc i) f r all at there = filter_at fs rs i f r all.1 at there
 
 -- ---- places
 
-there_is : (rows : List Rowed) (i : ℕ) → i < length rows → (r : Rowed) × (slice_get rows i ≡ Some r)
-there_is [] i h = absurd (omega (arith, h))
-there_is (r ∷ rows) zero h = (r, refl)
-there_is (r ∷ rows) (suc i) h = there_is rows i (let k : i < length rows = omega (arith, h) in k)
-
 next_left : (rows : List Rowed) (i : ℕ) (r : Rowed) → i < length rows → slice_get rows i ≡ Some r → drop i rows ≡ r ∷ drop (i + 1) rows
-next_left rows i r h at = next_dropped rows i r h (sym (some_same (get_or rows i r) r (sym (slice_get-get_or rows i r h) ∙ at)))
+next_left rows i r h at = next_dropped rows i r h (sym (same_Some (get_or rows i r) r (sym (slice_get-get_or rows i r h) ∙ at)))
 
 nothing_left : (rows : List Rowed) (i : ℕ) → length rows ≤ i → drop i rows ≡ []
 nothing_left [] zero h = refl
@@ -81,7 +74,7 @@ nothing_left (r ∷ rows) (suc i) h = nothing_left rows i (let k : length rows �
 module _ (p : Rowed → Bool) (rows : List Rowed) (i : ℕ) where
   left_here : (b : Bool) → i < length rows → ((r : Rowed) → slice_get rows i ≡ Some r → b ≡ p r) → list_any p (drop i rows) ≡ (b || list_any p (drop (i + 1) rows))
   left_here b h told =
-      let there = there_is rows i h in
+      let there = row_there rows i h in
       ap (list_any p) (next_left rows i there.0 h there.1) ∙ ap (λ (x : Bool). x || list_any p (drop (i + 1) rows)) (sym (told there.0 there.1))
 
   pub any_here : (b : Bool) → i < length rows → ((r : Rowed) → slice_get rows i ≡ Some r → b ≡ p r) → list_any p (drop i rows) ≡ list_any p rows → b ≡ true → true ≡ list_any p rows
@@ -103,7 +96,7 @@ module _ (test : Kin → Bool) (own : ℕ) (rows : List Rowed) (i : ℕ) (listed
 
   looked : (after : List ℕ) (b : Bool) → (is_new own listed r.class.loader && test (bare r)) ≡ b → after ≡ listed ++ (if b then r.class.loader ∷ [] else []) → after ++ still test own after (drop (i + 1) rows) ≡ total
   looked after b is more =
-      listed_step test own listed listed after total rows i r b h (sym (some_same (get_or rows i r) r (sym (slice_get-get_or rows i r h) ∙ at))) refl (sym is) more before
+      listed_step test own listed listed after total rows i r b h (sym (same_Some (get_or rows i r) r (sym (slice_get-get_or rows i r h) ∙ at))) refl (sym is) more before
 
   -- it is, and such a method is declared: it is listed
   pub listed_open : (after : List ℕ) (part : Bool) → part ≡ test (bare r) → new ≡ true → part ≡ true → after ≡ listed ++ loader ∷ [] → after ++ still test own after (drop (i + 1) rows) ≡ total

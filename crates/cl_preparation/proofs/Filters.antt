@@ -11,9 +11,7 @@ use Rattle.cl_classfile.specs.Structure as structure
 use Rattle.cl_classfile.specs.Files.{Name, Key, Member, declared_by, keyed, member, method_of, same_key, text_at}
 use Rattle.cl_model.proofs.Keys.{keys_are_told}
 use Rattle.cl_preparation.specs.Filters.{Covers, slot}
-
-some_is : (a b : Member) → Some a ≡ Some b → a ≡ b
-some_is a b e = cc
+use Rattle.std.proofs.lemmas.Option.{same_Some}
 
 -- what linking looks at of a method has its name
 keyed_name : (flags : ℕ) (n : Name) (d : Option Name) (m : Member) → keyed method_of flags (Some n) d ≡ Some m → m.key.name ≡ n
@@ -23,7 +21,7 @@ keyed_name flags n (Some d) m e = by_type (whole_method d) e
     made t = record { name = n; descriptor = descriptors.Method t }
 
     by_type : (o : Option MethodType) → option_map (λ k. let x : Member = record { flags = flags; key = k } in x) (option_map made o) ≡ Some m → m.key.name ≡ n
-    by_type (Some t) e = ap (λ (x : Member). x.key.name) (sym (some_is (record { flags = flags; key = made t }) m e))
+    by_type (Some t) e = ap (λ (x : Member). x.key.name) (sym (same_Some (record { flags = flags; key = made t }) m e))
     by_type None e = absurd cc
 keyed_name flags n None m e = absurd cc
 

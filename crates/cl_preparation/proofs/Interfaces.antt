@@ -11,6 +11,7 @@ use Rattle.cl_hierarchy.specs.Lineages.{Lined, kin_of}
 use Rattle.cl_hierarchy.specs.Rows.{Rowed}
 use Rattle.cl_hierarchy.specs.Trees.{forest, in_front, interface_places, interfaces_in, kin_named, kin_under, kins, kins_after, superclass_in}
 use Rattle.cl_preparation.specs.Relatives.{names_interfaces}
+use Rattle.std.proofs.lemmas.Option.{same_Some}
 
 none_named : (ns : List Name) → is_some (slice_get ns 0) ≡ false → ns ≡ []
 none_named [] e = refl
@@ -41,9 +42,6 @@ few_superclasses r = few (file_of r.file).super_name r.places
     few (Some n) [] = inl refl
     few (Some n) (p ∷ places) = inr (class n p, refl)
 
-pub some_kin : (x y : Kin) → (let o : Option Kin = Some x in o) ≡ Some y → x ≡ y
-some_kin x y e = cc
-
 -- none of these has superinterfaces
 abbrev ArePlain : List Kin → Type 0
 ArePlain known = (c : Class) (k : Kin) → kin_named known c ≡ Some k → preorder (in_front (Some k) Bare) false ≡ []
@@ -65,7 +63,7 @@ plain_more : (known : List Kin) (r : Rowed) → ArePlain known → interfaces_in
 plain_more known r plain none = λ c k e. at c k (same_class c r.class) e
   where
     at : (c : Class) (k : Kin) (b : Bool) → (if b then Some (kin_under known r) else kin_named known c) ≡ Some k → preorder (in_front (Some k) Bare) false ≡ []
-    at c k true e = subst (λ (x : Kin). preorder (in_front (Some x) Bare) false ≡ []) (some_kin (kin_under known r) k e) (plain_under known r plain none)
+    at c k true e = subst (λ (x : Kin). preorder (in_front (Some x) Bare) false ≡ []) (same_Some (kin_under known r) k e) (plain_under known r plain none)
     at c k false e = plain c k e
 
 plain_after : (known : List Kin) (rows : List Rowed) → ArePlain known → AllByRecursion (λ r. interface_places r ≡ []) rows → ArePlain (kins_after known rows)

@@ -17,7 +17,7 @@ use Rattle.cl_hierarchy.specs.Lineages.{Lined, kin_at, kin_of}
 use Rattle.std.proofs.lemmas.List.{take-map}
 use mathlib.Core.List.{map-map}
 use Rattle.std.proofs.lemmas.List.Folds.{list_any_at}
-use Rattle.std.proofs.lemmas.Option.{slice_get-get_or, slice_get-map}
+use Rattle.std.proofs.lemmas.Option.{slice_get-get_or, slice_get-map, same_Some}
 use Rattle.cl_preparation.specs.Methods.{is_wide}
 use Rattle.cl_preparation.specs.Named.{told_by_rows}
 use Rattle.cl_preparation.specs.Relatives.{asked, bare}
@@ -29,20 +29,14 @@ keyed_flags : (flags : ℕ) (n d : Option Name) (m : Member) → keyed method_of
 keyed_flags flags (Some n) (Some d) m e = by_key (method_of n d) e
   where
     by_key : (o : Option Key) → option_map (λ k. let made : Member = record { flags = flags; key = k } in made) o ≡ Some m → m.flags ≡ flags
-    by_key (Some k) e = ap (λ (x : Member). x.flags) (sym (some_is (record { flags = flags; key = k }) m e))
-      where
-        some_is : (a b : Member) → Some a ≡ Some b → a ≡ b
-        some_is a b e = cc
+    by_key (Some k) e = ap (λ (x : Member). x.flags) (sym (same_Some (record { flags = flags; key = k }) m e))
     by_key None e = absurd cc
 keyed_flags flags None d m e = absurd cc
 keyed_flags flags (Some n) None m e = absurd cc
 
 -- the flags of the method that was found are those of the one that is meant
 pub flags_named : (f : Structure) (o : Option structure.Member) (p : Option Member) → option_map (linked_method f) o ≡ option_map (λ m. Some m) p → option_map (λ m. m.flags) o ≡ option_map (λ m. m.flags) p
-flags_named f (Some m) (Some n) e = ap (λ (x : ℕ). Some x) (sym (keyed_flags m.flags (text_at f.pool m.name_index) (text_at f.pool m.descriptor_index) n (inner (linked_method f m) (Some n) e)))
-  where
-    inner : (a b : Option Member) → Some a ≡ Some b → a ≡ b
-    inner a b e = cc
+flags_named f (Some m) (Some n) e = ap (λ (x : ℕ). Some x) (sym (keyed_flags m.flags (text_at f.pool m.name_index) (text_at f.pool m.descriptor_index) n (same_Some (linked_method f m) (Some n) e)))
 flags_named f None None e = refl
 flags_named f (Some m) None e = absurd cc
 flags_named f None (Some n) e = absurd cc

@@ -21,7 +21,10 @@ use Rattle.cl_preparation.proofs.Constraints.{flat_same, found_bare, mapped_in, 
 use Rattle.cl_preparation.proofs.Standing.{fewer_stand}
 use Rattle.cl_preparation.proofs.Reached.{overridden_is_walked}
 use Rattle.cl_preparation.proofs.Thinned.{open_enough, others_both}
-use Rattle.cl_preparation.proofs.Walking.{drop_all, next_dropped}
+use Rattle.cl_preparation.proofs.Walking.{next_dropped}
+use Rattle.std.proofs.lemmas.Option.{same_Some}
+use Rattle.cl_hierarchy.proofs.SuperTables.{drop_all}
+use Rattle.cl_hierarchy.proofs.Cuts.{first_same, rest_same}
 
 -- ---- the loops that list loaders
 
@@ -90,26 +93,17 @@ away_enough test own listed (k ∷ ks) =
 
 -- ---- the rows of a lineage
 
-some_row : (x y : Rowed) → (let o : Option Rowed = Some x in o) ≡ Some y → x ≡ y
-some_row x y e = cc
-
 -- a class has one row
 one_row : (rows : List Rowed) (x y : Rowed) → IsRowIn rows x → IsRowIn rows y → x.class ≡ y.class → x ≡ y
-one_row rows x y at_x at_y same = some_row x y (sym at_x ∙ ap (λ (c : Class). row_of rows c) same ∙ at_y)
-
-first_kin : (x y : Kin) (xs ys : List Kin) → x ∷ xs ≡ y ∷ ys → x ≡ y
-first_kin x y xs ys e = cc
-
-rest_kins : (x y : Kin) (xs ys : List Kin) → x ∷ xs ≡ y ∷ ys → xs ≡ ys
-rest_kins x y xs ys e = cc
+one_row rows x y at_x at_y same = same_Some x y (sym at_x ∙ ap (λ (c : Class). row_of rows c) same ∙ at_y)
 
 rows_same : (l : Lined) (xs ys : List Rowed) → AllByRecursion (IsRowIn (rows_in l)) xs → AllByRecursion (IsRowIn (rows_in l)) ys → map (kin_at l) xs ≡ map (kin_at l) ys → xs ≡ ys
 rows_same l [] [] in_x in_y e = refl
 rows_same l [] (y ∷ ys) in_x in_y e = absurd cc
 rows_same l (x ∷ xs) [] in_x in_y e = absurd cc
 rows_same l (x ∷ xs) (y ∷ ys) in_x in_y e =
-    ap (λ (r : Rowed). r ∷ xs) (one_row (rows_in l) x y in_x.0 in_y.0 (ap (λ (k : Kin). k.class) (first_kin (kin_at l x) (kin_at l y) (map (kin_at l) xs) (map (kin_at l) ys) e)))
-    ∙ ap (λ (rs : List Rowed). y ∷ rs) (rows_same l xs ys in_x.1 in_y.1 (rest_kins (kin_at l x) (kin_at l y) (map (kin_at l) xs) (map (kin_at l) ys) e))
+    ap (λ (r : Rowed). r ∷ xs) (one_row (rows_in l) x y in_x.0 in_y.0 (ap (λ (k : Kin). k.class) (first_same (kin_at l x) (kin_at l y) (map (kin_at l) xs) (map (kin_at l) ys) e)))
+    ∙ ap (λ (rs : List Rowed). y ∷ rs) (rows_same l xs ys in_x.1 in_y.1 (rest_same (kin_at l x) (kin_at l y) (map (kin_at l) xs) (map (kin_at l) ys) e))
 
 others_all : (own : ℕ) (P : Rowed → Type 0) (rs : List Rowed) → AllByRecursion P rs → AllByRecursion P (away_from own rs)
 others_all own P [] h = tt

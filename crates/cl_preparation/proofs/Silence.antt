@@ -28,10 +28,10 @@ use Rattle.cl_preparation.specs.Nearby.{AddAll}
 use Rattle.cl_preparation.specs.Inherited.{away_from, first_loader, inherited_by_rows}
 use Rattle.cl_preparation.specs.Quiet.{is_heard, is_silent, names_other}
 use Rattle.cl_preparation.specs.Relatives.{bare}
-use Rattle.cl_preparation.proofs.Interfaces.{some_kin}
 use Rattle.cl_preparation.proofs.Constraints.{flat_same}
 use Rattle.cl_preparation.proofs.Reached.{any_map}
 use Rattle.cl_preparation.proofs.Nearby.{all_added, away_rows, inherited_here, inherits, kins_from, none_differs}
+use Rattle.std.proofs.lemmas.Option.{same_Some}
 
 -- ---- tests
 
@@ -101,7 +101,7 @@ well_more Q P known r fine well = λ c k e. at c k (same_class c r.class) refl e
     }
 
     at : (c : Class) (k : Kin) (b : Bool) → same_class c r.class ≡ b → (if b then Some (kin_under known r) else kin_named known c) ≡ Some k → IsWell Q P c k
-    at c k true s e = subst (λ (x : Kin). IsWell Q P c x) (some_kin (kin_under known r) k e) (here c s)
+    at c k true s e = subst (λ (x : Kin). IsWell Q P c x) (same_Some (kin_under known r) k e) (here c s)
     at c k false s e = well c k e
 
 well_after : (Q : Class → Type 0) (P : Kin → Type 0) (known : List Kin) (rows : List Rowed) → AllByRecursion (IsFine Q P) rows → AreWell Q P known → AreWell Q P (kins_after known rows)
@@ -160,9 +160,6 @@ found : (p : Rowed → Bool) (rs : List Rowed) → list_any p rs ≡ true → Is
 found p [] on = absurd cc
 found p (r ∷ rs) on = one_found p r rs (p r) refl (λ more. found p rs more) on
 
-same_row : (a b : Rowed) → (let o : Option Rowed = Some a in o) ≡ Some b → a ≡ b
-same_row a b e = cc
-
 -- ---- what is inherited
 
 near_step : (own : ℕ) (r : Rowed) (p : Option Rowed) (inst more : Bool) → own ≡ r.class.loader → (inst || more) ≡ true → (more ≡ true → other_than own (option_map (λ a. a.class.loader) p) ≡ None)
@@ -219,7 +216,7 @@ silent_none l near rest away j ae mines known row silent mine =
 
     here : IsFound same near → flat_map (inherited_by_rows true l.own (near ++ rest) j) (bare j).file.methods ≡ []
     here g =
-        let one : j ≡ g.row = same_row j g.row (sym row ∙ ap (row_of (rows_in l)) (sym (is_class g.row.class j.class g.passes)) ∙ g.kept (rows_in l) known) in
+        let one : j ≡ g.row = same_Some j g.row (sym row ∙ ap (row_of (rows_in l)) (sym (is_class g.row.class j.class g.passes)) ∙ g.kept (rows_in l) known) in
         near_none l.own near rest j (bare j).file.methods mines mine (λ q h. g.among q (ap q (sym one) ∙ h))
 
     by : (o n h : Bool) → (l.own.class.loader == j.class.loader) ≡ o → list_any same near ≡ n → list_any (is_heard away j) (bare j).file.methods ≡ h → (not o || (n || not h)) ≡ true
@@ -380,7 +377,7 @@ found_in p [] r e = absurd cc
 found_in p (x ∷ rows) r e = by (p x) (found_in p rows r) e
   where
     by : (b : Bool) → (find p rows ≡ Some r → Contains rows r) → (if b then Some x else find p rows) ≡ Some r → Contains (x ∷ rows) r
-    by true more e = subst (λ (y : Rowed). Contains (x ∷ rows) y) (same_row x r e) (Contains-append_left (x ∷ []) rows x (Contains-push [] x))
+    by true more e = subst (λ (y : Rowed). Contains (x ∷ rows) y) (same_Some x r e) (Contains-append_left (x ∷ []) rows x (Contains-push [] x))
     by false more e = Contains-append_right (x ∷ []) rows r (more e)
 
 unmixed_away : (l : Lined) (r : Rowed) (key : Key) (away : List Rowed) → IsUnmixed (rows_in l) → Contains (rows_in l) r → IsOver l r.class → is_offered key (kin_under [] r) ≡ true → AllByRecursion (IsRowIn (rows_in l)) away

@@ -31,6 +31,7 @@ use Rattle.cl_preparation.specs.declared.declarers.Declarers.{Declarers}
 use Rattle.cl_preparation.specs.declared.declarers.Declarers.TheVariants as declarers
 use Rattle.cl_preparation.specs.declared.declarers.MethodTexts.{MethodTexts}
 use Rattle.cl_preparation.specs.Declarers.{Has, IsNoted, IsRowNoted, Joins, Keeps, NamesAre, is_known, is_noted, same_texts}
+use Rattle.cl_model.proofs.Derivations.{all_map}
 
 -- ---- one method
 
@@ -153,10 +154,6 @@ rows_unmixed {R} {S} names declared rows named noted = λ r j c r_in j_in c_in o
 
 -- ---- as the code tells it
 
-each : {A : Type 0} (P Q : A → Type 0) → ((x : A) → P x → Q x) → (xs : List A) → AllByRecursion P xs → AllByRecursion Q xs
-each P Q f [] all = tt
-each P Q f (x ∷ xs) all = (f x all.0, each P Q f xs all.1)
-
 all_more : {A : Type 0} (P : A → Type 0) (xs : List A) (i : ℕ) (x : A) → i < length xs → x ≡ get_or xs i x → AllByRecursion P (take i xs) → P x → AllByRecursion P (take (i + 1) xs)
 all_more P xs i x h at all here =
     let next : take (i + 1) xs ≡ take i xs ++ x ∷ [] = take_more xs i x h ∙ ap (λ y. take i xs ++ y ∷ []) (sym at) in
@@ -171,13 +168,13 @@ pub members_more : {S : Type 0} (old mid new : IndexMap MethodTexts Declarers S)
     → Keeps old mid × AllByRecursion (IsNoted mid pool named l) (take i ms) → Keeps mid new × IsNoted new pool named l m → Keeps old new × AllByRecursion (IsNoted new pool named l) (take (i + 1) ms)
 members_more old mid new pool named l ms i m h at before step = (
   λ t n a was. step.0 t n a (before.0 t n a was),
-  all_more (IsNoted new pool named l) ms i m h at (each (IsNoted mid pool named l) (IsNoted new pool named l) (noted_still mid new pool named l step.0) (take i ms) before.1) step.1,
+  all_more (IsNoted new pool named l) ms i m h at (all_map (IsNoted mid pool named l) (IsNoted new pool named l) (noted_still mid new pool named l step.0) (take i ms) before.1) step.1,
 )
 
 row_still : {R S : Type 0} (names : IndexSet Name R) (old new : IndexMap MethodTexts Declarers S) → Keeps old new → (r : Rowed) → IsRowNoted names old r → IsRowNoted names new r
 row_still names old new keeps r was =
     let named : Bool = contains same_name names r.class.name in
-    each (IsNoted old r.file.pool named r.class.loader) (IsNoted new r.file.pool named r.class.loader) (noted_still old new r.file.pool named r.class.loader keeps) r.file.methods was
+    all_map (IsNoted old r.file.pool named r.class.loader) (IsNoted new r.file.pool named r.class.loader) (noted_still old new r.file.pool named r.class.loader keeps) r.file.methods was
 
 -- the places of all interfaces were looked at
 few_given : {A B : Type 0} (h : A → Option B) (xs : List A) → length (filter_map h xs) ≤ length xs
@@ -199,21 +196,21 @@ place_within f g indices place i n fe ie h at =
 pub rows_more : {A R S : Type 0} (v : A → Rowed) (names : IndexSet Name R) (old new : IndexMap MethodTexts Declarers S) (rs : List A) (i : ℕ) (r : A) (own : Rowed) → i < length rs → r ≡ get_or rs i r → own ≡ v r
     → AllByRecursion (λ x. IsRowNoted names old (v x)) (take i rs) → Keeps old new × IsRowNoted names new own → AllByRecursion (λ x. IsRowNoted names new (v x)) (take (i + 1) rs)
 rows_more v names old new rs i r own h at oe before step =
-    all_more (λ x. IsRowNoted names new (v x)) rs i r h at (each (λ x. IsRowNoted names old (v x)) (λ x. IsRowNoted names new (v x)) (λ x. row_still names old new step.0 (v x)) (take i rs) before)
+    all_more (λ x. IsRowNoted names new (v x)) rs i r h at (all_map (λ x. IsRowNoted names old (v x)) (λ x. IsRowNoted names new (v x)) (λ x. row_still names old new step.0 (v x)) (take i rs) before)
     (subst (IsRowNoted names new) oe step.1)
 
 -- the names of a row more were put
 pub names_more : {A R : Type 0} (v : A → Rowed) (old new : IndexSet Name R) (rs : List A) (i : ℕ) (r : A) (own : Rowed) → i < length rs → r ≡ get_or rs i r → own ≡ v r
     → AllByRecursion (λ x. NamesAre old (v x)) (take i rs) → Has old new × NamesAre new own → AllByRecursion (λ x. NamesAre new (v x)) (take (i + 1) rs)
 names_more v old new rs i r own h at oe before step =
-    all_more (λ x. NamesAre new (v x)) rs i r h at (each (λ x. NamesAre old (v x)) (λ x. NamesAre new (v x)) (λ x was. λ k n there. step.0 n (was k n there)) (take i rs) before) (subst (NamesAre new) oe step.1)
+    all_more (λ x. NamesAre new (v x)) rs i r h at (all_map (λ x. NamesAre old (v x)) (λ x. NamesAre new (v x)) (λ x was. λ k n there. step.0 n (was k n there)) (take i rs) before) (subst (NamesAre new) oe step.1)
 
 -- those of all rows were put, and then of the last
 pub names_all : {A R : Type 0} (v : A → Rowed) (old new : IndexSet Name R) (l : Lined) (rs : List A) (own : Rowed) (i : ℕ) → map v rs ≡ l.above → own ≡ l.own → i ≡ length rs
     → AllByRecursion (λ x. NamesAre old (v x)) (take i rs) → Has old new × NamesAre new own → AllByRecursion (NamesAre new) (rows_in l)
 names_all v old new l rs own i above oe ie before step =
     let first : AllByRecursion (λ x. NamesAre old (v x)) rs = subst (λ xs. AllByRecursion (λ x. NamesAre old (v x)) xs) (ap (λ (n : ℕ). take n rs) ie ∙ take-length rs) before in
-    let all : AllByRecursion (λ x. NamesAre new (v x)) rs = each (λ x. NamesAre old (v x)) (λ x. NamesAre new (v x)) (λ x was. λ k n there. step.0 n (was k n there)) rs first in
+    let all : AllByRecursion (λ x. NamesAre new (v x)) rs = all_map (λ x. NamesAre old (v x)) (λ x. NamesAre new (v x)) (λ x was. λ k n there. step.0 n (was k n there)) rs first in
     all_both (NamesAre new) l.above (l.own ∷ []) (subst (λ (xs : List Rowed). AllByRecursion (NamesAre new) xs) above (all_forth v (NamesAre new) rs all)) (subst (NamesAre new) oe step.1, tt)
 
 -- so many rows were noted
@@ -232,7 +229,7 @@ all_unmixed v names old new l rs own i many above oe ie me named noted step =
     let counted : length (rows_in l) ≡ length rs + 1 = length_push l.above l.own ∙ ap (λ (n : ℕ). n + 1) (ap (λ (xs : List Rowed). length xs) (sym above) ∙ length-map rs v) in
     let whole : take many (rows_in l) ≡ rows_in l = ap (λ (n : ℕ). take n (rows_in l)) (me ∙ ap (λ (n : ℕ). n + 1) ie ∙ sym counted) ∙ take-length (rows_in l) in
     let first : AllByRecursion (λ x. IsRowNoted names old (v x)) rs = subst (λ xs. AllByRecursion (λ x. IsRowNoted names old (v x)) xs) (ap (λ (n : ℕ). take n rs) ie ∙ take-length rs) noted in
-    let all : AllByRecursion (λ x. IsRowNoted names new (v x)) rs = each (λ x. IsRowNoted names old (v x)) (λ x. IsRowNoted names new (v x)) (λ x. row_still names old new step.0 (v x)) rs first in
+    let all : AllByRecursion (λ x. IsRowNoted names new (v x)) rs = all_map (λ x. IsRowNoted names old (v x)) (λ x. IsRowNoted names new (v x)) (λ x. row_still names old new step.0 (v x)) rs first in
     subst (λ (xs : List Rowed). IsUnmixed xs) (sym whole)
     (rows_unmixed names new (rows_in l) named
     (all_both (IsRowNoted names new) l.above (l.own ∷ []) (subst (λ (xs : List Rowed). AllByRecursion (IsRowNoted names new) xs) above (all_forth v (IsRowNoted names new) rs all)) (subst (IsRowNoted names new) oe step.1, tt)))

@@ -20,16 +20,13 @@ use Rattle.cl_preparation.specs.declared.packages.Package.{Package}
 use Rattle.cl_preparation.specs.Packages.{AreOpened, Opens, packaged, same_packages}
 use Rattle.cl_preparation.specs.Relatives.{Visits, Walking, bare, of_superclasses}
 use Rattle.cl_preparation.specs.Walks.{is_closed, is_in_package, is_open, is_overridden, opened_by, opening, walked}
+use Rattle.cl_hierarchy.proofs.SuperTables.{drop_all}
 
 -- ---- lists
 
 or_turned : (a b c : Bool) → b ≡ c → (if a then true else b) ≡ (a || c)
 or_turned true b c e = refl
 or_turned false b c e = e
-
-pub drop_all : {A : Type 0} (xs : List A) → drop (length xs) xs ≡ []
-drop_all [] = refl
-drop_all (x ∷ xs) = drop_all xs
 
 -- what is left of a list, from an index on
 pub next_dropped : {A : Type 0} (xs : List A) (i : ℕ) (x : A) → i < length xs → x ≡ get_or xs i x → drop i xs ≡ x ∷ drop (i + 1) xs

@@ -1,16 +1,17 @@
 -- What superinterfaces impose with what a class inherits, as rows (JVMS SE 8, 5.4.2).
-use Rattle.std.specs.Prelude.{◌==◌, ℕ, Bool, ◌&&◌, not, if◌then◌else◌, List, [], filter, find, flat_map, Option, is_some, option_map}
+use Rattle.std.specs.Prelude.{ℕ, Bool, ◌&&◌, not, if◌then◌else◌, List, [], filter, find, flat_map, Option, is_some, option_map}
 use Rattle.cl_classfile.specs.Files.{Key, Member}
 use Rattle.cl_model.specs.Lineages.{is_offered, method_of}
 use Rattle.cl_model.specs.Preparation.{takes_part}
 use Rattle.cl_model.specs.States.{Need}
+use Rattle.cl_hierarchy.specs.Lineages.{is_of_other}
 use Rattle.cl_hierarchy.specs.Rows.{Rowed}
 use Rattle.cl_preparation.specs.Fewer.{equals_from, other_than}
 use Rattle.cl_preparation.specs.Relatives.{bare}
 
--- of these classes, those of another loader (5.3)
+-- of these rows, those of classes of another loader (5.3)
 abbrev pub away_from : ℕ → List Rowed → List Rowed
-away_from own rs = filter (λ r. not (own == r.class.loader)) rs
+away_from own rs = filter (λ r. is_of_other own r.class) rs
 
 -- the rows of a class and of its superclasses, nearest first, and whether only the few equalities
 -- are wanted that stand for all (5.4.2)

@@ -5,6 +5,7 @@ use Rattle.cl_classfile.specs.Files.{Member}
 use Rattle.cl_model.specs.Classes.{same_class}
 use Rattle.cl_model.specs.Lineages.{is_offered}
 use Rattle.cl_model.specs.Preparation.{takes_part}
+use Rattle.cl_hierarchy.specs.Lineages.{is_of_other}
 use Rattle.cl_hierarchy.specs.Rows.{Rowed}
 use Rattle.cl_hierarchy.specs.Trees.{interface_places}
 use Rattle.cl_preparation.specs.Relatives.{bare}
@@ -23,6 +24,6 @@ is_heard away r m =
 -- by a superclass of another loader (5.4.2)
 abbrev pub is_silent : ℕ → List Rowed → List Rowed → Rowed → Bool
 is_silent own near away r =
-    not (own == r.class.loader)
+    is_of_other own r.class
     || (list_any (λ s. same_class s.class r.class) near
     || not (list_any (is_heard away r) (bare r).file.methods))

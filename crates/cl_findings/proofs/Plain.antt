@@ -12,8 +12,7 @@ use Rattle.cl_model.specs.Content.{Content}
 use Rattle.cl_delegation.specs.Worlds.{world_of}
 use Rattle.std.specs.declared.sync.Arc.{Arc}
 use Rattle.cl_model.specs.declared.settled.Settled.{Settled}
-use Rattle.cl_findings.specs.Findings.{Answered, Based, IsLoad, IsLink, IsLookedUp, Rests, VerdictRests, loader_of}
-use Rattle.cl_findings.specs.Loads.{Resolves}
+use Rattle.cl_findings.specs.Findings.{Answered, Based, IsLoad, IsLink, IsLookedUp, Resolves, Rests, VerdictRests, loader_of}
 
 pub class_rests : (told : Option Content) (r : Request) (c : Class) → IsLoad r → Rests told (record { request = r; answer = answers.Said (verdicts.Class c); basis = None })
 class_rests None r c is = tt
@@ -52,7 +51,7 @@ linkage_apart (requests.Link loader name) n h = h
 resolve_apart : (loader : ℕ) (name : List ℕ) (i : ℕ) (v : Verdict) → IsLookedUp (requests.Resolve loader name i) v → ⊥
 resolve_apart loader name i v h = h
 
-pub reference_apart : (r : Request) (d : Class) (i : ℕ) (v : Verdict) → Resolves r d i → IsLookedUp r v → ⊥
+pub reference_apart : (r : Request) (d : Class) (i : ℕ) (v : Verdict) → Resolves r d.name i → IsLookedUp r v → ⊥
 reference_apart r d i v is h = resolve_apart (loader_of r) d.name i v (subst (λ (q : Request). IsLookedUp q v) is h)
 
 -- a verdict with its basis

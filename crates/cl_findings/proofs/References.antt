@@ -34,21 +34,20 @@ use Rattle.cl_members.specs.Asking.{IsFoundAs, IsLocated, Located}
 use Rattle.cl_members.specs.declared.fault.LookupFault.{LookupFault}
 use Rattle.cl_members.specs.declared.fault.LookupFault.TheVariants as faults
 use Rattle.cl_findings.specs.Bases.{AreLineages}
-use Rattle.cl_findings.specs.Findings.{Based, Placed, Rests, VerdictRests, loader_of}
-use Rattle.cl_findings.specs.Loads.{Resolves}
+use Rattle.cl_findings.specs.Findings.{Based, Placed, Resolves, Rests, VerdictRests, loader_of}
 use Rattle.cl_findings.specs.References.{AreAsked, EndsAtClass, EndsAtOnce, GoesTo, IsAtClass, IsAtOnce, IsLookupError, IsOfFound, asked_basis, class_basis, config_of, entry_basis, fault_verdict, index_of, member_basis, sprung_needs}
 use Rattle.cl_findings.proofs.Files.{kept_lineage}
 use Rattle.cl_findings.proofs.Plain.{grounded, linkage_apart, reference_apart}
 
 -- ---- past the load of the request's class
 
-goes_to_end : (w : World) (s : State) (r : request.Request) (d : Class) (i : ℕ) (m : Made Verdict) → IsClosed w s → Resolves r d i → recorded s.records (loader_of r) d.name ≡ Some d.loader → GoesThrough w s d i m
+goes_to_end : (w : World) (s : State) (r : request.Request) (d : Class) (i : ℕ) (m : Made Verdict) → IsClosed w s → Resolves r d.name i → recorded s.records (loader_of r) d.name ≡ Some d.loader → GoesThrough w s d i m
     → AllMet s m.needs → EndsHere w s (request_of r) (ending m.ends)
 goes_to_end w s r d i m closed is rec goes met =
     subst (λ (q : request.Request). EndsHere w s (request_of q) (ending m.ends)) (sym is)
     (gone_on_ends w s (Resolve (loader_of r) d.name i) (class d.name d.loader) m.needs (ending m.ends) (resolve_goes_on w s (loader_of r) d.loader i d.name m closed rec goes) met)
 
-goes_to_next : (w : World) (s : State) (r : request.Request) (d : Class) (i : ℕ) (m : Made Verdict) (n : Need) → IsClosed w s → Resolves r d i → recorded s.records (loader_of r) d.name ≡ Some d.loader → GoesThrough w s d i m
+goes_to_next : (w : World) (s : State) (r : request.Request) (d : Class) (i : ℕ) (m : Made Verdict) (n : Need) → IsClosed w s → Resolves r d.name i → recorded s.records (loader_of r) d.name ≡ Some d.loader → GoesThrough w s d i m
     → IsNext s m.needs n → IsNextNeed w s (request_of r) n
 goes_to_next w s r d i m n closed is rec goes next =
     subst (λ (q : request.Request). IsNextNeed w s (request_of q) n) (sym is)
@@ -211,7 +210,7 @@ next_at s [] k n e h = absurd cc
 next_at s (x ∷ ns) zero n e h = inl (some_same x n e)
 next_at s (x ∷ ns) (suc k) n e h = inr (h.0, next_at s ns k n e h.1)
 
-placed_reference : (w : World) (s : State) (r : request.Request) (d : Class) (i : ℕ) (n : Need) → Resolves r d i → Placed w s (request_of r) n []
+placed_reference : (w : World) (s : State) (r : request.Request) (d : Class) (i : ℕ) (n : Need) → Resolves r d.name i → Placed w s (request_of r) n []
 placed_reference w s r d i n is = subst (λ (q : request.Request). Placed w s (request_of q) n []) (sym is) tt
 
 asked_rests_at : (content : Content) (r : request.Request) (from : Sprung) (needs : List Need) (k : ℕ) (need : rust.Need) → AreAsked r from → AreLineages (Some content) from → AreOf from needs

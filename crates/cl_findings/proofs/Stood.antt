@@ -4,7 +4,7 @@ use Rattle.std.specs.Prelude.{slice_get, take, IfSome}
 use Rattle.std.specs.List.{AllByRecursion}
 use Rattle.cl_model.specs.declared.class.Class.{Class}
 use Rattle.cl_model.specs.Classes.{class, Above}
-use Rattle.cl_model.specs.States.{State, Need, AllMet, Met}
+use Rattle.cl_model.specs.States.{State, Need, AllMet}
 use Rattle.cl_model.specs.Frames.{Frame, KeepsAccepted, kept_of}
 use Rattle.cl_model.proofs.Closed.{met_both}
 use Rattle.cl_model.proofs.Progress.{met_split}
@@ -65,14 +65,6 @@ one_of_first P [] n k lt h = tt
 one_of_first P (x ∷ xs) zero k lt h = absurd (omega arith)
 one_of_first P (x ∷ xs) (suc n) zero lt h = h.0
 one_of_first P (x ∷ xs) (suc n) (suc k) lt h = one_of_first P xs n k (omega arith) h.1
-
-pub met_all : (s : State) (ns : List Need) → AllByRecursion (Met s) ns → AllMet s ns
-met_all s [] h = tt
-met_all s (n ∷ ns) h = (h.0, met_all s ns h.1)
-
-pub all_met : (s : State) (ns : List Need) → AllMet s ns → AllByRecursion (Met s) ns
-all_met s [] h = tt
-all_met s (n ∷ ns) h = (h.0, all_met s ns h.1)
 
 pub mapped : {A B : Type 0} (P : B → Type 0) (f : A → B) (xs : List A) → AllByRecursion (λ x. P (f x)) xs → AllByRecursion P (map f xs)
 mapped P f [] h = tt

@@ -86,9 +86,13 @@ IsLink (requests.Load loader name) = ⊥
 IsLink (requests.Resolve loader name i) = ⊥
 IsLink (requests.Link loader name) = Unit {0}
 
+-- the request resolves the entry at an index of the pool of the class of this name (5.4.3)
+abbrev pub Resolves : request.Request → List ℕ → ℕ → Type 0
+Resolves r name i = r ≡ requests.Resolve (loader_of r) name i
+
 -- what is settled is the entry that a request resolves (5.4.3)
 abbrev pub IsSettledFor : request.Request → Settled → Type 0
-IsSettledFor r s = r ≡ requests.Resolve (loader_of r) s.class.name s.index
+IsSettledFor r s = Resolves r s.class.name s.index
 
 -- ---- in the words of the linkage machine
 

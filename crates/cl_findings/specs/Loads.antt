@@ -7,9 +7,7 @@ use Rattle.cl_model.specs.declared.verdict.ErrorKind.TheVariants as kinds
 use Rattle.cl_model.specs.declared.verdict.Verdict as verdict
 use Rattle.cl_model.specs.declared.verdict.Verdict.TheVariants as verdicts
 use Rattle.cl_model.specs.declared.request.Request as request
-use Rattle.cl_model.specs.declared.request.Request.TheVariants as requests
 use Rattle.cl_model.specs.Content.{Content}
-use Rattle.cl_model.specs.declared.class.Class.{Class}
 use Rattle.cl_model.specs.Classes.{class}
 use Rattle.cl_model.specs.States.{Need, Entry}
 use Rattle.cl_model.specs.Frames.{IsFrame, class_named, kept_of, path_of, wanted}
@@ -18,10 +16,11 @@ use Rattle.cl_delegation.specs.Searches.{Located}
 use Rattle.cl_delegation.specs.Worlds.{world_of}
 use Rattle.cl_hierarchy.specs.declared.draft.DraftFault.{DraftFault}
 use Rattle.cl_hierarchy.specs.declared.draft.DraftFault.TheVariants as drafts
+use Rattle.cl_hierarchy.specs.Drafts.{Drafted}
 use Rattle.cl_hierarchy.specs.Frames.{Framed, frame_of}
 use Rattle.cl_hierarchy.specs.Paths.{Pathed, frames_of, at_loader, at_name, is_on, misfit_under}
 use Rattle.cl_hierarchy.specs.Rows.{Rowed}
-use Rattle.cl_findings.specs.Findings.{Based, loader_of, name_of}
+use Rattle.cl_findings.specs.Findings.{Based, Resolves, loader_of, name_of}
 use Rattle.cl_findings.specs.declared.load.Target.{Target}
 use Rattle.cl_findings.specs.declared.load.Target.TheVariants as targets
 use Rattle.cl_findings.specs.declared.load.Obstacle.{Obstacle}
@@ -36,15 +35,11 @@ pub record IsOwn (r : request.Request) (p : Pathed) : Type 0 where
   pub loader : loader_of r ≡ p.loader
   pub name : name_of r ≡ p.name
 
--- the request resolves the entry at an index of the pool of this class (5.4.3)
-abbrev pub Resolves : request.Request → Class → ℕ → Type 0
-Resolves r d i = r ≡ requests.Resolve (loader_of r) d.name i
-
 -- the path loads the class that the request's entry of the class of a row names, through the loader
 -- that defined that class (5.4.3.1)
 pub record IsReferred (r : request.Request) (d : Rowed) (p : Pathed) : Type 0 where
   pub index : ℕ
-  pub of : Resolves r d.class index
+  pub of : Resolves r d.class.name index
   pub cited : Reference
   pub found : reference (file_of d.file) index ≡ Some cited
   pub names : class_named cited ≡ Some p.name
@@ -146,15 +141,27 @@ abbrev pub ComesNext : {A : Type 0} → Option Content → Pathed → NextRecord
 ComesNext told p (nexts.Define x) = IsWhole told p x
 ComesNext told p (nexts.Initiate h) = IsSought p h.value × (h.value.place ≢ at_loader p)
 
+-- the record that a definition makes: that of the class by its own loader (5.3.5, step 5)
+abbrev pub own_record : Drafted → Need
+own_record d = Entry d.class.loader d.class.name d.class.loader
+
+-- the record that an initiation makes: that of the home's class by the loader that was asked (5.3)
+abbrev pub asked_record : Located → Need
+asked_record h = Entry h.asked h.name h.place
+
+-- the record of the home's class by the home itself (5.3)
+abbrev pub home_record : Located → Need
+home_record h = Entry h.place h.name h.place
+
 -- what the record needs before it: those of the supertypes, or the home's own (5.3, 5.3.5)
 abbrev pub next_needs : {A : Type 0} → NextRecord A → List Need
 next_needs (nexts.Define x) = kept_of (frame_of x ∷ [])
-next_needs (nexts.Initiate h) = Entry h.value.place h.value.name h.value.place ∷ []
+next_needs (nexts.Initiate h) = home_record h.value ∷ []
 
 -- the record as a need (5.3)
 abbrev pub next_need : {A : Type 0} → NextRecord A → Need
-next_need (nexts.Define x) = Entry x.draft.class.loader x.draft.class.name x.draft.class.loader
-next_need (nexts.Initiate h) = Entry h.value.asked h.value.name h.value.place
+next_need (nexts.Define x) = own_record x.draft
+next_need (nexts.Initiate h) = asked_record h.value
 
 -- what its refusal rests on: the request's class, where that is loaded already, what the path has
 -- accepted, and what the record needs before it (5.3, 5.3.4)

@@ -48,8 +48,7 @@ use Rattle.cl_members.specs.Asking.{Located}
 use Rattle.cl_members.specs.Asking as asking
 use Rattle.cl_members.specs.declared.fault.LookupFault.{LookupFault}
 use Rattle.cl_members.specs.declared.fault.LookupFault.TheVariants as faults
-use Rattle.cl_findings.specs.Findings.{Based, loader_of}
-use Rattle.cl_findings.specs.Loads.{Resolves}
+use Rattle.cl_findings.specs.Findings.{Based, Resolves, loader_of}
 
 -- the index of the entry that a request resolves; of another request it tells nothing (5.4.3)
 abbrev pub index_of : request.Request → ℕ
@@ -76,7 +75,7 @@ EndsAtOnce (Some cited) v = (class_named cited ≡ None) × (v ≡ nameless cite
 
 -- the request's entry of the class of a row names no class, and so it ends (5.4.3)
 pub record IsAtOnce (r : request.Request) (d : Rowed) (v : Verdict) : Type 0 where
-  pub of : Resolves r d.class (index_of r)
+  pub of : Resolves r d.class.name (index_of r)
   pub ends : EndsAtOnce (reference (file_of d.file) (index_of r)) v
 
 -- what an accessible class that an entry names makes of it, where it is no member (5.4.3.1, 5.3.3)
@@ -95,7 +94,7 @@ EndsAtClass true cited c v = IsClassItself cited c v
 -- the request's entry of the class d names the class c, and so it ends without a look at members
 -- (5.4.3.1, 5.4.4)
 pub record IsAtClass (r : request.Request) (d c : Rowed) (v : Verdict) : Type 0 where
-  pub of : Resolves r d.class (index_of r)
+  pub of : Resolves r d.class.name (index_of r)
   pub cited : Reference
   pub found : reference (file_of d.file) (index_of r) ≡ Some cited
   pub names : class_named cited ≡ Some c.class.name
@@ -116,7 +115,7 @@ class_basis config r d c =
 -- the request's entry of the class d names the class c, which is accessible; both were made by
 -- registries of one configuration (5.4.3.1, 5.4.4)
 pub record GoesTo (r : request.Request) (d c : Lined) (index : ℕ) : Type 0 where
-  pub of : Resolves r d.own.class index
+  pub of : Resolves r d.own.class.name index
   pub config : c.config ≡ d.config
   pub accessible : class_accessible (kin_of c).file.flags (kin_of c).class (kin_of d).class ≡ true
 

@@ -31,11 +31,12 @@ use Rattle.cl_registry.specs.declared.registry.RegistryFault.TheVariants.{Memory
 use Rattle.cl_registry.specs.Kept.{Fields, IsRegistry}
 use Rattle.cl_registry.specs.Parts.{IsPut}
 use Rattle.cl_registry.specs.Refusals.{AddRefusedFor, Blames, BlamesIn, DefineRefusedFor, InitiateRefusedFor, JoinRefusedFor}
-use Rattle.cl_registry.specs.Tables.{Shown, state_of, records_of, IsKept, ArePlaced, with_define, with_initiate, looked, row_for, place_in, own_record, asked_record, FitsAs, IsNew, LacksRecord, MayEnter, MayJoin, Records, Defines, DefinedAs, Initiates, InitiatedAs}
+use Rattle.cl_registry.specs.Tables.{Shown, state_of, records_of, IsKept, ArePlaced, with_define, with_initiate, looked, row_for, place_in, FitsAs, IsNew, LacksRecord, MayEnter, MayJoin, Records, Defines, DefinedAs, Initiates, InitiatedAs}
 use Rattle.cl_registry.proofs.Running.{may_record}
 use Rattle.cl_registry.proofs.Looked.{looked_push, looked_some, looked_records, at_self, fresh_row, row_push}
 use Rattle.cl_registry.proofs.Allowed.{closed_of, draft_at_home, entered_is_allowed, joined_is_allowed, recorded_at, row_of_some}
 use Rattle.cl_registry.proofs.Kept.{grown, state_event, settled_same, kept_event, same_rounds, none_settled, rows_same, placed_more, registry_event, moved, HasRoom, AreRowsBy}
+use Rattle.cl_findings.specs.Loads.{asked_record, own_record}
 
 -- what adding a need to a book comes to, in the states that it stands for
 abbrev pub BookAdds : (State → Type 0) → (State → Type 0) → Need → Type 0

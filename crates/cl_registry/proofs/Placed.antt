@@ -10,7 +10,6 @@ use Rattle.cl_model.specs.declared.event.Event.{Event}
 use Rattle.cl_model.specs.declared.event.Event.TheVariants as events
 use Rattle.cl_model.specs.Content.{Content}
 use Rattle.cl_model.specs.Classes.{class, same_class}
-use Rattle.cl_model.specs.Classes as classes
 use Rattle.cl_model.specs.States.{State, Record, start, Answer, recorded}
 use Rattle.cl_model.specs.Machine.{Scheduled, Define, after, state_after}
 use Rattle.cl_model.specs.Tables.{Orderly}

@@ -4,7 +4,7 @@ use Rattle.std.specs.Prelude.{nat_eq, slice_get, slice_set, option_and_then, IsS
 use Rattle.std.specs.List.{AllByRecursion, list_any}
 use Rattle.std.proofs.lemmas.List.{append-nil, length-set, length_push}
 use Rattle.std.proofs.lemmas.List.Elements.{All-push, All-same, All-set, All-get_or}
-use Rattle.std.proofs.lemmas.Option.{slice_get_within, slice_get-get_or, get_or_from_slice_get}
+use Rattle.std.proofs.lemmas.Option.{slice_get_within, slice_get-get_or, get_or_from_slice_get, same_Some}
 use Rattle.std.proofs.lemmas.Cmp.{nat_eq_equiv}
 use Rattle.cl_classfile.specs.Files.{Name}
 use Rattle.cl_model.specs.declared.class.Class.{Class}
@@ -37,13 +37,9 @@ use Rattle.cl_registry.proofs.Counts.{get_set_other}
 -- a request of this round is of no later one
 pub not_later : (x : Shown) (q n round : ℕ) → slice_get x.script.rounds_of q ≡ Some n → n ≤ round → round ≡ round_of x → IsLater x q → ⊥
 not_later x q n round at le is later =
-    let same : later.round ≡ n = some_same later.round n (sym later.of ∙ at) in
+    let same : later.round ≡ n = same_Some later.round n (sym later.of ∙ at) in
     let l = later.later in
     absurd (omega (arith, le, is, same, l))
-  where
-    some_same : (a b : ℕ) → Some a ≡ Some b → a ≡ b
-    some_same a b e = cc
-
 -- ---- the tables allow it, under any source
 
 may_tell : (x : Shown) (q : ℕ) (f : Answered) → IsTrusted x → Fits x q f → MayTell (schedule_of x.script) (state_of x) q (answer_of f.answer)

@@ -18,7 +18,8 @@ use Rattle.cl_findings.specs.Bases.{IsListed}
 use Rattle.cl_registry.specs.Imposing.{AreOfConfig, IsListOf, IsReady, MayImpose}
 use Rattle.cl_registry.specs.Posting.{Fits}
 use Rattle.cl_registry.specs.Refusals.{DefineRefusedFor}
-use Rattle.cl_registry.specs.Tables.{Shown, state_of, records_of, NamesLoaders, IsKept, IsAsked, IsNew, LacksRecord, MayEnter, MayJoin, own_record, asked_record, MayGoOn}
+use Rattle.cl_registry.specs.Tables.{Shown, state_of, records_of, NamesLoaders, IsKept, IsAsked, IsNew, LacksRecord, MayEnter, MayJoin, MayGoOn}
+use Rattle.cl_findings.specs.Loads.{asked_record, own_record}
 
 -- a class of this configuration that the machine may define has no record and may be entered, and is not refused (5.3.4, 5.3.5)
 abbrev pub AllowedIsEntered : Type 0

@@ -14,7 +14,7 @@ use Rattle.cl_model.specs.States.{State, Need, Verdict, recorded, IsRecorded, Me
 use Rattle.cl_model.specs.Content.{Content}
 use Rattle.cl_config.specs.Views.{Configured}
 use Rattle.cl_delegation.specs.Worlds.{setting_of}
-use Rattle.cl_hierarchy.specs.Imposed.{Listed, AreEnough, AreOf, Sprung, OfPreparation, OfReference, equal_need, needs_of}
+use Rattle.cl_hierarchy.specs.Imposed.{Listed, AreEnough, Sprung, OfPreparation, OfReference, equal_need, needs_of}
 use Rattle.cl_hierarchy.specs.Lineages.{Lined, kin_of}
 use Rattle.cl_registry.specs.Tables.{Shown, records_of, state_of}
 

@@ -16,10 +16,11 @@ use Rattle.cl_hierarchy.specs.Drafts.{Drafted}
 use Rattle.cl_hierarchy.specs.Imposed.{Listed}
 use Rattle.cl_findings.specs.Findings.{Answered}
 use Rattle.cl_registry.specs.Imposing.{Imposes, IsNextOf, IsPreparedBy, MayImpose, MayMark}
-use Rattle.cl_registry.specs.Tables.{Shown, IsKept, state_of, IsNew, LacksRecord, MayEnter, MayJoin, own_record, asked_record, IsAsked, IsLater, IsOpen, MayGoOn}
+use Rattle.cl_registry.specs.Tables.{Shown, IsKept, state_of, IsNew, LacksRecord, MayEnter, MayJoin, IsAsked, IsLater, IsOpen, MayGoOn}
 use Rattle.cl_registry.specs.References.{settled_by}
 use Rattle.cl_registry.specs.Settling.{MaySettle}
 use Rattle.cl_registry.specs.Posting.{IsBacked}
+use Rattle.cl_findings.specs.Loads.{asked_record, own_record}
 
 -- this need, and no other, is refused: adding it would violate an equality (5.3.4)
 pub record Blames (x : Shown) (blamed : Need) (need : states.Need) : Type 0 where

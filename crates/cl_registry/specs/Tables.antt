@@ -1,5 +1,5 @@
 -- What a registry keeps, and what a call does to it (JVMS SE 8, 5.3, 5.3.5).
-use Rattle.std.specs.Prelude.{◌≡◌, ◌<◌, ℕ, Bool, false, ◌&&◌, ◌==◌, nat_eq, List, [], ◌∷◌, ◌++◌, length, map, Option, Some, None, is_some, unwrap_or, replicate, find, slice_get, slice_set, option_and_then, IsSome, IfSome, All}
+use Rattle.std.specs.Prelude.{◌≡◌, ◌<◌, ℕ, ◌&&◌, ◌==◌, nat_eq, List, [], ◌∷◌, ◌++◌, length, map, Option, Some, None, is_some, unwrap_or, replicate, find, slice_get, slice_set, option_and_then, IsSome, IfSome, All}
 use Rattle.std.specs.HashMap.{HashMap, get}
 use Rattle.std.specs.List.{AllByRecursion, list_any}
 use Rattle.std.specs.Cmp.Lexicographic.{pointwise}
@@ -12,7 +12,7 @@ use Rattle.cl_model.specs.declared.settled.Settled.{Settled}
 use Rattle.cl_model.specs.Content.{Content}
 use Rattle.cl_model.specs.Classes.{class, same_class, Above, supers, misfit}
 use Rattle.cl_model.specs.Texts.{AnswerNames, EventNames, VerdictNames}
-use Rattle.cl_model.specs.States.{State, Record, Need, Entry, recorded, start, Refused}
+use Rattle.cl_model.specs.States.{State, Record, recorded, start, Refused}
 use Rattle.cl_model.specs.Machine.{Step, state_after, Run}
 use Rattle.cl_model.specs.Machine as machine
 use Rattle.cl_model.specs.Tables as tables
@@ -27,6 +27,7 @@ use Rattle.cl_hierarchy.specs.Rows.{Rowed}
 use Rattle.cl_hierarchy.specs.Lineages.{row_of}
 use Rattle.cl_hierarchy.specs.RowTables.{AreRows}
 use Rattle.cl_findings.specs.Findings.{Answered}
+use Rattle.cl_findings.specs.Loads.{asked_record, own_record}
 
 -- what a registry shows: whose it is, the rows of the classes that were defined, in order, what happened, and the answer of
 -- each request that has one
@@ -196,10 +197,6 @@ pub record MayEnter (x : Shown) (d : Drafted) : Type 0 where
 abbrev pub with_define : Shown → Drafted → Shown
 with_define x d = record x { rows = x.rows ++ row_for x d ∷ []; history = x.history ++ events.Define d.class ∷ [] }
 
--- the record that a definition makes (5.3.5, step 5)
-abbrev pub own_record : Drafted → Need
-own_record d = Entry d.class.loader d.class.name d.class.loader
-
 -- an event more with its row, where its record is not refused; or no event and the row that stands, where the loader has
 -- recorded the name (5.3.4, 5.3.5)
 abbrev pub DefinedAs : Shown → Shown → Drafted → Rowed → Option ℕ → Type 0
@@ -221,10 +218,6 @@ pub record MayJoin (x : Shown) (h : Located) : Type 0 where
 -- the loader that was asked is recorded as initiating (5.3)
 abbrev pub with_initiate : Shown → Located → Shown
 with_initiate x h = record x { history = x.history ++ events.Initiate (class h.name h.place) h.asked ∷ [] }
-
--- the record that an initiation makes (5.3)
-abbrev pub asked_record : Located → Need
-asked_record h = Entry h.asked h.name h.place
 
 -- an event more and the row of the home's class, where its record is not refused; or no event and the row that stands, where the
 -- loader has recorded the name (5.3, 5.3.4)

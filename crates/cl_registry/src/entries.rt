@@ -9,7 +9,8 @@ ghost use Rattle.cl_registry.specs.Parts.{EachHas, HasSameRows, IsPut, is_there,
 ghost use Rattle.cl_model.specs.declared.need.Need.TheVariants as needs;
 ghost use Rattle.cl_constraints.specs.Books.{Adds};
 ghost use Rattle.cl_registry.specs.Refusals.{BlamesIn, fault_of};
-ghost use Rattle.cl_registry.specs.Tables.{asked_record, own_record, row_at};
+ghost use Rattle.cl_registry.specs.Tables.{row_at};
+ghost use Rattle.cl_findings.specs.Loads.{asked_record, own_record};
 
 use crate::registry::RegistryFault;
 use crate::tables::{Rows, find, insert_reserved, place, reserve_row};

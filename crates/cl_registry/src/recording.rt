@@ -5,7 +5,8 @@ ghost use Rattle.cl_delegation.specs.Searches.{LeadsTo};
 ghost use Rattle.cl_findings.specs.Findings.{Decides};
 ghost use Rattle.cl_registry.specs.declared.registry.RegistryFault.TheVariants.{Memory};
 ghost use Rattle.cl_registry.specs.Refusals.{AddRefusedFor, DefineRefusedFor, InitiateRefusedFor, JoinRefusedFor};
-ghost use Rattle.cl_registry.specs.Tables.{DefinedAs, Defines, InitiatedAs, Initiates, IsKept, IsNew, LacksRecord, MayEnter, MayJoin, Records, asked_record, looked, own_record};
+ghost use Rattle.cl_registry.specs.Tables.{DefinedAs, Defines, InitiatedAs, Initiates, IsKept, IsNew, LacksRecord, MayEnter, MayJoin, Records, looked};
+ghost use Rattle.cl_findings.specs.Loads.{asked_record, own_record};
 
 use crate::entries::{asked_row, defined_row, has_supers, join, own_row, record};
 use crate::fits::supertypes_fit;

@@ -24,7 +24,7 @@ use Rattle.cl_registry.specs.Imposing.{Constrains, Imposes, MarksBy, MayImpose, 
 use Rattle.cl_registry.specs.References.{Cited, IsSettledIn, settled_by}
 use Rattle.cl_registry.specs.Refusals.{Blames, DefineRefusedFor, ImposeRefusedFor, InitiateRefusedFor, LineageRefusedFor, MarkRefusedFor, SettleRefusedFor}
 use Rattle.cl_registry.specs.Settling.{MaySettle, SettledAs, Settles}
-use Rattle.cl_registry.specs.Tables.{Shown, Defines, DefinedAs, Initiates, InitiatedAs, MayEnter, MayJoin, asked_record, own_record, records_of, row_for, settled_at, state_of}
+use Rattle.cl_registry.specs.Tables.{Shown, Defines, DefinedAs, Initiates, InitiatedAs, MayEnter, MayJoin, records_of, row_for, settled_at, state_of}
 use Rattle.cl_registry.proofs.Settled.{settled_is_told}
 use Rattle.cl_tasks.specs.Follows.{IsSettledOf}
 use Rattle.cl_tasks.specs.Waits.{Waits, Defining, Initiating, Tracing, Settling, Imposing, Marking, Ended}
@@ -32,6 +32,7 @@ use Rattle.cl_schedule.specs.Replies.{Did, ImposesBy, PreparesBy, SettlesBy, rep
 use Rattle.cl_schedule.proofs.Histories.{goes_by, goes_event}
 use Rattle.cl_model.proofs.Bind.{some_same}
 use Rattle.std.proofs.lemmas.Option.{none-some}
+use Rattle.cl_findings.specs.Loads.{asked_record, own_record}
 
 -- ---- what was done
 

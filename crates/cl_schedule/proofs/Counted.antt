@@ -18,7 +18,7 @@ use Rattle.cl_tasks.specs.Turns.{Expects, IsReplyTo}
 use Rattle.cl_tasks.specs.Waits.{Waits, Reading}
 use Rattle.cl_schedule.proofs.Stations.{no_posts}
 use Rattle.cl_schedule.specs.Replies.{IsCall}
-use Rattle.cl_schedule.specs.Counting.{fault, faults, told_faults, RoseBy, Grows, FaultsGrow}
+use Rattle.cl_schedule.specs.Counting.{fault, faults, told_faults, RoseBy, Grows, CountGrows}
 
 pub grows_none : (old : ℕ) → Grows 0 old old
 grows_none old = record { stays = λ e. e; rose = inl (omega arith) }
@@ -64,7 +64,7 @@ grows_on n m a b c g none h = subst (λ (k : ℕ). Grows k a c) (omega arith) (g
 pub grows_quiet : (n m a b : ℕ) → Grows n a b → n ≡ 0 → m ≡ 0 → Grows m a b
 grows_quiet n m a b g none still = subst (λ (k : ℕ). Grows k a b) (none ∙ sym still) g
 
-pub faults_then : (xs ys : List (Option Answer)) (a b c : ℕ) → Grows (faults xs) a b → FaultsGrow xs ys b c → Grows (faults ys) a c
+pub faults_then : (xs ys : List (Option Answer)) (a b c : ℕ) → Grows (faults xs) a b → CountGrows (faults xs) (faults ys) b c → Grows (faults ys) a c
 faults_then xs ys a b c g h = subst (λ (k : ℕ). Grows k a c) (sym h.counted) (grows_then (faults xs) h.number a b c g h.grows)
 
 -- ---- an answer and the reply before it
@@ -101,5 +101,5 @@ read_grows A old new sources.Device c = rises_grows old new c
 read_grows A old new sources.TooLarge c = rises_grows old new c
 read_grows A old new sources.Twice c = absurd c
 
-pub post_grows : (xs ys : List (Option Answer)) (q : ℕ) (a : Answer) (n old new : ℕ) → slice_get xs q ≡ Some None → ys ≡ slice_set xs q (Some a) → fault a ≡ n → Grows n old new → FaultsGrow xs ys old new
+pub post_grows : (xs ys : List (Option Answer)) (q : ℕ) (a : Answer) (n old new : ℕ) → slice_get xs q ≡ Some None → ys ≡ slice_set xs q (Some a) → fault a ≡ n → Grows n old new → CountGrows (faults xs) (faults ys) old new
 post_grows xs ys q a n old new opened e one g = record { number = fault a; counted = ap faults e ∙ faults_set xs q a opened; grows = subst (λ (k : ℕ). Grows k old new) (sym one) g }

@@ -20,10 +20,12 @@ use Rattle.cl_registry.proofs.Histories.{open_answer}
 use Rattle.cl_registry.proofs.Running.{answered}
 use Rattle.cl_registry.proofs.Schedules.{some_at, schedule_round}
 use Rattle.cl_schedule.specs.Choices.{is_waiting, waiting_from}
-use Rattle.cl_schedule.specs.Seats.{AreOfRound, HasGathered, MayGather, numbers_from}
+use Rattle.cl_schedule.specs.Seats.{AreOfRound, HasGathered, MayGather}
 use Rattle.cl_schedule.proofs.Rounds.{schedule_length, within}
 use Rattle.cl_schedule.proofs.Waiting.{none_some, none_there, put}
 use Rattle.cl_model.proofs.Bind.{some_same}
+use Rattle.cl_schedule.proofs.Serving.{numbers_push}
+use Rattle.cl_schedule.specs.Serving.{numbers_from}
 
 -- ---- while they are put down
 
@@ -41,10 +43,6 @@ gathering_none s first ws none within = record {
   within = within;
   alike = λ p least below. absurd (omega arith);
 }
-
-numbers_push : (q n : ℕ) → numbers_from q n ++ (q + n) ∷ [] ≡ numbers_from q (suc n)
-numbers_push q zero = let same : q + 0 ≡ q = omega arith in ap (λ (k : ℕ). k ∷ []) same
-numbers_push q (suc n) = let same : q + suc n ≡ suc q + n = omega arith in ap (λ (k : ℕ). q ∷ (numbers_from (suc q) n ++ k ∷ [])) same ∙ ap (λ (xs : List ℕ). q ∷ xs) (numbers_push (suc q) n)
 
 pub gathering_push : (s : Scripted) (first : ℕ) (ws new : List ℕ) (next : ℕ) → Gathering s first ws next → new ≡ ws ++ next ∷ [] → next < length s.requests → slice_get s.rounds_of next ≡ slice_get s.rounds_of first → Gathering s first new (next + 1)
 gathering_push s first ws new next g is within same =

@@ -15,7 +15,7 @@ use Rattle.cl_schedule.specs.Serving.{IsPost, NoPosts}
 pub has_stays : (s : State) (es : List Step) (r : Request) (v : Verdict) → Has s r v → Has (state_after s es) r v
 has_stays s es (Load loader name) v h = (h.0, (h.1.0, records_stay s es loader h.0.loader name h.1.1), h.2)
 has_stays s es (Resolve loader name i) v h = (h.0, (h.1.0, records_stay s es loader h.0.loader name h.1.1), settled_stay s es h.0 i v h.2)
-has_stays s es (Link loader name) v h = (h.0, (h.1.0, records_stay s es loader h.0.loader name h.1.1), prepared_stay s es h.0 h.2, h.3)
+has_stays s es (Link loader name) v h = (h.0, (h.1.0, records_stay s es loader h.0.loader name h.1.1), (prepared_stay s es h.0 h.2.0, h.2.1))
 
 -- a post of a request whose verdict a state has is of it, or tells that memory ran out
 abbrev pub SaysKnown : List Scheduled → State → Step → Type 0

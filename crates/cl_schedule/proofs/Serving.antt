@@ -16,10 +16,17 @@ use Rattle.cl_config.specs.Views.{Configured}
 use Rattle.cl_registry.specs.Tables.{Shown, IsTrusted, RunsAs, IsOpen, posts}
 use Rattle.cl_registry.specs.Reports.{IsReport}
 use Rattle.cl_registry.proofs.Histories.{is_in_push, unposted}
-use Rattle.cl_schedule.specs.Serving.{upto, reported}
+use Rattle.cl_schedule.specs.Serving.{upto, reported, numbers_from}
+
+pub numbers_push : (q n : ℕ) → numbers_from q n ++ (q + n) ∷ [] ≡ numbers_from q (suc n)
+numbers_push q zero = let same : q + 0 ≡ q = omega arith in ap (λ (k : ℕ). k ∷ []) same
+numbers_push q (suc n) = let same : q + suc n ≡ suc q + n = omega arith in ap (λ (k : ℕ). q ∷ (numbers_from (suc q) n ++ k ∷ [])) same ∙ ap (λ (xs : List ℕ). q ∷ xs) (numbers_push (suc q) n)
+
+pub upto_push : (n : ℕ) → upto n ++ n ∷ [] ≡ upto (suc n)
+upto_push n = let same : n ≡ 0 + n = omega arith in ap (λ (k : ℕ). upto n ++ k ∷ []) same ∙ numbers_push 0 n
 
 pub next_upto : (q : ℕ) (xs ys : List ℕ) → xs ≡ ys ++ q ∷ [] → ys ≡ upto q → xs ≡ upto (q + 1)
-next_upto q xs ys e h = rw (add-one, e, h) refl
+next_upto q xs ys e h = e ∙ ap (λ (zs : List ℕ). zs ++ q ∷ []) h ∙ upto_push q ∙ ap upto (sym (add-one q))
 
 -- what a report tells of a registry: all but its rows
 abbrev pub bare : Shown → Shown
@@ -43,7 +50,7 @@ bare_runs (Some content) x run = run
 
 pub in_upto : (n q : ℕ) → q < n → list_any (nat_eq q) (upto n) ≡ true
 in_upto zero q below = absurd (omega arith)
-in_upto (suc n) q below = is_in_push (upto n) q n ∙ by_test (nat_eq q n) refl (in_upto n q)
+in_upto (suc n) q below = ap (list_any (nat_eq q)) (sym (upto_push n)) ∙ is_in_push (upto n) q n ∙ by_test (nat_eq q n) refl (in_upto n q)
   where
     or_true : (b : Bool) → (b || true) ≡ true
     or_true true = refl
@@ -61,7 +68,7 @@ in_upto (suc n) q below = is_in_push (upto n) q n ∙ by_test (nat_eq q n) refl 
 
 pub not_in_upto : (n q : ℕ) → n ≤ q → list_any (nat_eq q) (upto n) ≡ false
 not_in_upto zero q above = refl
-not_in_upto (suc n) q above = is_in_push (upto n) q n ∙ both (list_any (nat_eq q) (upto n)) (nat_eq q n) (not_in_upto n q (omega arith)) (other q n above)
+not_in_upto (suc n) q above = ap (list_any (nat_eq q)) (sym (upto_push n)) ∙ is_in_push (upto n) q n ∙ both (list_any (nat_eq q) (upto n)) (nat_eq q n) (not_in_upto n q (omega arith)) (other q n above)
   where
     both : (a b : Bool) → a ≡ false → b ≡ false → (a || b) ≡ false
     both a b p e = rw (p, e) refl

@@ -21,8 +21,8 @@ use Rattle.cl_tasks.specs.declared.turn.Reply.{Reply}
 use Rattle.cl_tasks.specs.declared.turn.Reply.TheVariants as reply
 use Rattle.cl_tasks.specs.declared.turn.Turn.{Turn}
 use Rattle.cl_tasks.specs.declared.turn.Turn.TheVariants as turn
-use Rattle.cl_schedule.specs.Known.{Has, SaysOrLacks, TellsKnown}
-use Rattle.cl_schedule.specs.Nearing.{AtHand, HasOf, OwnCall}
+use Rattle.cl_schedule.specs.Known.{Has, HasOf, SaysOrLacks, TellsKnown}
+use Rattle.cl_schedule.specs.Nearing.{AtHand, OwnCall}
 use Rattle.cl_schedule.specs.Replies.{Did, IsCall, IsRead, IsReplied, IsStepOf}
 use Rattle.cl_schedule.proofs.Places.{some_none}
 use Rattle.cl_tasks.proofs.Lacking.{posts_or}
@@ -46,13 +46,13 @@ one_class s loader name c d kept named is =
     let n : c.name ≡ d.name = kept.0 ∙ sym named in
     rw (n, at) refl
 
-has_of : (x : Shown) (r : Request) (v : Verdict) (row : Rowed) → Has (state_of x) (request_of r) v → IsRecordedAs x (loader_of r) (name_of r) row → HasOf (state_of x) r row.class v
+has_of : (x : Shown) (r : Request) (v : Verdict) (row : Rowed) → Has (state_of x) (request_of r) v → IsRecordedAs x (loader_of r) (name_of r) row → HasOf (state_of x) (request_of r) row.class v
 has_of x (requests.Load loader name) v row h k = h.2 ∙ ap (λ (c : Class). IsClass c) (one_class (state_of x) loader name h.0 row.class h.1 k.named k.recorded)
 has_of x (requests.Resolve loader name i) v row h k =
     subst (λ (c : Class). settled_to (state_of x).settled c i ≡ Some v) (one_class (state_of x) loader name h.0 row.class h.1 k.named k.recorded) h.2
 has_of x (requests.Link loader name) v row h k =
     let same = one_class (state_of x) loader name h.0 row.class h.1 k.named k.recorded in
-    (subst (λ (c : Class). Contains (state_of x).prepared c) same h.2, h.3 ∙ ap (λ (c : Class). IsLinked c) same)
+    (subst (λ (c : Class). Contains (state_of x).prepared c) same h.2.0, h.2.1 ∙ ap (λ (c : Class). IsLinked c) same)
 
 has_record : (s : State) (r : Request) (v : Verdict) → Has s (request_of r) v → (place : ℕ) × (recorded s.records (loader_of r) (name_of r) ≡ Some place)
 has_record s (requests.Load loader name) v h = (h.0.loader, h.1.1)
@@ -61,7 +61,7 @@ has_record s (requests.Link loader name) v h = (h.0.loader, h.1.1)
 
 -- ---- from a reply to the call
 
-goes_call : {A : Type 0} (s : State) (r : Request) (c : Class) (v : Verdict) (new : Tasked) (u : Turn A) → HasOf s r c v → GoesOnWith r c new u → IsCall u → OwnCall s r v new u
+goes_call : {A : Type 0} (s : State) (r : Request) (c : Class) (v : Verdict) (new : Tasked) (u : Turn A) → HasOf s (request_of r) c v → GoesOnWith r c new u → IsCall u → OwnCall s r v new u
 goes_call s (requests.Load loader name) c v new u has goes call = absurd (no_post_or (rust.TheVariants.Said (verdicts.Class c)) u goes call)
 goes_call s (requests.Resolve loader name i) c v new (turn.LookReference d j) has goes call =
     subst (λ (k : ℕ). settled_to s.settled d k ≡ Some v) (sym goes.1) (subst (λ (k : Class). settled_to s.settled k i ≡ Some v) (sym goes.0) has)
@@ -169,7 +169,7 @@ says : (v : Verdict) (f a : rust.Answer) → answer_of a ≡ Said v → (f ≡ a
 says v f a is (inl e) = inl (ap answer_of e ∙ is)
 says v f a is (inr e) = inr (ap answer_of e)
 
-class_says : (s : State) (r : Request) (c : Class) (v : Verdict) (A : Type 0) (new : Tasked) (f : Answered) → HasOf s r c v → GoesOnWith {A = A} r c new (turn.Post f) → SaysOrLacks v (answer_of f.answer)
+class_says : (s : State) (r : Request) (c : Class) (v : Verdict) (A : Type 0) (new : Tasked) (f : Answered) → HasOf s (request_of r) c v → GoesOnWith {A = A} r c new (turn.Post f) → SaysOrLacks v (answer_of f.answer)
 class_says s (requests.Load loader name) c v A new f has goes = says v f.answer (rust.TheVariants.Said (verdicts.Class c)) (ap (λ (k : Verdict). Said k) (sym has)) goes
 class_says s (requests.Resolve loader name i) c v A new f has goes = inr (ap answer_of goes)
 class_says s (requests.Link loader name) c v A new f has goes = inr (ap answer_of goes)

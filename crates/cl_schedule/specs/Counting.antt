@@ -36,10 +36,10 @@ pub record Grows (n old new : ℕ) : Type 0 where
   pub stays : old + 1 ≡ 2 ^ 64 → new + 1 ≡ 2 ^ 64
   pub rose : RoseBy n old new
 
--- so many answers more are faults of the source, and the count rose by as many
-pub record FaultsGrow (given more : List (Option Answer)) (old new : ℕ) : Type 0 where
+-- this number is the other one and as many as the count rose by
+pub record CountGrows (given more old new : ℕ) : Type 0 where
   pub number : ℕ
-  pub counted : faults more ≡ faults given + number
+  pub counted : more ≡ given + number
   pub grows : Grows number old new
 
 -- one where a reply tells of a fault of the source that is not out of memory
@@ -55,12 +55,6 @@ abbrev pub CountsFaults : Report → ℕ → ℕ → Type 0
 CountsFaults r old new = RoseBy (faults (map (λ a. Some a) r.answers)) old new
 
 -- ---- what is still to be posted
-
--- this number is the other one and as many as the count rose by
-pub record CountGrows (given more old new : ℕ) : Type 0 where
-  pub number : ℕ
-  pub counted : more ≡ given + number
-  pub grows : Grows number old new
 
 -- one where a turn asks to post a fault of the source
 abbrev pub owed : {A : Type 0} → Turn A → ℕ

@@ -4,18 +4,23 @@ use Rattle.cl_model.specs.declared.answer.Answer as rust
 use Rattle.cl_model.specs.declared.class.Class.{Class}
 use Rattle.cl_model.specs.declared.request.Request as requests
 use Rattle.cl_model.specs.States.{State, start, Verdict, IsClass, IsLinked, Answer, Said, OutOfMemory, settled_to}
-use Rattle.cl_model.specs.Plans.{Request, Load, Resolve, Link}
+use Rattle.cl_model.specs.Plans.{Request, Load, Resolve, Link, loaded_by}
 use Rattle.cl_model.specs.Machine.{Scheduled, Step, Post, state_after}
 use Rattle.cl_model.specs.Tables.{Records}
 use Rattle.cl_model.specs.Views.{answer_of, request_of}
 use Rattle.cl_config.specs.Loaders.{schedule_of}
 use Rattle.cl_registry.specs.Tables.{Shown, state_of, steps, with_post}
 
--- the tables have a request's verdict: its class is recorded, its reference is settled, its class is prepared (5.3, 5.4.2, 5.4.3)
+-- the tables have the verdict of a request whose class is this one: it is recorded, the reference is settled, the class is
+-- prepared (5.3, 5.4.2, 5.4.3)
+abbrev pub HasOf : State → Request → Class → Verdict → Type 0
+HasOf s (Load loader name) c v = v ≡ IsClass c
+HasOf s (Resolve loader name i) c v = settled_to s.settled c i ≡ Some v
+HasOf s (Link loader name) c v = Contains s.prepared c × (v ≡ IsLinked c)
+
+-- the tables have a request's verdict, its class with it (5.3, 5.4.2, 5.4.3)
 abbrev pub Has : State → Request → Verdict → Type 0
-Has s (Load loader name) v = (c : Class) × Records s loader name c × (v ≡ IsClass c)
-Has s (Resolve loader name i) v = (d : Class) × Records s loader name d × (settled_to s.settled d i ≡ Some v)
-Has s (Link loader name) v = (c : Class) × Records s loader name c × Contains s.prepared c × (v ≡ IsLinked c)
+Has s r v = (c : Class) × Records s (loaded_by r).loader (loaded_by r).name c × HasOf s r c v
 
 -- this verdict, or out of memory
 abbrev pub SaysOrLacks : Verdict → Answer → Type 0

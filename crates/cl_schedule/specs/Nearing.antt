@@ -2,9 +2,8 @@
 use Rattle.std.specs.Prelude.{◌≡◌, ◌<◌, ℕ, true, [], Some, Contains}
 use Rattle.cl_model.specs.declared.class.Class.{Class}
 use Rattle.cl_model.specs.declared.request.Request.{Request}
-use Rattle.cl_model.specs.declared.request.Request.TheVariants as requests
-use Rattle.cl_model.specs.States.{State, Verdict, IsClass, IsLinked, settled_to}
-use Rattle.cl_model.specs.Views.{answer_of, verdict_of}
+use Rattle.cl_model.specs.States.{State, Verdict, IsLinked, settled_to}
+use Rattle.cl_model.specs.Views.{answer_of, verdict_of, request_of}
 use Rattle.cl_findings.specs.Findings.{loader_of, name_of}
 use Rattle.cl_tasks.specs.Tasks.{Tasked}
 use Rattle.cl_tasks.specs.Turns.{KnowsOne}
@@ -13,21 +12,15 @@ use Rattle.cl_tasks.specs.declared.turn.Reply.{Reply}
 use Rattle.cl_tasks.specs.declared.turn.Reply.TheVariants as reply
 use Rattle.cl_tasks.specs.declared.turn.Turn.{Turn}
 use Rattle.cl_tasks.specs.declared.turn.Turn.TheVariants as turn
-use Rattle.cl_schedule.specs.Known.{Has, SaysOrLacks}
+use Rattle.cl_schedule.specs.Known.{Has, HasOf, SaysOrLacks}
 use Rattle.cl_schedule.specs.Takings.{Measure}
 
 -- ---- the way to a verdict that the tables have
 
--- the tables have a request's verdict, whose class is this one (5.3, 5.4.2, 5.4.3)
-abbrev pub HasOf : State → Request → Class → Verdict → Type 0
-HasOf s (requests.Load loader name) c v = v ≡ IsClass c
-HasOf s (requests.Resolve loader name i) c v = settled_to s.settled c i ≡ Some v
-HasOf s (requests.Link loader name) c v = Contains s.prepared c × (v ≡ IsLinked c)
-
 -- what a task is told on its way to a verdict that the tables have (5.3, 5.4.2, 5.4.3)
 abbrev pub AtHand : {A : Type 0} → State → Request → Verdict → Tasked → Reply A → Type 0
 AtHand s r v t reply.Start = Unit {0}
-AtHand s r v t (reply.Looked (Some row)) = (t.waits ≡ Looking (loader_of r) (name_of r)) × (t.frames ≡ []) × (t.facts ≡ []) × HasOf s r row.value.class v
+AtHand s r v t (reply.Looked (Some row)) = (t.waits ≡ Looking (loader_of r) (name_of r)) × (t.frames ≡ []) × (t.facts ≡ []) × HasOf s (request_of r) row.value.class v
 AtHand s r v t (reply.LookedReference (Some e)) = verdict_of e.value.verdict ≡ v
 AtHand s r v t (reply.LookedPrepared true) = (c : Class) × (t.waits ≡ LookingPrepared c) × (v ≡ IsLinked c) × KnowsOne t
 AtHand s r v t reply.Memory = Unit {0}

@@ -12,7 +12,7 @@ use Rattle.cl_hierarchy.specs.Imposed.{Listed, Sprung, OfReference, OfPreparatio
 use Rattle.cl_registry.specs.declared.registry.RegistryFault.{RegistryFault}
 use Rattle.cl_registry.specs.declared.registry.RegistryFault.TheVariants as faults
 use Rattle.cl_registry.specs.Settling.{IsToSettle}
-use Rattle.cl_registry.specs.Tables.{Shown, IsKept, records_of, state_of}
+use Rattle.cl_registry.specs.Tables.{Shown, IsKept, records_of, state_of, LacksRecord}
 use Rattle.cl_tasks.specs.Waits.{Waits, Looking, LookingReference, LookingPrepared}
 use Rattle.cl_tasks.specs.Turns.{IsReplyTo, call_of}
 use Rattle.cl_tasks.specs.Follows.{TellsOf}
@@ -43,7 +43,7 @@ IsOfTables other = Unit {0}
 -- a look finds nothing only where nothing is recorded, settled or prepared, and memory is wanting only where something is to be
 -- shared (5.3, 5.4.2, 5.4.3)
 abbrev pub Shows : {A : Type 0} → Shown → Waits → Reply A → Type 0
-Shows x (Looking l n) (reply.Looked None) = recorded (records_of x) l n ≡ None
+Shows x (Looking l n) (reply.Looked None) = LacksRecord x l n
 Shows x (Looking l n) reply.Memory = IsSome (recorded (records_of x) l n)
 Shows x (LookingReference c i) (reply.LookedReference None) = settled_to (state_of x).settled c i ≡ None
 Shows x (LookingReference c i) reply.Memory = IsSome (settled_to (state_of x).settled c i)

@@ -1,5 +1,5 @@
 -- A request that was begun and waits for its next turn, and who waits of a script (JVMS SE 8, 5.3 to 5.4.3).
-use Rattle.std.specs.Prelude.{◌≡◌, ◌+◌, ◌<◌, ◌≤◌, ℕ, zero, suc, List, [], ◌∷◌, ◌++◌, length, Option, Some, slice_get}
+use Rattle.std.specs.Prelude.{◌≡◌, ◌+◌, ◌<◌, ◌≤◌, ℕ, List, ◌++◌, length, Option, Some, slice_get}
 use Rattle.cl_config.specs.Loaders.{schedule_of}
 use Rattle.cl_config.specs.Views.{Scripted}
 use Rattle.cl_hierarchy.specs.Rows.{Rowed}
@@ -28,7 +28,7 @@ use Rattle.cl_tasks.specs.declared.turn.Turn.TheVariants as turn
 use Rattle.cl_schedule.specs.Blames.{IsAskedFor, TurnBlames}
 use Rattle.cl_schedule.specs.Choices.{waiting}
 use Rattle.cl_schedule.specs.Replies.{Did, IsCall, IsRead}
-use Rattle.cl_schedule.specs.Serving.{machine}
+use Rattle.cl_schedule.specs.Serving.{machine, numbers_from}
 
 -- ---- a registry later on
 
@@ -146,11 +146,6 @@ pub record MayGather (x : Shown) (next : ℕ) : Type 0 where
   pub begun : (p : ℕ) → p < next → IsLater x p → ⊥
   pub answered : (p : ℕ) → p < next → IsOpen x p → ⊥
   pub open_later : (p : ℕ) → next ≤ p → p < length x.script.requests → IsOpen x p
-
--- so many numbers, from this one on
-abbrev pub numbers_from : ℕ → ℕ → List ℕ
-numbers_from q zero = []
-numbers_from q (suc n) = q ∷ numbers_from (suc q) n
 
 -- these are the numbers of all requests of one round that stand from one number on; the next one is of another round
 pub record AreOfRound (s : Scripted) (first : ℕ) (ws : List ℕ) (next : ℕ) : Type 0 where

@@ -17,10 +17,14 @@ use Rattle.cl_registry.specs.Tables.{Shown, posts, steps, state_of}
 use Rattle.cl_tasks.specs.Blames.{AnswerBlames}
 use Rattle.cl_schedule.specs.Blames.{IsAskedFor}
 
+-- so many numbers, from this one on
+abbrev pub numbers_from : ℕ → ℕ → List ℕ
+numbers_from q zero = []
+numbers_from q (suc n) = q ∷ numbers_from (suc q) n
+
 -- the numbers below a number, in order
 abbrev pub upto : ℕ → List ℕ
-upto zero = []
-upto (suc n) = upto n ++ n ∷ []
+upto n = numbers_from 0 n
 
 -- how often a number stands in a list
 abbrev pub times : ℕ → List ℕ → ℕ

@@ -4,7 +4,7 @@ ghost use Rattle.cl_findings.specs.Findings.{loader_of};
 ghost use Rattle.cl_registry.specs.Posting.{IsBacked};
 ghost use Rattle.cl_registry.specs.Tables.{IsAsked, IsKept, IsLater, IsOpen, with_post};
 ghost use Rattle.cl_tasks.specs.declared.turn.Turn.TheVariants as turns;
-ghost use Rattle.cl_schedule.specs.Counting.{CountsFaults, FaultsGrow};
+ghost use Rattle.cl_schedule.specs.Counting.{CountGrows, CountsFaults, faults};
 ghost use Rattle.cl_schedule.specs.Headline.{IsServedInOrder};
 ghost use Rattle.cl_schedule.specs.Replies.{IsCall};
 ghost use Rattle.cl_schedule.specs.Known.{TellsKnown};
@@ -113,7 +113,7 @@ fn serve_request<T: Told, S: Source<T>>(
     requires kept { IsKept T.told registry.old }
     ensures done { IsDone T.told registry.old registry.new q request }
     ensures known { TellsKnown registry.old registry.new q request source.old source.new }
-    ensures faults { FaultsGrow registry.old.answers registry.new.answers
+    ensures faults { CountGrows (faults registry.old.answers) (faults registry.new.answers)
         (S.refused source.old) (S.refused source.new) }
     ensures kept { IsKept T.told registry.new }
 {

@@ -13,7 +13,6 @@ use Rattle.cl_hierarchy.specs.Imposed.{Listed, OfPreparation, Sprung, needs_of, 
 use Rattle.cl_hierarchy.specs.Lineages.{Lined, rows_in}
 use Rattle.cl_hierarchy.specs.Rows.{Rowed}
 use Rattle.cl_hierarchy.proofs.Ends.{at_length}
-use Rattle.cl_findings.proofs.Stood.{met_all, all_met}
 use Rattle.cl_registry.specs.Tables.{Shown, records_of, state_of}
 use Rattle.cl_registry.specs.Traced.{IsRowOf, IsTraced}
 use Rattle.cl_registry.proofs.Schedules.{some_at}
@@ -22,6 +21,7 @@ use Rattle.cl_tasks.specs.Stages.{chain_facts, class_in, classes_in, goal_facts,
 use Rattle.cl_tasks.specs.Tasks.{Fact, HasLineage, IsPrepared}
 use Rattle.cl_tasks.specs.declared.stage.Chain.{Chain}
 use Rattle.cl_tasks.proofs.Facts.{stand_met, met_stand, prepared_all}
+use Rattle.cl_hierarchy.proofs.Enough.{each_met, met_each}
 
 -- ---- lists of facts
 
@@ -64,8 +64,8 @@ taken_more P xs k a h e p =
 
 pub met_more : (x : Shown) (e : Listed) (i : ℕ) (y : Equality) → slice_get e.needs i ≡ Some y → AllMet (state_of x) (take i (needs_of e.needs)) → Met (state_of x) (equal_need y) → AllMet (state_of x) (take (i + 1) (needs_of e.needs))
 met_more x e i y at met one =
-    met_all (state_of x) (take (i + 1) (needs_of e.needs))
-    (taken_more (Met (state_of x)) (needs_of e.needs) i (equal_need y) (all_met (state_of x) (take i (needs_of e.needs)) met) (slice_get-map equal_need e.needs i ∙ ap (λ (o : Option Equality). option_map equal_need o) at) one)
+    each_met (state_of x) (take (i + 1) (needs_of e.needs))
+    (taken_more (Met (state_of x)) (needs_of e.needs) i (equal_need y) (met_each (state_of x) (take i (needs_of e.needs)) met) (slice_get-map equal_need e.needs i ∙ ap (λ (o : Option Equality). option_map equal_need o) at) one)
 
 pub mapped_at : {A B : Type 0} (f : A → B) (xs : List A) (k : ℕ) (a : A) → slice_get xs k ≡ Some a → slice_get (map f xs) k ≡ Some (f a)
 mapped_at f xs k a e = slice_get-map f xs k ∙ ap (λ (o : Option _). option_map f o) e

@@ -33,7 +33,7 @@ use Rattle.cl_findings.specs.declared.load.Target.{Target}
 use Rattle.cl_findings.specs.declared.load.Target.TheVariants as targets
 use Rattle.cl_findings.specs.declared.load.NextRecord.TheVariants as nexts
 use Rattle.cl_findings.specs.Findings.{Based}
-use Rattle.cl_findings.specs.Loads.{IsFor, IsSought, IsWhole, refused_at}
+use Rattle.cl_findings.specs.Loads.{IsFor, IsSought, IsWhole, refused_at, home_record}
 use Rattle.cl_findings.proofs.Loads.{away_rests, whole_rests}
 use Rattle.cl_findings.proofs.Whole.{completed_is_whole, root_is_whole}
 use Rattle.cl_registry.specs.Tables.{MayEnter, Shown, records_of, state_of}
@@ -43,7 +43,7 @@ use Rattle.cl_tasks.specs.Follows.{CallsWithin, IsWanted, ServedIn}
 use Rattle.cl_tasks.specs.Measures.{Phase, left_at, loading, most, turns}
 use Rattle.cl_tasks.specs.Measures as phases
 use Rattle.cl_tasks.specs.Rooms.{Room, calls_at, room_at, room_of}
-use Rattle.cl_tasks.specs.Stages.{IsHoming, IsJob, home_need, job_calls, past_left, sought_ask}
+use Rattle.cl_tasks.specs.Stages.{IsHoming, IsJob, job_calls, past_left, sought_ask}
 use Rattle.cl_tasks.specs.Steps.{DefinesBy, Finds, FindsAt, HoldsOn, Leads, LeadsAt, LeadsBy, LeadsFrom}
 use Rattle.cl_tasks.specs.Waits as waits
 use Rattle.cl_tasks.specs.declared.stage.Job.{Job}
@@ -263,7 +263,7 @@ away_wanted {A} told j h job path sought other lead g y served holds rec =
     let i = h.value in
     let need : rust.Need = needs.Entry i.asked i.name i.place in
     let b : Based = refused_at {B = A} j.request j.target j.path (nexts.Initiate h) in
-    let met : AllMet (state_of y) b.needs = path_met y j (home_need i ∷ []) holds (rec, tt) in
+    let met : AllMet (state_of y) b.needs = path_met y j (home_record i ∷ []) holds (rec, tt) in
     let next : IsNextNeed g.world (state_of y) (request_of j.request) (Entry i.asked i.name i.place) =
     (concludes_at told j.path.config g (state_of y) j.request (verdicts.Linkage need) b served (away_rests told j.request j.target j.path i need job.for_request job.spelt path (sought, other) lead refl) refl refl met).next in
     record { need = next; step = λ may. record_is_next g (state_of y) (request_of j.request) i.asked i.place i.name next may }

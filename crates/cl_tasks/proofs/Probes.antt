@@ -14,8 +14,8 @@ use Rattle.cl_model.proofs.Derivations.{all_map}
 use Rattle.cl_model.proofs.Derived.{all_both}
 use Rattle.cl_tasks.specs.Measures.{loading, most, turns, left_at}
 use Rattle.cl_tasks.specs.Measures as phases
-use Rattle.cl_tasks.specs.Stages.{next_place, probes_left}
-use Rattle.cl_tasks.specs.Steps.{IsPlain, ReadsAt, Seeks, reads_on, reads_left, way_on}
+use Rattle.cl_tasks.specs.Stages.{next_place, probes_left, Seeks}
+use Rattle.cl_tasks.specs.Steps.{IsPlain, ReadsAt, reads_on, reads_left, way_on}
 use Rattle.cl_model.specs.Probes.{in_turn, route_at, routed, route_below, route_from, route}
 use Rattle.cl_hierarchy.specs.Paths.{Pathed, at_loader, at_name}
 use Rattle.cl_tasks.specs.Turns.{IsBehind}

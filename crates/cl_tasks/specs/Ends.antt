@@ -18,8 +18,8 @@ use Rattle.cl_findings.specs.declared.load.Obstacle.{Obstacle}
 use Rattle.cl_findings.specs.declared.load.Target.{Target}
 use Rattle.cl_findings.specs.declared.load.Target.TheVariants as targets
 use Rattle.cl_findings.specs.Bases.{IsSpeltIn}
-use Rattle.cl_findings.specs.Findings.{Answered, Rests}
-use Rattle.cl_findings.specs.Loads.{IsFor, Resolves, basis_at, next_need, next_needs, refused_at, verdict_at}
+use Rattle.cl_findings.specs.Findings.{Answered, Resolves, Rests}
+use Rattle.cl_findings.specs.Loads.{IsFor, basis_at, next_need, next_needs, refused_at, verdict_at}
 use Rattle.cl_registry.specs.Tables.{Shown, state_of}
 use Rattle.cl_tasks.specs.Steps.{HoldsOn}
 use Rattle.cl_tasks.specs.declared.ends.Aftermath.{Aftermath}
@@ -56,7 +56,7 @@ pub record IsForEntry {A : Type 0} (j : Job A) (e : entries.Entry A) : Type 0 wh
   pub class : e.d.value ≡ row.value
   pub number : e.q ≡ j.q
   pub same : e.request ≡ j.request
-  pub of : Resolves e.request e.d.value.class e.index
+  pub of : Resolves e.request e.d.value.class.name e.index
 
 -- what follows where a load does not end with its class (5.3.5, 5.4.3)
 abbrev pub IsAftermath : {A : Type 0} → Job A → Aftermath A → Type 0

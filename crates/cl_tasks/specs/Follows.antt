@@ -10,7 +10,7 @@ use Rattle.cl_model.specs.declared.request.Request.{Request}
 use Rattle.cl_model.specs.declared.request.Request.TheVariants as requests
 use Rattle.cl_model.specs.declared.settled.Settled.{Settled}
 use Rattle.cl_model.specs.Content.{Content}
-use Rattle.cl_model.specs.States.{State, Need, Entry, recorded, settled_to, IsRecorded, Met, MayAdd, Refused}
+use Rattle.cl_model.specs.States.{State, Need, recorded, settled_to, IsRecorded, Met, MayAdd, Refused}
 use Rattle.cl_model.specs.Homes.{World}
 use Rattle.cl_model.specs.Machine.{Setting, Settle, Prepare, IsPlan, IsSound, step_for}
 use Rattle.cl_model.specs.Plans.{Plan, cost}
@@ -24,7 +24,7 @@ use Rattle.cl_delegation.specs.Worlds.{setting_of}
 use Rattle.cl_hierarchy.specs.Imposed.{OfReference, OfPreparation, Sprung}
 use Rattle.cl_findings.specs.Findings.{Answered, loader_of, name_of}
 use Rattle.cl_findings.specs.References.{index_of}
-use Rattle.cl_registry.specs.Tables.{Shown, state_of, records_of, NamesLoaders, MayEnter, MayJoin}
+use Rattle.cl_registry.specs.Tables.{Shown, state_of, NamesLoaders, MayEnter, MayJoin, LacksRecord}
 use Rattle.cl_registry.specs.Imposing.{IsNextOf, IsPreparedBy, MayImpose, MayMark}
 use Rattle.cl_registry.specs.Traced.{IsTraced}
 use Rattle.cl_registry.specs.References.{IsSettledIn}
@@ -38,6 +38,7 @@ use Rattle.cl_tasks.specs.declared.turn.Reply.{Reply}
 use Rattle.cl_tasks.specs.declared.turn.Reply.TheVariants as reply
 use Rattle.cl_tasks.specs.declared.turn.Turn.{Turn}
 use Rattle.cl_tasks.specs.declared.turn.Turn.TheVariants as turn
+use Rattle.cl_findings.specs.Loads.{asked_record, own_record}
 
 -- ---- what a reply tells of the tables, and stays so
 
@@ -67,7 +68,7 @@ pub record Tells {A : Type 0} (x : Shown) (t : Tasked) (r : Reply A) : Type 0 wh
 
 -- what a look found, or that it found nothing: true of the tables that were looked at, until that is recorded (5.3)
 abbrev pub Unrecorded : {A : Type 0} → Shown → Waits → Reply A → Type 0
-Unrecorded x (Looking l n) (reply.Looked None) = recorded (records_of x) l n ≡ None
+Unrecorded x (Looking l n) (reply.Looked None) = LacksRecord x l n
 Unrecorded x waits other = Unit {0}
 
 -- what holds of the tables that answered (5.3 to 5.4.3)
@@ -123,8 +124,8 @@ AnswerFollows g s r (answers.SourceFault name loader) = Unit {0}
 -- a turn is what comes next in the service of the request: a record of a class, or of the loader that was asked for it, an equality, a
 -- preparation, what a reference is settled to, or the answer (5.3 to 5.4.3)
 abbrev pub Follows : {A : Type 0} → Setting → State → Request → Turn A → Type 0
-Follows g s r (turn.Define d) = IsWanted g s r (Entry d.class.loader d.class.name d.class.loader)
-Follows g s r (turn.Initiate h) = IsWanted g s r (Entry h.value.asked h.value.name h.value.place) × (h.value.asked ≡ h.value.place → ⊥)
+Follows g s r (turn.Define d) = IsWanted g s r (own_record d)
+Follows g s r (turn.Initiate h) = IsWanted g s r (asked_record h.value) × (h.value.asked ≡ h.value.place → ⊥)
 Follows g s r (turn.Settle f) = IsSettledNext g s r f
 Follows g s r (turn.Impose e k) = IsNextOf e.value k (IsWanted g s r)
 Follows g s r (turn.Mark e) = IsPreparedNext g s r e.value.origin

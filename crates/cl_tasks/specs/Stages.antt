@@ -9,7 +9,7 @@ use Rattle.cl_model.specs.declared.request.Request.TheVariants as requests
 use Rattle.cl_model.specs.Content.{Content}
 use Rattle.cl_model.specs.Classes.{class}
 use Rattle.cl_model.specs.Lineages.{lineage}
-use Rattle.cl_model.specs.States.{Need, Entry}
+use Rattle.cl_model.specs.States.{Need}
 use Rattle.cl_model.specs.Works.{Ask}
 use Rattle.cl_config.specs.Views.{Configured}
 use Rattle.cl_delegation.specs.Searches.{Searched, Located, next_of, route_of}
@@ -19,9 +19,9 @@ use Rattle.cl_hierarchy.specs.Lineages.{Lined, kin_of, rows_in}
 use Rattle.cl_hierarchy.specs.Paths.{Pathed, at_loader, at_name, frames_of, is_on}
 use Rattle.cl_findings.specs.declared.load.Target.{Target}
 use Rattle.cl_findings.specs.declared.load.Target.TheVariants as targets
-use Rattle.cl_findings.specs.Findings.{Based, Rests, loader_of, name_of}
+use Rattle.cl_findings.specs.Findings.{Based, Resolves, Rests, loader_of, name_of}
 use Rattle.cl_findings.specs.Bases.{IsSpeltIn}
-use Rattle.cl_findings.specs.Loads.{IsFor, IsSought, IsWhole, Resolves}
+use Rattle.cl_findings.specs.Loads.{IsFor, IsSought, IsWhole, home_record}
 use Rattle.cl_findings.specs.References.{AreLinked, GoesTo, class_need, reference_needs}
 use Rattle.cl_tasks.specs.Calls.{Calls, ask_for, ask_of, away_calls, hand_calls, in_hand, link_calls, own_calls, past_loads, reference_calls, while_loading}
 use Rattle.cl_tasks.specs.Measures.{Phase, Fresh, Looking, Reading, Homing, Defining, Initiating, left_at, named_left, own_left, checking_left, reference_left, tracing_own_left, tracing_named_left, imposing_left, settling_left, prepared_left, whole_left, chain_left, linking_left}
@@ -92,10 +92,6 @@ at_work c w phase probes calls j = record {
   calls = calls;
 }
 
--- the record of a class by its home (5.3)
-abbrev pub home_need : Located → Need
-home_need h = Entry h.place h.name h.place
-
 -- the class that is looked for, where the loader that is asked is its home (5.3.2)
 abbrev pub sought_class : Pathed → Class
 sought_class p = class (at_name p) (at_loader p)
@@ -110,7 +106,7 @@ loading_at c (loads.Homing j h) = at_work c (waits.Looking h.place (at_name j.pa
 loading_at c (loads.Defining j x) =
     record (at_work c (waits.Defining x.draft) Defining 0 (job_calls [] (sought_ask j.path ∷ ask_for x.draft.class ∷ []) (1 + away_calls (at_loader j.path) x.draft.class.loader) j) j) { frames = frames_of j.path ++ frame_of x ∷ [] }
 loading_at c (loads.Initiating j h) =
-    record (at_work c (waits.Initiating h.value) Initiating 0 (job_calls [] (sought_ask j.path ∷ []) 1 j) j) { facts = Stands (home_need h.value) ∷ target_facts j.request j.target }
+    record (at_work c (waits.Initiating h.value) Initiating 0 (job_calls [] (sought_ask j.path ∷ []) 1 j) j) { facts = Stands (home_record h.value) ∷ target_facts j.request j.target }
 
 -- ---- resolutions
 
@@ -233,11 +229,15 @@ pub record IsJob {A : Type 0} (told : Option Content) (c : Configured) (j : Job 
   pub root : j.path.loader < length c.loaders
   pub loader : at_loader j.path < length c.loaders
 
--- the search is for what is looked for, and has another loader to ask (5.3.2)
-pub record IsSearch {A : Type 0} (j : Job A) (s : Searched) : Type 0 where
+-- the search is for what is looked for (5.3.2)
+pub record Seeks {A : Type 0} (j : Job A) (s : Searched) : Type 0 where
   pub config : s.config ≡ j.path.config
   pub loader : s.loader ≡ at_loader j.path
   pub name : s.name ≡ at_name j.path
+
+-- the same, and it has another loader to ask (5.3.2)
+pub record IsSearch {A : Type 0} (j : Job A) (s : Searched) : Type 0 where
+  pub seeks : Seeks j s
   pub next : next_of s ≢ None
 
 -- what is looked for was found at another loader, and is not being derived (5.3.2)
@@ -273,7 +273,7 @@ IsFailure other = ⊥
 -- the load of the class of a resolution ends in a verdict, whatever the request asks past it (5.3, 5.4.3)
 pub record IsFailed {A : Type 0} (told : Option Content) (c : Configured) (f : Failed A) : Type 0 where
   pub index : ℕ
-  pub resolves : f.request ≡ requests.Resolve (loader_of f.request) (name_of f.request) index
+  pub resolves : Resolves f.request (name_of f.request) index
   pub same : f.finding.request ≡ f.request
   pub asked : loader_of f.request < length c.loaders
   pub verdict : verdict.Verdict
@@ -287,7 +287,7 @@ pub record IsFailed {A : Type 0} (told : Option Content) (c : Configured) (f : F
 
 -- the request resolves the entry at an index of the pool of a class (5.4.3)
 pub record IsEntry {A : Type 0} (c : Configured) (e : entries.Entry A) : Type 0 where
-  pub of : Resolves e.request e.d.value.class e.index
+  pub of : Resolves e.request e.d.value.class.name e.index
   pub asked : loader_of e.request < length c.loaders
 
 -- the lineage is of a class, under this configuration (5.3.5)

@@ -119,12 +119,6 @@ EndTold x p (obstacles.Misfit row c kind) = IsRecordedAs x (at_loader p) (at_nam
 abbrev pub EndsOn : {A : Type 0} → Job A → Obstacle A → Shown → Type 0
 EndsOn j end x = HoldsOn j x × EndTold x j.path end
 
--- the search is for what is looked for (5.3.2)
-pub record Seeks {A : Type 0} (j : Job A) (s : Searched) : Type 0 where
-  pub config : s.config ≡ j.path.config
-  pub loader : s.loader ≡ at_loader j.path
-  pub name : s.name ≡ at_name j.path
-
 -- how many reads a search has left at most, and one more unless bytes were found (5.3.2)
 abbrev pub reads_on : Option Found → ℕ → ℕ
 reads_on None probes = probes + 1

@@ -7,7 +7,7 @@ use Rattle.cl_model.specs.declared.answer.Answer.{Answer}
 use Rattle.cl_model.specs.declared.answer.Answer.TheVariants as answers
 use Rattle.cl_model.specs.declared.verdict.Verdict.TheVariants as verdicts
 use Rattle.cl_model.specs.Frames.{Frame}
-use Rattle.cl_model.specs.States.{Need, Entry}
+use Rattle.cl_model.specs.States.{Need}
 use Rattle.cl_model.specs.Views.{need_of}
 use Rattle.cl_config.specs.Loaders.{loaders_of}
 use Rattle.cl_config.specs.Views.{Configured}
@@ -21,6 +21,7 @@ use Rattle.cl_tasks.specs.declared.turn.Reply.{Reply}
 use Rattle.cl_tasks.specs.declared.turn.Reply.TheVariants as reply
 use Rattle.cl_tasks.specs.declared.turn.Turn.{Turn}
 use Rattle.cl_tasks.specs.declared.turn.Turn.TheVariants as turn
+use Rattle.cl_findings.specs.Loads.{asked_record, own_record}
 
 -- ---- what may be told
 
@@ -30,8 +31,8 @@ equality_at e k = option_map equal_need (slice_get e.needs k)
 
 -- the need that the call which is waited for would make stand, if it is one that may be refused (5.3.4)
 abbrev pub need_at : Waits → Option Need
-need_at (Defining d) = Some (Entry d.class.loader d.class.name d.class.loader)
-need_at (Initiating h) = Some (Entry h.asked h.name h.place)
+need_at (Defining d) = Some (own_record d)
+need_at (Initiating h) = Some (asked_record h)
 need_at (Imposing e k) = equality_at e k
 need_at waits = None
 

@@ -7,8 +7,8 @@ ghost use Rattle.cl_hierarchy.specs.Paths.{at_loader, at_name, frames_of};
 ghost use Rattle.cl_tasks.specs.Deriving.{Derives, IsSoughtHere, IsUnfound};
 ghost use Rattle.cl_tasks.specs.Follows.{PostsNoFault};
 ghost use Rattle.cl_tasks.specs.Measures.{Looking, Reading};
-ghost use Rattle.cl_tasks.specs.Stages.{IsJob, IsHoming, probes_left};
-ghost use Rattle.cl_tasks.specs.Steps.{FindsHome, HoldsOn, IsPlain, LeadsAt, LeadsHome, ReadsAt, ReadsOn, Seeks, reads_left, way_on};
+ghost use Rattle.cl_tasks.specs.Stages.{IsJob, IsHoming, probes_left, Seeks};
+ghost use Rattle.cl_tasks.specs.Steps.{FindsHome, HoldsOn, IsPlain, LeadsAt, LeadsHome, ReadsAt, ReadsOn, reads_left, way_on};
 ghost use Rattle.cl_tasks.specs.Turns.{IsBehind};
 
 use crate::accept::{derive, initiate};

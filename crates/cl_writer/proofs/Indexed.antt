@@ -14,6 +14,7 @@ use Rattle.cl_classfile.specs.Files.{same_name}
 use Rattle.cl_writer.specs.Items.{same_kind, same_member, same_item, index_from, index_of, IsIndexed}
 use Rattle.std.proofs.lemmas.Bool.{and_parts, and_from}
 use Rattle.std.proofs.lemmas.Option.{same_Some}
+use Rattle.std.specs.Option.{option_or}
 
 -- ---- equal entries are the same
 
@@ -87,34 +88,25 @@ same_self (Member k m) = and_from _ _ (kind_self k) (and_from _ _ (text_self m.c
 
 -- ---- one entry more
 
-unfoldable pub or_else : Option ℕ → Option ℕ → Option ℕ
-or_else None o = o
-or_else (Some n) o = Some n
-
-cond_else : (b : Bool) (n : ℕ) (o p : Option ℕ) → or_else (cond b (Some n) o) p ≡ cond b (Some n) (or_else o p)
-unfolding or_else
+cond_else : (b : Bool) (n : ℕ) (o p : Option ℕ) → option_or (cond b (Some n) o) p ≡ cond b (Some n) (option_or o p)
 cond_else true n o p = refl
 cond_else false n o p = refl
 
-pub index_more : (n m : ℕ) (xs : List Item) (y q : Item) → m ≡ n + length xs → index_from n (xs ++ y ∷ []) q ≡ or_else (index_from n xs q) (cond (same_item q y) (Some m) None)
-unfolding or_else
+pub index_more : (n m : ℕ) (xs : List Item) (y q : Item) → m ≡ n + length xs → index_from n (xs ++ y ∷ []) q ≡ option_or (index_from n xs q) (cond (same_item q y) (Some m) None)
 index_more n m [] y q e = let same : m ≡ n = omega arith in rw same refl
 index_more n m (x ∷ xs) y q e =
-    let later : index_from (n + 1) (xs ++ y ∷ []) q ≡ or_else (index_from (n + 1) xs q) (cond (same_item q y) (Some m) None) = index_more (n + 1) m xs y q (omega arith) in
+    let later : index_from (n + 1) (xs ++ y ∷ []) q ≡ option_or (index_from (n + 1) xs q) (cond (same_item q y) (Some m) None) = index_more (n + 1) m xs y q (omega arith) in
     ap (λ o. cond (same_item q x) (Some n) o) later ∙ sym (cond_else (same_item q x) n (index_from (n + 1) xs q) (cond (same_item q y) (Some m) None))
 
-nothing_else : (o : Option ℕ) → or_else o None ≡ o
-unfolding or_else
+nothing_else : (o : Option ℕ) → option_or o None ≡ o
 nothing_else None = refl
 nothing_else (Some n) = refl
 
-first_else : (n : ℕ) (o p : Option ℕ) → o ≡ Some n → or_else o p ≡ o
-unfolding or_else
+first_else : (n : ℕ) (o p : Option ℕ) → o ≡ Some n → option_or o p ≡ o
 first_else n None p e = absurd cc
 first_else n (Some m) p e = refl
 
-second_else : (o p : Option ℕ) → o ≡ None → or_else o p ≡ p
-unfolding or_else
+second_else : (o p : Option ℕ) → o ≡ None → option_or o p ≡ p
 second_else None p e = refl
 second_else (Some n) p e = absurd cc
 
@@ -122,7 +114,7 @@ second_else (Some n) p e = absurd cc
 pub stays : (items : List Item) (item q : Item) (n : ℕ) (o : Option ℕ) → index_of items item ≡ Some n → o ≡ index_of items q → o ≡ index_of (items ++ item ∷ []) q
 stays items item q n o there e = e ∙ sym (index_more 1 (1 + length items) items item q refl ∙ by (same_item q item) refl)
   where
-    by : (b : Bool) → same_item q item ≡ b → or_else (index_of items q) (cond (same_item q item) (Some (1 + length items)) None) ≡ index_of items q
+    by : (b : Bool) → same_item q item ≡ b → option_or (index_of items q) (cond (same_item q item) (Some (1 + length items)) None) ≡ index_of items q
     by true same = first_else n _ _ (ap (index_of items) (same_says q item same) ∙ there)
     by false same = rw same (nothing_else (index_of items q))
 
@@ -130,14 +122,14 @@ stays items item q n o there e = e ∙ sym (index_more 1 (1 + length items) item
 pub enters : (items : List Item) (item q : Item) (m : ℕ) (o : Option ℕ) → index_of items item ≡ None → o ≡ index_of items q → m ≡ 1 + length items → cond (same_item item q) (Some m) o ≡ index_of (items ++ item ∷ []) q
 enters items item q m o none e count = by (same_item item q) refl ∙ sym (index_more 1 m items item q count)
   where
-    none_else : (b : Bool) → same_item q item ≡ b → same_item item q ≡ false → o ≡ or_else (index_of items q) (cond (same_item q item) (Some m) None)
+    none_else : (b : Bool) → same_item q item ≡ b → same_item item q ≡ false → o ≡ option_or (index_of items q) (cond (same_item q item) (Some m) None)
     none_else true same other = let here : item ≡ q = sym (same_says q item same) in absurd (false_true (sym other ∙ subst (λ x. same_item item x ≡ true) here (same_self item)))
       where
         false_true : false ≡ true → ⊥
         false_true h = cc
     none_else false same other = rw same (e ∙ sym (nothing_else (index_of items q)))
 
-    by : (b : Bool) → same_item item q ≡ b → cond (same_item item q) (Some m) o ≡ or_else (index_of items q) (cond (same_item q item) (Some m) None)
+    by : (b : Bool) → same_item item q ≡ b → cond (same_item item q) (Some m) o ≡ option_or (index_of items q) (cond (same_item q item) (Some m) None)
     by true same =
         let here : item ≡ q = same_says item q same in
         let self : same_item q item ≡ true = subst (λ x. same_item x item ≡ true) here (same_self item) in

@@ -16,20 +16,19 @@ use Rattle.cl_writer.specs.Assemblies.{Listed}
 use Rattle.cl_writer.specs.Items.{same_item, index_from, index_of, index, with_item, class_wanted, line_wanted, wanted, all_wanted, items_of}
 use Rattle.cl_writer.specs.Described.{entry_of, member_of, super_index, described}
 use Rattle.cl_writer.specs.Listings.{printed_flags, printed_name, printed_type, printed_super, class_line, implements_line, member_line, listing_of, super_text, class_text, implements_text, member_text, text_of}
-use Rattle.cl_writer.proofs.Indexed.{same_says, same_self, or_else, index_more, some_is}
+use Rattle.cl_writer.proofs.Indexed.{same_says, same_self, index_more, some_is}
+use Rattle.std.specs.Option.{option_or}
 
 -- ---- what is wanted stands
 
 abbrev Stands : List Item → Item → Type 0
 Stands items item = is_some (index_of items item) ≡ true
 
-or_first : (o p : Option ℕ) → is_some o ≡ true → is_some (or_else o p) ≡ true
-unfolding or_else
+or_first : (o p : Option ℕ) → is_some o ≡ true → is_some (option_or o p) ≡ true
 or_first None p e = absurd cc
 or_first (Some n) p e = refl
 
-or_second : (o : Option ℕ) (n : ℕ) → is_some (or_else o (Some n)) ≡ true
-unfolding or_else
+or_second : (o : Option ℕ) (n : ℕ) → is_some (option_or o (Some n)) ≡ true
 or_second None n = refl
 or_second (Some m) n = refl
 
@@ -46,7 +45,7 @@ enters items item = by (is_some (index_of items item)) refl
     by : (b : Bool) → is_some (index_of items item) ≡ b → Stands (cond b items (items ++ item ∷ [])) item
     by true e = e
     by false e =
-        ap is_some (index_more 1 (1 + length items) items item item refl ∙ ap (λ t. or_else (index_of items item) (cond t (Some (1 + length items)) None)) (same_self item))
+        ap is_some (index_more 1 (1 + length items) items item item refl ∙ ap (λ t. option_or (index_of items item) (cond t (Some (1 + length items)) None)) (same_self item))
         ∙ or_second (index_of items item) (1 + length items)
 
 stays : (ws items : List Item) (q : Item) → Stands items q → Stands (fold with_item items ws) q

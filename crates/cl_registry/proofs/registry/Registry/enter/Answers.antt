@@ -4,13 +4,14 @@ use Rattle.cl_model.specs.declared.need.Need.TheVariants as needs
 use Rattle.cl_delegation.specs.Searches.{Located}
 use Rattle.cl_hierarchy.specs.Rows.{Rowed}
 use Rattle.cl_registry.specs.Parts.{IsPut}
-use Rattle.cl_registry.specs.Tables.{Shown, IsNew, MayEnter, DefinedAs, own_record, row_for, row_at, state_of}
+use Rattle.cl_registry.specs.Tables.{Shown, IsNew, MayEnter, DefinedAs, row_for, row_at, state_of}
 use Rattle.cl_registry.specs.Refusals.{AddRefusedFor, Blames}
 use Rattle.cl_registry.specs.View.{shown}
 use Rattle.cl_registry.proofs.Asked.{row_made}
 use Rattle.cl_registry.proofs.Entered.{add_refused, blames_record, kept_defined, not_refused, own_entry, shown_define}
 use Rattle.cl_registry.proofs.Kept.{come_by, kept_failed}
 use Rattle.cl_registry.proofs.registry.Registry.enter.Goals as goal
+use Rattle.cl_findings.specs.Loads.{own_record}
 
 pub returns-then-not-admits-clause-refused : goal.returns-then-not-admits-clause-refused
 returns-then-not-admits-clause-refused g c =

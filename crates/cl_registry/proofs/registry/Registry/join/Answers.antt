@@ -3,12 +3,13 @@ use Rattle.std.specs.Option.{option_map}
 use Rattle.cl_model.specs.declared.need.Need.TheVariants as needs
 use Rattle.cl_model.specs.States.{Refused}
 use Rattle.cl_hierarchy.specs.Rows.{Rowed}
-use Rattle.cl_registry.specs.Tables.{Shown, LacksRecord, MayJoin, InitiatedAs, asked_record, looked, state_of}
+use Rattle.cl_registry.specs.Tables.{Shown, LacksRecord, MayJoin, InitiatedAs, looked, state_of}
 use Rattle.cl_registry.specs.Refusals.{AddRefusedFor, Blames}
 use Rattle.cl_registry.specs.View.{shown}
 use Rattle.cl_registry.proofs.Entered.{add_refused, asked_entry, blamed_as, blames_record, kept_initiated, not_refused, share_refused, shown_initiate}
 use Rattle.cl_registry.proofs.Kept.{come_by, kept_failed}
 use Rattle.cl_registry.proofs.registry.Registry.join.Goals as goal
+use Rattle.cl_findings.specs.Loads.{asked_record}
 
 pub returns-then-not-admits-clause-refused : goal.returns-then-not-admits-clause-refused
 returns-then-not-admits-clause-refused g c =

@@ -1,10 +1,8 @@
-use Rattle.std.proofs.Common.{Err, ap, subst, sym}
+use Rattle.std.proofs.Common.{Err, ap, subst}
 use Rattle.cl_config.specs.Views.{Configured}
-use Rattle.cl_hierarchy.specs.Lineages.{Lined}
 use Rattle.cl_hierarchy.specs.RowTables.{IsMadeOf, Makes}
 use Rattle.cl_hierarchy.specs.declared.making.LineageFault.{LineageFault}
 use Rattle.cl_registry.specs.Tables.{Shown, IsKept}
-use Rattle.cl_registry.specs.Traced.{IsTraced}
 use Rattle.cl_registry.proofs.Tracing.{made_recorded, none_recorded, some_recorded, traced}
 use Rattle.cl_registry.proofs.registry.Registry.lineage.Goals as goal
 

@@ -3,7 +3,6 @@ use Rattle.std.specs.Prelude.{Contains}
 use Rattle.cl_model.specs.declared.class.Class.{Class}
 use Rattle.cl_model.specs.declared.need.Equality.{Equality}
 use Rattle.cl_hierarchy.specs.Imposed.{needs_of, sprung}
-use Rattle.cl_hierarchy.specs.Lineages.{Lined}
 use Rattle.cl_registry.specs.Imposing.{IsReady}
 use Rattle.cl_registry.specs.Tables.{state_of}
 use Rattle.cl_registry.proofs.Tested.{mark_lacks, marked_by, marks_as, prepared_by}

@@ -107,7 +107,7 @@ fn open<T: Told>(
     script: &Arc<Script>,
     workers: u32,
 ) -> Result<(Pool<T>, Seat), AllocError>
-    requires workers { (1 ≤ workers) × (workers ≤ MOST_WORKERS) }
+    requires workers { MayServe workers }
     ensures fits { IfOk result (λ r. IsSeatOf r.0.draws r.1) }
     ensures may { IfOk result (λ r. MayDraw r.1) }
 {

@@ -6,7 +6,7 @@ use Rattle.cl_classfile.specs.declared.fault.ReadError.TheVariants as errors
 use Rattle.cl_classfile.specs.Reading.{read_of}
 use Rattle.cl_writer.specs.Listings.{listing_of}
 use Rattle.cl_source.specs.Seen.{IsTooLarge, IsWithin}
-use Rattle.cl_program.specs.Files.{Giving, IsUnreadable}
+use Rattle.cl_program.specs.Files.{Giving, IsUnreadable, IsUnread}
 use Rattle.cl_program.specs.Outputs.{BreaksOff, EndsWith, Outputs, Prints, Stream, WritesNothing}
 use Rattle.cl_program.specs.declared.fault.Fault.{Fault}
 use Rattle.cl_program.specs.declared.fault.Fault.TheVariants.{Write, TooLarge, Path, File, Memory}
@@ -32,8 +32,8 @@ pub record IsNoClass (gives : Giving) (fault : ClassFault) : Type 0 where
 
 -- when a reading ends by a fault, and what is on its output
 abbrev pub FailsToRead : Giving → List ℕ → Stream → Fault → Type 0
-FailsToRead gives path out (Path p) = WritesNothing out ((string_bytes p ≡ path) × IsUnreadable gives)
-FailsToRead gives path out TooLarge = WritesNothing out (IsTooLarge gives MOST_CLASS_BYTES)
+FailsToRead gives path out (Path p) = WritesNothing out (IsUnread gives MOST_CLASS_BYTES path (Path p))
+FailsToRead gives path out TooLarge = WritesNothing out (IsUnread gives MOST_CLASS_BYTES path TooLarge)
 FailsToRead gives path out (File (errors.Fault fault)) = WritesNothing out (IsNoClass gives fault)
 FailsToRead gives path out (File errors.Memory) = WritesNothing out ⊤
 FailsToRead gives path out Write = BreaksOff (AreLinesOf gives) out

@@ -40,6 +40,7 @@ not_later x q n round at le is later =
     let same : later.round ≡ n = same_Some later.round n (sym later.of ∙ at) in
     let l = later.later in
     absurd (omega (arith, le, is, same, l))
+
 -- ---- the tables allow it, under any source
 
 may_tell : (x : Shown) (q : ℕ) (f : Answered) → IsTrusted x → Fits x q f → MayTell (schedule_of x.script) (state_of x) q (answer_of f.answer)

@@ -13,10 +13,9 @@ use Rattle.cl_model.specs.Works.{Made}
 use Rattle.cl_model.specs.States.{State, Need, Verdict, recorded, IsRecorded, Met, Refused, AllMet}
 use Rattle.cl_model.specs.Content.{Content}
 use Rattle.cl_config.specs.Views.{Configured}
-use Rattle.cl_delegation.specs.Worlds.{setting_of}
 use Rattle.cl_hierarchy.specs.Imposed.{Listed, AreEnough, Sprung, OfPreparation, OfReference, equal_need, needs_of}
 use Rattle.cl_hierarchy.specs.Lineages.{Lined, kin_of}
-use Rattle.cl_registry.specs.Tables.{Shown, records_of, state_of}
+use Rattle.cl_registry.specs.Tables.{Shown, records_of, state_of, machine}
 
 -- a lineage is of this configuration, and its class is recorded by its loader (5.3)
 pub record IsStanding (x : Shown) (l : Lined) : Type 0 where
@@ -124,12 +123,12 @@ IsNoted old place e new = (new ≡ old) ⊎ (new ≡ take place old ++ e ∷ [])
 abbrev pub MayConstrainAs : Option Content → Shown → Equality → Type 0
 MayConstrainAs None x e = Unit {0}
 MayConstrainAs (Some content) x e =
-    (Refused (state_of x) (equal_need e) → ⊥) → MayConstrain (setting_of x.config x.script content) (state_of x) e.name e.one e.other
+    (Refused (state_of x) (equal_need e) → ⊥) → MayConstrain (machine x content) (state_of x) e.name e.one e.other
 
 -- where a content is told, the machine may prepare a class (5.4.2)
 abbrev pub MayPrepareAs : Option Content → Shown → Class → Type 0
 MayPrepareAs None x c = Unit {0}
-MayPrepareAs (Some content) x c = MayPrepare (setting_of x.config x.script content) (state_of x) c
+MayPrepareAs (Some content) x c = MayPrepare (machine x content) (state_of x) c
 
 -- ---- for the laws
 

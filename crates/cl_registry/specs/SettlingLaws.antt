@@ -18,10 +18,9 @@ use Rattle.cl_model.specs.Machine.{MaySettle}
 use Rattle.cl_model.specs.Service.{ComesTo}
 use Rattle.cl_model.specs.Tables.{BearsAnswer, Records}
 use Rattle.cl_model.specs.Views.{answer_of, request_of, verdict_of}
-use Rattle.cl_delegation.specs.Worlds.{setting_of}
 use Rattle.cl_findings.specs.Findings.{Answered, Based, IsLookedUp, Rests, Stands}
 use Rattle.cl_registry.specs.declared.registry.RegistryFault.TheVariants.{Stray}
-use Rattle.cl_registry.specs.Tables.{Shown, state_of, records_of, IsKept, settled_at}
+use Rattle.cl_registry.specs.Tables.{Shown, state_of, records_of, IsKept, settled_at, machine}
 use Rattle.cl_registry.specs.References.{IsSettledIn, IsUnsettled, cited_by, settled_by}
 use Rattle.cl_registry.specs.Settling.{IsToSettle}
 use Rattle.cl_registry.specs.Posting.{Fits, IsBacked}
@@ -46,14 +45,14 @@ abbrev pub PreparedComes : Type 0
 PreparedComes =
     (content : Content) (x : Shown) (loader place : ℕ) (name : Name) → IsKept (Some content) x → recorded (records_of x) loader name ≡ Some place
     → Contains (state_of x).prepared (class name place)
-    → ComesTo (setting_of x.config x.script content) (state_of x) (Link loader name) (IsLinked (class name place))
+    → ComesTo (machine x content) (state_of x) (Link loader name) (IsLinked (class name place))
 
 -- what a finding of the told content settles, where the entry is not settled, may be settled by the machine (5.4.3)
 abbrev pub SettledIsAllowed : Type 0
 SettledIsAllowed =
     (content : Content) (x : Shown) (f : Answered) (s : Settled) → IsKept (Some content) x → Rests (Some content) f
     → settled_by x f.request ≡ None → IsToSettle x f s
-    → MaySettle (setting_of x.config x.script content) (state_of x) s.class s.index (verdict_of s.verdict)
+    → MaySettle (machine x content) (state_of x) s.class s.index (verdict_of s.verdict)
 
 -- where a finding stands and says what its request's entry may be settled to by the machine, it settles that: `settle` refuses
 -- it for memory alone (5.4.3)
@@ -62,7 +61,7 @@ AllowedIsSettled =
     (content : Content) (x : Shown) (f : Answered) (s : Settled) → IsKept (Some content) x
     → cited_by x f.request ≡ Some (record { class = s.class; index = s.index }) → f.answer ≡ answers.Said s.verdict
     → Stands x.config (state_of x) f
-    → MaySettle (setting_of x.config x.script content) (state_of x) s.class s.index (verdict_of s.verdict)
+    → MaySettle (machine x content) (state_of x) s.class s.index (verdict_of s.verdict)
     → (settled_by x f.request ≡ None) × IsToSettle x f s
 
 -- a finding that rests on another configuration is strayed by `settle`, where the entry of its request is not settled

@@ -13,8 +13,7 @@ use Rattle.cl_model.specs.Content.{Content}
 use Rattle.cl_model.specs.Classes.{class, same_class, Above, supers, misfit}
 use Rattle.cl_model.specs.Texts.{AnswerNames, EventNames, VerdictNames}
 use Rattle.cl_model.specs.States.{State, Record, recorded, start, Refused}
-use Rattle.cl_model.specs.Machine.{Step, state_after, Run}
-use Rattle.cl_model.specs.Machine as machine
+use Rattle.cl_model.specs.Machine.{Step, state_after, Run, Setting, EndsRound}
 use Rattle.cl_model.specs.Tables as tables
 use Rattle.cl_model.specs.Views.{answers_of, answer_at, steps_of}
 use Rattle.cl_config.specs.Views.{Configured, Scripted}
@@ -28,6 +27,7 @@ use Rattle.cl_hierarchy.specs.Lineages.{row_of}
 use Rattle.cl_hierarchy.specs.RowTables.{AreRows}
 use Rattle.cl_findings.specs.Findings.{Answered}
 use Rattle.cl_findings.specs.Loads.{asked_record, own_record}
+use Rattle.cl_registry.specs.Parts.{place_by, row_by}
 
 -- what a registry shows: whose it is, the rows of the classes that were defined, in order, what happened, and the answer of
 -- each request that has one
@@ -101,10 +101,14 @@ pub record IsTrusted (x : Shown) : Type 0 where
   pub whole : length x.answers ≡ length x.script.requests
   pub earlier : (q round : ℕ) → slice_get x.script.rounds_of q ≡ Some round → round < round_of x → IsSome (answer_at (answers_of x.answers) q)
 
+-- the machine that the history is one of, where this content is told (5.3)
+abbrev pub machine : Shown → Content → Setting
+machine x content = setting_of x.config x.script content
+
 -- the history is a run of the linkage machine, where a content is told (5.3)
 abbrev pub RunsAs : Option Content → Shown → Type 0
 RunsAs None x = Unit {0}
-RunsAs (Some content) x = Run (setting_of x.config x.script content) start (steps x)
+RunsAs (Some content) x = Run (machine x content) start (steps x)
 
 -- each loader that the texts of the history, of what is settled and of the answers name is one of the configuration
 pub record NamesLoaders (x : Shown) : Type 0 where
@@ -143,12 +147,11 @@ looked x loader name = option_and_then (λ place. row_of x.rows (class name plac
 
 -- which loader defined the class that a loader has recorded for a name (5.3); nothing is asked where none is
 abbrev pub place_in : List Record → ℕ → Above → ℕ
-place_in records loader a = unwrap_or (recorded records loader a.name) 0
+place_in records loader a = place_by (recorded records loader) a
 
 -- the row that the class of a draft gets: each supertype is the one that its loader has recorded (5.3.5, steps 3 to 5)
 abbrev pub row_for : Shown → Drafted → Rowed
-row_for x d =
-    record { class = d.class; file = d.file; places = map (place_in (records_of x) d.class.loader) (supers (file_of d.file)) }
+row_for x d = row_by (recorded (records_of x) d.class.loader) d
 
 -- the row in a table of each loader (5.3)
 abbrev pub row_at : {R S : Type 0} → List (HashMap (List ℕ) R S) → ℕ → List ℕ → Option R
@@ -255,4 +258,4 @@ IsOpen x q = slice_get x.answers q ≡ Some None
 
 -- each request of the round has its answer, and there is a later round
 abbrev pub MayGoOn : Shown → Type 0
-MayGoOn x = machine.EndsRound (schedule_of x.script) x.script.rounds (state_of x)
+MayGoOn x = EndsRound (schedule_of x.script) x.script.rounds (state_of x)

@@ -1,6 +1,6 @@
 //! The steps of a definition and of an initiation, on plain tables.
 
-ghost use Rattle.std.specs.Prelude.{◌≡◌, ◌≢◌, ◌<◌, ◌≤◌, ◌+◌, ◌++◌, ◌∷◌, [], Some, None, IfErr, IfOk, IfSome, MatchOption, OnOk, OnErr, MatchBool, is_some, length, map, slice_get, vec_len, vec_capacity};
+ghost use Rattle.std.specs.Prelude.{◌≡◌, ◌≢◌, ◌<◌, ◌≤◌, ◌+◌, ◌++◌, ◌∷◌, [], Some, None, IfErr, IfOk, IfSome, MatchOption, OnOk, OnErr, is_some, length, map, slice_get, vec_len, vec_capacity};
 ghost use Rattle.std.specs.Option.{option_map};
 ghost use Rattle.cl_classfile.specs.Files.{file_of};
 ghost use Rattle.cl_model.specs.Classes.{class, supers};
@@ -11,6 +11,7 @@ ghost use Rattle.cl_constraints.specs.Books.{Adds};
 ghost use Rattle.cl_registry.specs.Refusals.{BlamesIn, fault_of};
 ghost use Rattle.cl_registry.specs.Tables.{row_at};
 ghost use Rattle.cl_findings.specs.Loads.{asked_record, own_record};
+ghost use Rattle.cl_findings.specs.Findings.{Decides};
 
 use crate::registry::RegistryFault;
 use crate::tables::{Rows, find, insert_reserved, place, reserve_row};
@@ -35,11 +36,9 @@ fn is_there<T: Told>(tables: &Rows<T>, draft: &Draft<T>, at: usize) -> bool
 
 /// Whether the loader of a draft has recorded each direct supertype of its class.
 pub fn has_supers<T: Told>(tables: &Rows<T>, draft: &Draft<T>) -> bool
-    ensures { MatchBool result (EachHas
+    ensures { Decides result (EachHas
         (λ n. is_some (row_at tables.now.items draft.now.class.loader n))
-        (supers (file_of draft.now.file))) (EachHas
-        (λ n. is_some (row_at tables.now.items draft.now.class.loader n))
-        (supers (file_of draft.now.file)) → ⊥) }
+        (supers (file_of draft.now.file))) }
 {
     for at in 0..draft.supertypes() {
         if !is_there(tables, draft, at) {

@@ -1,10 +1,11 @@
 //! The registry: what it has, how it begins and what it reports.
 
-ghost use Rattle.std.specs.Prelude.{◌≡◌, OnOk, IfOk, IfErr, MatchBool, MatchOption, map};
+ghost use Rattle.std.specs.Prelude.{◌≡◌, OnOk, IfOk, IfErr, MatchOption, map};
 ghost use Rattle.std.specs.Option.{option_map};
 ghost use Rattle.cl_registry.specs.Tables.{IsKept, LacksRecord, MayGoOn, Records, empty_of, looked, round_of, with_round};
 ghost use Rattle.cl_registry.specs.Refusals.{RoundRefusedFor};
 ghost use Rattle.cl_registry.specs.Reports.{IsBack, IsReported};
+ghost use Rattle.cl_findings.specs.Findings.{Decides};
 
 use crate::report::{Answers, History, Report};
 use crate::rounds::{collect, counts_of, rooms_for};
@@ -185,8 +186,7 @@ impl<T: Told> Registry<T> {
 
     /// Whether configuration and script are those of this registry.
     pub fn serves(&self, config: &Config, script: &Script) -> bool
-        ensures { MatchBool result ((config.now ≡ self.now.config) × (script.now ≡ self.now.script))
-            ((config.now ≡ self.now.config) × (script.now ≡ self.now.script) → ⊥) }
+        ensures { Decides result ((config.now ≡ self.now.config) × (script.now ≡ self.now.script)) }
     {
         config.is_same(&self.config) && script.is_same(&self.script)
     }

@@ -26,7 +26,7 @@ use Rattle.cl_registry.specs.Imposing.{IsPreparedAbove, IsReadyBy, IsStanding, S
 use Rattle.cl_registry.specs.Posting.{AnswerBacked, IsBacked}
 use Rattle.cl_registry.specs.References.{Cited, cited_by, settled_by}
 use Rattle.cl_registry.specs.Settling.{MaySettle}
-use Rattle.cl_registry.specs.Tables.{Shown, FitsAs, IsKept, MayEnter, looked, records_of, settled_at, state_of, steps}
+use Rattle.cl_registry.specs.Tables.{Shown, FitsAs, IsKept, MayEnter, looked, records_of, settled_at, state_of, steps, machine}
 use Rattle.cl_registry.proofs.Placed.{recorded_row}
 use Rattle.cl_registry.proofs.Tracing.{looked_row}
 use Rattle.cl_tasks.specs.Follows.{AnswerFollows, Backed}
@@ -34,7 +34,6 @@ use Rattle.cl_tasks.specs.declared.turn.Turn.{Turn}
 use Rattle.cl_tasks.specs.declared.turn.Turn.TheVariants as turn
 use Rattle.cl_schedule.specs.Replies.{IsCall}
 use Rattle.cl_schedule.specs.Seats.{GoesOn, IsAfter}
-use Rattle.cl_schedule.specs.Serving.{machine}
 use Rattle.cl_schedule.proofs.Later.{met_goes, prepared_later, record_later, refused_goes, row_stays, settled_at_later}
 use Rattle.cl_schedule.proofs.Telling.{some_of_map}
 

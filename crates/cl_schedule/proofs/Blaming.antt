@@ -13,7 +13,7 @@ use Rattle.cl_model.proofs.Planned.{plan_exists}
 use Rattle.cl_model.proofs.Bind.{some_same}
 use Rattle.cl_config.specs.Views.{Configured, Scripted}
 use Rattle.cl_delegation.specs.Worlds.{world_of}
-use Rattle.cl_registry.specs.Tables.{Shown, IsKept}
+use Rattle.cl_registry.specs.Tables.{Shown, IsKept, machine}
 use Rattle.cl_tasks.specs.Blames.{AnswerBlames, AsksWhere, BlamesWhere}
 use Rattle.cl_tasks.specs.Follows.{Tells}
 use Rattle.cl_tasks.specs.Tasks.{Tasked}
@@ -22,7 +22,6 @@ use Rattle.cl_tasks.specs.declared.turn.Turn.{Turn}
 use Rattle.cl_tasks.specs.declared.turn.Turn.TheVariants as turn
 use Rattle.cl_schedule.specs.Blames.{EachBlames, IsAskedFor, TurnBlames}
 use Rattle.cl_schedule.specs.Rounds.{RoundsPassed}
-use Rattle.cl_schedule.specs.Serving.{machine}
 use Rattle.cl_schedule.proofs.Places.{other_set, same_or_apart, same_set}
 use Rattle.cl_schedule.proofs.Steps.{Turning, TurnSays, of_request, served_in}
 

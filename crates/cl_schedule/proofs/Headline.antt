@@ -18,9 +18,8 @@ use Rattle.cl_model.proofs.Reached.{said_alike, said_reference}
 use Rattle.cl_model.proofs.Tables.{recorded_reached, trusted_is_consistent}
 use Rattle.cl_model.proofs.Answered.{circle_is_answered, circular_is_answered}
 use Rattle.cl_model.proofs.Bind.{some_same}
-use Rattle.cl_registry.specs.Tables.{Shown, IsTrusted, IsKept, RunsAs, state_of, steps}
+use Rattle.cl_registry.specs.Tables.{Shown, IsTrusted, IsKept, RunsAs, state_of, steps, machine}
 use Rattle.cl_registry.proofs.Placed.{recorded_row}
-use Rattle.cl_schedule.specs.Serving.{machine}
 use Rattle.cl_config.specs.Loaders.{schedule_of}
 use Rattle.cl_schedule.specs.Headline.{EachSpelt, Alike, SaysOf, ReferencesAlike, EndsInCircle, CirclesExact}
 use Rattle.cl_schedule.proofs.Rounds.{answer_there, scheduled_at}

@@ -12,7 +12,7 @@ use Rattle.cl_model.specs.States.{Verdict, recorded}
 use Rattle.cl_model.specs.Machine.{IsPlan}
 use Rattle.cl_model.specs.Plans.{Plan, cost}
 use Rattle.cl_model.specs.Views.{answer_of, request_of}
-use Rattle.cl_registry.specs.Tables.{Shown, IsKept, IsOpen, state_of, with_post}
+use Rattle.cl_registry.specs.Tables.{Shown, IsKept, IsOpen, state_of, with_post, machine}
 use Rattle.cl_tasks.specs.Blames.{AnswerBlames}
 use Rattle.cl_tasks.specs.Calls.{calls_in}
 use Rattle.cl_tasks.specs.Follows.{AreLeft, CallsWithin, IsWithinCost, TellsNow, made_by}
@@ -33,7 +33,6 @@ use Rattle.cl_schedule.specs.Replies.{CallSays, IsCall, IsRead}
 use Rattle.cl_schedule.specs.Rooms.{AllSeated, HasTurned, IsServing, MayBeTaken, KeepsTakings, WaitsAgain, left_at}
 use Rattle.cl_schedule.specs.Rounds.{RoundsPassed}
 use Rattle.cl_schedule.specs.Seats.{GoesOn, HasPosted, IsReady, IsSeated, IsSeatedAt}
-use Rattle.cl_schedule.specs.Serving.{machine}
 use Rattle.cl_schedule.specs.Takings.{ComesNearer}
 use Rattle.cl_schedule.proofs.Later.{is_later}
 use Rattle.cl_schedule.proofs.Nearing.{memory_known, same_request, verdict_measure}

@@ -7,7 +7,7 @@ use Rattle.cl_model.specs.States.{State, start}
 use Rattle.cl_model.specs.Machine.{Scheduled, Setting, Step, state_after}
 use Rattle.cl_model.specs.Service.{PassesRounds}
 use Rattle.cl_model.proofs.Views.{state_then}
-use Rattle.cl_registry.specs.Tables.{Shown, MayGoOn, state_of, steps}
+use Rattle.cl_registry.specs.Tables.{Shown, MayGoOn, state_of, steps, machine}
 use Rattle.cl_schedule.specs.Choices.{AreInTime, Plays, PlayedAs, ArePrompt, IsInTime, IsPieceOf, IsPrompt, Piece, piece, steps_in}
 use Rattle.cl_schedule.specs.Counting.{debt}
 use Rattle.cl_schedule.specs.Nearing.{by_verdict}
@@ -17,7 +17,6 @@ use Rattle.cl_config.specs.Loaders.{schedule_of}
 use Rattle.cl_config.specs.Views.{Configured, Scripted}
 use Rattle.cl_schedule.specs.declared.choices.Room.{Room}
 use Rattle.cl_schedule.specs.Rounds.{RoundsPassed}
-use Rattle.cl_schedule.specs.Serving.{machine}
 use Rattle.cl_schedule.specs.Takings.{AreWithin}
 use Rattle.cl_schedule.proofs.Owing.{count_then}
 use Rattle.cl_schedule.proofs.Prompt.{each_none, each_push, is_in_time, is_prompt}

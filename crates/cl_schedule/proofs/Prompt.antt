@@ -7,13 +7,12 @@ use Rattle.cl_model.specs.Content.{Content}
 use Rattle.cl_model.specs.States.{State, Answer}
 use Rattle.cl_model.specs.Machine.{Setting, Step, Post, NextRound, state_after}
 use Rattle.cl_model.specs.Service.{PassesRounds}
-use Rattle.cl_registry.specs.Tables.{Shown, state_of, steps}
+use Rattle.cl_registry.specs.Tables.{Shown, state_of, steps, machine}
 use Rattle.cl_registry.proofs.Histories.{eq_nat}
 use Rattle.cl_schedule.specs.Choices.{Chooses, IsInTime, IsPrompt, Piece, first_taken, is_of, piece, takings}
 use Rattle.cl_schedule.specs.Known.{Has}
 use Rattle.cl_schedule.specs.Nearing.{by_verdict}
 use Rattle.cl_schedule.specs.Paying.{by_plan}
-use Rattle.cl_schedule.specs.Serving.{machine}
 use Rattle.cl_schedule.specs.Takings.{PostsInTime}
 use Rattle.cl_schedule.proofs.Places.{same_nat, true_false}
 use Rattle.cl_model.proofs.Bind.{some_same}

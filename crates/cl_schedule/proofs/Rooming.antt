@@ -19,7 +19,7 @@ use Rattle.cl_model.specs.Views.{answer_of}
 use Rattle.cl_model.specs.Steps.{IsOfService}
 use Rattle.cl_model.proofs.Views.{state_then}
 use Rattle.cl_model.proofs.Bind.{some_same}
-use Rattle.cl_registry.specs.Tables.{Shown, IsKept, IsOpen, empty_of, state_of, steps, with_post}
+use Rattle.cl_registry.specs.Tables.{Shown, IsKept, IsOpen, empty_of, state_of, steps, with_post, machine}
 use Rattle.cl_registry.specs.Tables as tables
 use Rattle.cl_registry.proofs.Histories.{steps_posts, unposted}
 use Rattle.cl_registry.proofs.Schedules.{some_at}
@@ -34,7 +34,6 @@ use Rattle.cl_schedule.specs.Replies.{Did}
 use Rattle.cl_schedule.specs.Rooms.{AllSeated, ChoosesIn, FirstFalls, HasTaken, IsRoom, IsServing, OpenSeats, PlaysIn, TakesFirst, WaitsAgain, first_left, left_at, left_of, room_sum}
 use Rattle.cl_schedule.specs.Rounds.{RoundsPassed}
 use Rattle.cl_schedule.specs.Seats.{AreOfRound, GoesOn, HasAdvanced, HasGathered, HasPosted, IsSeated, IsSeatedAt, NextIn}
-use Rattle.cl_schedule.specs.Serving.{machine}
 use Rattle.cl_schedule.proofs.Blaming.{each_blames_more, each_blames_none, each_blames_passed, each_blames_still}
 use Rattle.cl_schedule.proofs.Later.{after_then, goes_on_did, goes_on_posted, goes_on_rounds}
 use Rattle.cl_schedule.proofs.Gathering.{gathered}

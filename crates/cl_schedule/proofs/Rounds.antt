@@ -23,7 +23,7 @@ use Rattle.cl_model.proofs.Bind.{some_same}
 use Rattle.cl_config.specs.Loaders.{schedule, schedule_of}
 use Rattle.cl_config.specs.Scripts.{IsScript}
 use Rattle.cl_config.specs.Views.{Scripted}
-use Rattle.cl_registry.specs.Tables.{Shown, IsTrusted, IsOpen, IsLater, posts, round_of, state_of, steps, with_round}
+use Rattle.cl_registry.specs.Tables.{Shown, IsTrusted, IsOpen, IsLater, posts, round_of, state_of, steps, with_round, machine as machine_of}
 use Rattle.cl_registry.specs.Tables as tables
 use Rattle.cl_registry.specs.declared.registry.RegistryFault.{RegistryFault}
 use Rattle.cl_registry.specs.declared.registry.RegistryFault.TheVariants.{NotYet}
@@ -34,7 +34,7 @@ use Rattle.cl_registry.proofs.Schedules.{schedule_round}
 use Rattle.cl_registry.proofs.Calm.{post_other}
 use Rattle.cl_tasks.proofs.LinkPlan.{taken_long}
 use Rattle.cl_schedule.specs.Known.{Has, KnownStays, SaysOrLacks, TellsKnown}
-use Rattle.cl_schedule.specs.Serving.{machine as machine_of, GoesBy, InOrder, IsDone, IsPost, NoPosts, upto}
+use Rattle.cl_schedule.specs.Serving.{GoesBy, InOrder, IsDone, IsPost, NoPosts, upto}
 use Rattle.cl_schedule.specs.Rounds.{RoundsPassed}
 use Rattle.cl_schedule.proofs.Histories.{goes_event}
 use Rattle.cl_schedule.proofs.Known.{KeepsKnown, SaysKnown, known_at, known_piece, known_quiet}

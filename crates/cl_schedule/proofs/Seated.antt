@@ -16,7 +16,7 @@ use Rattle.cl_registry.specs.declared.registry.RegistryFault.{RegistryFault}
 use Rattle.cl_registry.specs.declared.registry.RegistryFault.TheVariants.{Memory, Stray, Violates, AlreadyPosted, NotYet}
 use Rattle.cl_registry.specs.References.{Cited, cited_by}
 use Rattle.cl_registry.specs.Refusals.{PostRefusedFor}
-use Rattle.cl_registry.specs.Tables.{Shown, IsAsked, IsKept, RunsAs, state_of, steps, with_post}
+use Rattle.cl_registry.specs.Tables.{Shown, IsAsked, IsKept, RunsAs, state_of, steps, with_post, machine}
 use Rattle.cl_tasks.specs.Facts.{Holds}
 use Rattle.cl_tasks.specs.Measures.{all_left}
 use Rattle.cl_tasks.specs.Follows.{AreLeft, Backed, FollowsWhere, Tells, TellsOf, Unrecorded}
@@ -29,7 +29,7 @@ use Rattle.cl_tasks.specs.declared.turn.Turn.{Turn}
 use Rattle.cl_tasks.specs.declared.turn.Turn.TheVariants as turn
 use Rattle.cl_schedule.specs.Replies.{CallSays, Did, IsCall, IsRead, IsReplied, IsStepOf}
 use Rattle.cl_schedule.specs.Seats.{FollowsIn, GoesOn, HasAdvanced, HasPosted, IsAfter, IsCitedFor, IsFor, IsReady, IsSeated, IsSeatedAt, MayPost, NextIn, PostsIn}
-use Rattle.cl_schedule.specs.Serving.{GoesBy, machine}
+use Rattle.cl_schedule.specs.Serving.{GoesBy}
 use Rattle.cl_schedule.proofs.Blaming.{blames_here}
 use Rattle.cl_schedule.proofs.Backing.{call_backed_later, cited_later, post_backed_later}
 use Rattle.cl_schedule.proofs.Later.{goes_on_did, goes_on_none, holds_later}

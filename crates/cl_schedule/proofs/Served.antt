@@ -10,13 +10,13 @@ use Rattle.cl_model.specs.Machine.{Setting, Step, Post, May, Run, state_after}
 use Rattle.cl_model.specs.Service.{IsNextStep, MayEnd, IsBegun}
 use Rattle.cl_model.specs.Views.{answer_of, request_of}
 use Rattle.cl_model.proofs.Service.{begun_push, begun_ends, run_last}
-use Rattle.cl_registry.specs.Tables.{Shown, IsKept, IsLater, IsOpen, RunsAs, posts, round_of, steps, state_of, with_post}
+use Rattle.cl_registry.specs.Tables.{Shown, IsKept, IsLater, IsOpen, RunsAs, posts, round_of, steps, state_of, with_post, machine}
 use Rattle.cl_registry.proofs.Histories.{posts_then, steps_posts, unposted}
 use Rattle.cl_tasks.specs.declared.turn.Turn.{Turn}
 use Rattle.cl_tasks.specs.Blames.{AnswerBlames}
 use Rattle.cl_tasks.specs.Follows.{AnswerFollows}
 use Rattle.cl_schedule.specs.Blames.{IsAskedFor}
-use Rattle.cl_schedule.specs.Serving.{machine, GoesBy, IsDone, IsPost, NoPosts, ServesAs}
+use Rattle.cl_schedule.specs.Serving.{GoesBy, IsDone, IsPost, NoPosts, ServesAs}
 use Rattle.cl_schedule.specs.Replies.{Did, IsStepOf}
 use Rattle.cl_schedule.proofs.States.{same_machine, state_goes}
 use Rattle.cl_schedule.proofs.Next.{step_quiet, step_within}

@@ -5,8 +5,8 @@ use Rattle.cl_model.specs.States.{State, recorded, start}
 use Rattle.cl_model.specs.Machine.{Step, after, state_after}
 use Rattle.cl_model.proofs.Runs.{records_stay}
 use Rattle.cl_model.proofs.Views.{state_then}
-use Rattle.cl_registry.specs.Tables.{Shown, state_of, records_of, steps}
-use Rattle.cl_schedule.specs.Serving.{machine, GoesBy}
+use Rattle.cl_registry.specs.Tables.{Shown, state_of, records_of, steps, machine}
+use Rattle.cl_schedule.specs.Serving.{GoesBy}
 
 pub same_machine : (old new : Shown) (content : Content) → new.config ≡ old.config → new.script ≡ old.script → machine new content ≡ machine old content
 same_machine old new content c s = rw (c, s) refl

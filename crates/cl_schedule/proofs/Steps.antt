@@ -8,7 +8,7 @@ use Rattle.cl_config.specs.Views.{Configured}
 use Rattle.cl_delegation.specs.Worlds.{setting_of}
 use Rattle.cl_config.specs.Loaders.{schedule_of}
 use Rattle.cl_model.proofs.Tables.{trusted_is_consistent}
-use Rattle.cl_registry.specs.Tables.{Shown, IsKept, RunsAs, state_of, steps}
+use Rattle.cl_registry.specs.Tables.{Shown, IsKept, RunsAs, state_of, steps, machine}
 use Rattle.cl_tasks.specs.Blames.{BlamesWhere}
 use Rattle.cl_tasks.specs.Facts.{Holds}
 use Rattle.cl_tasks.specs.Follows.{Backed, BackedWhere, Follows, FollowsWhere, Refuses, ServedIn, Tells, TellsNow, TellsOf, Unrecorded, refusal}
@@ -21,7 +21,6 @@ use Rattle.cl_tasks.specs.declared.turn.Turn.{Turn}
 use Rattle.cl_tasks.specs.declared.turn.Turn.TheVariants as turn
 use Rattle.cl_schedule.specs.Counting.{Grows, told_faults}
 use Rattle.cl_schedule.specs.Replies.{CallSays, Did, IsCall, IsStepOf, Shows}
-use Rattle.cl_schedule.specs.Serving.{machine}
 use Rattle.cl_schedule.proofs.Counted.{grows_none, grows_on, told_none}
 use Rattle.cl_schedule.proofs.Next.{next_of, step_of_call}
 use Rattle.cl_schedule.proofs.Served.{Going, going_did, going_start}

@@ -21,7 +21,7 @@ use Rattle.cl_model.proofs.Bind.{some_same}
 use Rattle.cl_config.specs.Loaders.{schedule_of}
 use Rattle.cl_config.specs.Views.{Configured, Scripted}
 use Rattle.cl_registry.specs.Reports.{IsUnfinished}
-use Rattle.cl_registry.specs.Tables.{Shown, IsKept, IsLater, IsOpen, IsTrusted, empty_of, round_of, state_of, steps, with_post}
+use Rattle.cl_registry.specs.Tables.{Shown, IsKept, IsLater, IsOpen, IsTrusted, empty_of, round_of, state_of, steps, with_post, machine}
 use Rattle.cl_registry.specs.Tables as tables
 use Rattle.cl_registry.proofs.Histories.{open_answer, eq_nat, steps_posts, swap_nat, unposted}
 use Rattle.cl_registry.proofs.Running.{answered}
@@ -31,7 +31,7 @@ use Rattle.cl_schedule.specs.Choices.{Takes, is_waiting, taken_by, waiting, wait
 use Rattle.cl_schedule.specs.Rooms.{MayBeTaken}
 use Rattle.cl_schedule.specs.Rounds.{RoundsPassed}
 use Rattle.cl_schedule.specs.Seats.{HasGathered, MayGather}
-use Rattle.cl_schedule.specs.Serving.{GoesBy, machine}
+use Rattle.cl_schedule.specs.Serving.{GoesBy}
 use Rattle.cl_schedule.proofs.Next.{step_within}
 use Rattle.cl_schedule.proofs.Rounds.{schedule_length, scheduled_at, within}
 use Rattle.cl_schedule.proofs.States.{state_goes}

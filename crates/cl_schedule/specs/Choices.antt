@@ -7,11 +7,11 @@ use Rattle.cl_model.specs.Machine.{Setting, Scheduled, Step, IsPlan, state_after
 use Rattle.cl_model.specs.Plans.{Plan, cost}
 use Rattle.cl_model.specs.Service.{IsPiece, PassesRounds}
 use Rattle.cl_registry.specs.declared.report.Report.{Report}
-use Rattle.cl_registry.specs.Tables.{Shown, steps}
+use Rattle.cl_registry.specs.Tables.{Shown, steps, machine}
 use Rattle.cl_schedule.specs.Blames.{EachBlames}
 use Rattle.cl_schedule.specs.Headline.{IsServed}
 use Rattle.cl_schedule.specs.Known.{Has, SaysOrLacks}
-use Rattle.cl_schedule.specs.Serving.{machine, reported}
+use Rattle.cl_schedule.specs.Serving.{reported}
 
 -- ---- who waits
 

@@ -13,10 +13,10 @@ use Rattle.cl_config.specs.Views.{Configured, Scripted}
 use Rattle.cl_hierarchy.specs.Drafts.{IsSpelt}
 use Rattle.cl_registry.specs.declared.report.Report.{Report}
 use Rattle.cl_registry.specs.Reports.{IsNamed}
-use Rattle.cl_registry.specs.Tables.{Shown, IsTrusted, RunsAs, posts, round_of, state_of}
+use Rattle.cl_registry.specs.Tables.{Shown, IsTrusted, RunsAs, posts, round_of, state_of, machine}
 use Rattle.cl_schedule.specs.Blames.{EachBlames}
 use Rattle.cl_schedule.specs.Known.{KnownStays}
-use Rattle.cl_schedule.specs.Serving.{HasEachBelow, InOrder, machine, reported, upto}
+use Rattle.cl_schedule.specs.Serving.{HasEachBelow, InOrder, reported, upto}
 
 -- each class that is recorded is spelt by its defining loader's bytes, by the grammar (4.1; 5.3.5)
 abbrev pub EachSpelt : Option Content → Shown → Type 0

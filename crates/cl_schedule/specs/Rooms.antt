@@ -8,7 +8,7 @@ use Rattle.cl_model.specs.Content.{Content}
 use Rattle.cl_model.specs.Machine.{Step, state_after}
 use Rattle.cl_model.specs.Service.{PassesRounds}
 use Rattle.cl_model.specs.States.{start}
-use Rattle.cl_registry.specs.Tables.{Shown, IsKept, IsLater, IsOpen, MayGoOn, state_of, steps}
+use Rattle.cl_registry.specs.Tables.{Shown, IsKept, IsLater, IsOpen, MayGoOn, state_of, steps, machine}
 use Rattle.cl_tasks.specs.Measures.{all_left}
 use Rattle.cl_schedule.specs.declared.choices.Room.{Room}
 use Rattle.cl_schedule.specs.declared.seats.Seat.{Seat}
@@ -21,7 +21,6 @@ use Rattle.cl_schedule.specs.Nearing.{by_verdict}
 use Rattle.cl_schedule.specs.Paying.{by_plan}
 use Rattle.cl_schedule.specs.Places.{seat_at}
 use Rattle.cl_schedule.specs.Seats.{HasAdvanced, HasGathered, HasPosted, IsSeated, IsSeatedAt}
-use Rattle.cl_schedule.specs.Serving.{machine}
 use Rattle.cl_schedule.specs.Takings.{ComesNearer, Keeps}
 
 -- ---- the room

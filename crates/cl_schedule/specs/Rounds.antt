@@ -4,8 +4,7 @@ use Rattle.cl_model.specs.declared.event.Event.{Event}
 use Rattle.cl_model.specs.Content.{Content}
 use Rattle.cl_model.specs.Machine.{Step}
 use Rattle.cl_model.specs.Service.{PassesRounds}
-use Rattle.cl_registry.specs.Tables.{Shown, posts, state_of, steps}
-use Rattle.cl_schedule.specs.Serving.{machine}
+use Rattle.cl_registry.specs.Tables.{Shown, posts, state_of, steps, machine}
 
 -- rounds alone began, one after another as long as the next one might: nothing else changed
 pub record RoundsPassed (old new : Shown) : Type 0 where

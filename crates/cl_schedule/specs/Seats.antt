@@ -13,7 +13,7 @@ use Rattle.cl_model.specs.Views.{answer_of, request_of}
 use Rattle.cl_model.specs.Steps.{IsOfService}
 use Rattle.cl_registry.specs.Posting.{IsBacked}
 use Rattle.cl_registry.specs.References.{Cited, cited_by}
-use Rattle.cl_registry.specs.Tables.{Shown, IsKept, IsLater, IsOpen, state_of, steps, with_post}
+use Rattle.cl_registry.specs.Tables.{Shown, IsKept, IsLater, IsOpen, state_of, steps, with_post, machine}
 use Rattle.cl_tasks.specs.Blames.{AnswerBlames}
 use Rattle.cl_tasks.specs.Facts.{Holds}
 use Rattle.cl_tasks.specs.Follows.{AreLeft, Backed, Follows, TellsNow}
@@ -28,7 +28,7 @@ use Rattle.cl_tasks.specs.declared.turn.Turn.TheVariants as turn
 use Rattle.cl_schedule.specs.Blames.{IsAskedFor, TurnBlames}
 use Rattle.cl_schedule.specs.Choices.{waiting}
 use Rattle.cl_schedule.specs.Replies.{Did, IsCall, IsRead}
-use Rattle.cl_schedule.specs.Serving.{machine, numbers_from}
+use Rattle.cl_schedule.specs.Serving.{numbers_from}
 
 -- ---- a registry later on
 

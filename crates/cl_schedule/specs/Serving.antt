@@ -12,8 +12,7 @@ use Rattle.cl_model.specs.Service.{Serves, AllServed}
 use Rattle.cl_registry.specs.declared.report.Report.{Report}
 use Rattle.cl_config.specs.Views.{Configured}
 use Rattle.cl_hierarchy.specs.Rows.{Rowed}
-use Rattle.cl_delegation.specs.Worlds.{setting_of}
-use Rattle.cl_registry.specs.Tables.{Shown, posts, steps, state_of}
+use Rattle.cl_registry.specs.Tables.{Shown, posts, steps, state_of, machine}
 use Rattle.cl_tasks.specs.Blames.{AnswerBlames}
 use Rattle.cl_schedule.specs.Blames.{IsAskedFor}
 
@@ -41,10 +40,6 @@ HasEachBelow n xs = (x : ℕ) → times x xs ≡ once_below x n
 -- the registry that a report was made from, but for its rows; each request has its answer
 abbrev pub reported : Configured → Report → Shown
 reported config r = record { config = config; script = r.script.value; rows = []; history = r.history; answers = map (λ a. Some a) r.answers }
-
--- the machine that a registry's history is one of, where this content is told (5.3)
-abbrev pub machine : Shown → Content → Setting
-machine x content = setting_of x.config x.script content
 
 -- the requests are served in order: for each what comes next in its service, one step after another, and then the post of
 -- the answer that it comes to, or of a failure after some of these; the next round begins as soon as it may (5.3 to 5.4.3)

@@ -7,15 +7,11 @@ use Rattle.cl_delegation.specs.Searches.{Located}
 use Rattle.cl_hierarchy.specs.Frames.{frame_of}
 use Rattle.cl_hierarchy.specs.Paths.{Pathed, frames_of}
 use Rattle.cl_tasks.specs.Stages.{sought_class}
-use Rattle.cl_tasks.specs.Turns.{IsDerived}
 use Rattle.cl_tasks.specs.declared.stage.Load.{Load}
 use Rattle.cl_tasks.specs.declared.stage.Load.TheVariants as loads
 use Rattle.cl_tasks.specs.declared.stage.Stage.{Stage}
 use Rattle.cl_tasks.specs.declared.stage.Stage.TheVariants as stages
-
--- each class that is derived now was so before, or is one of these (5.3.5)
-abbrev pub AreDerived : (Class → Type 0) → List Frame → List Frame → Type 0
-AreDerived absent before now = (c : Class) → IsDerived now c → IsDerived before c ⊎ absent c
+use Rattle.cl_tasks.specs.Turns.{AreDerived}
 
 -- the same of what a load is at; what it reads for is one of these, too (5.3, 5.3.5)
 abbrev pub LoadDerives : {A : Type 0} → (Class → Type 0) → List Frame → Load A → Type 0

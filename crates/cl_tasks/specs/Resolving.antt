@@ -84,11 +84,15 @@ pub record IsSettledKind (v : verdict.Verdict) : Type 0 where
   pub is_entry : v ≢ verdicts.BadEntry
   pub is_class_member : v ≢ verdicts.ArrayMember
 
--- the entry names a class (5.4.3.1)
-pub record HasNamed {A : Type 0} (e : entries.Entry A) (name : List ℕ) : Type 0 where
+-- the entry at an index of the class of a row names the class of this name (5.4.3.1)
+pub record CitesName (d : Rowed) (index : ℕ) (name : List ℕ) : Type 0 where
   pub cited : Reference
-  pub found : reference (file_of e.d.value.file) e.index ≡ Some cited
+  pub found : reference (file_of d.file) index ≡ Some cited
   pub names : class_named cited ≡ Some name
+
+-- the entry that is resolved names a class (5.4.3.1)
+abbrev pub HasNamed : {A : Type 0} → entries.Entry A → List ℕ → Type 0
+HasNamed e name = CitesName e.d.value e.index name
 
 -- a reference to a class or an array of so many dimensions (5.4.3.1)
 abbrev pub IsToClass : ℕ → Reference → Type 0
@@ -106,10 +110,8 @@ pub record IsItself (d c : Rowed) (dims : ℕ) (v : verdict.Verdict) : Type 0 wh
   pub settled : IsSettledKind v
 
 -- the entry at an index of the class of one lineage names that of the other (5.4.3.1)
-pub record Cites (own named : Lined) (index : ℕ) : Type 0 where
-  pub cited : Reference
-  pub found : reference (file_of own.own.file) index ≡ Some cited
-  pub names : class_named cited ≡ Some named.own.class.name
+abbrev pub Cites : Lined → Lined → ℕ → Type 0
+Cites own named index = CitesName own.own index named.own.class.name
 
 -- the class that the entry names is not accessible to that whose pool has it (5.4.4)
 pub record IsRefusedAccess {A : Type 0} (e : entries.Entry A) (own named : Lined) : Type 0 where

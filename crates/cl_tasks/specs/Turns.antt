@@ -97,6 +97,10 @@ abbrev pub WasAbsent : {A : Type 0} → Tasked → Reply A → Class → Type 0
 WasAbsent t (reply.Looked None) c = (t.absent ≡ Some c) ⊎ (t.waits ≡ Looking c.loader c.name)
 WasAbsent t other c = t.absent ≡ Some c
 
+-- each class that is derived now was so before, or is one of these (5.3.5)
+abbrev pub AreDerived : (Class → Type 0) → List Frame → List Frame → Type 0
+AreDerived absent before now = (c : Class) → IsDerived now c → IsDerived before c ⊎ absent c
+
 -- a class is defined that the task derives (5.3.5)
 abbrev pub AsksDerived : {A : Type 0} → Tasked → Turn A → Type 0
 AsksDerived t (turn.Define d) = IsDerived t.frames d.class
@@ -105,7 +109,7 @@ AsksDerived t other = Unit {0}
 -- a task reads for a class, and derives it, only after it was told that the class's loader has no record (5.3, 5.3.5)
 pub record DerivesUnrecorded {A : Type 0} (old new : Tasked) (r : Reply A) (t : Turn A) : Type 0 where
   pub absent : (c : Class) → new.absent ≡ Some c → WasAbsent old r c
-  pub derived : (c : Class) → IsDerived new.frames c → IsDerived old.frames c ⊎ WasAbsent old r c
+  pub derived : AreDerived (WasAbsent old r) old.frames new.frames
   pub asked : AsksDerived new t
 
 -- the loaders on the way of a class: those that are asked for its name where its own loader is asked for it (5.3.2)

@@ -1,8 +1,8 @@
 //! Which replies are ones to what was asked.
 
-ghost use Rattle.std.specs.Prelude.{◌≡◌, ℕ, List, Some, MatchBool};
+ghost use Rattle.std.specs.Prelude.{◌≡◌, ℕ, List, Some};
 ghost use Rattle.cl_config.specs.Views.{Configured};
-ghost use Rattle.cl_findings.specs.Findings.{IsSettledFor};
+ghost use Rattle.cl_findings.specs.Findings.{IsSettledFor, Decides};
 ghost use Rattle.cl_hierarchy.specs.Imposed.{equal_need};
 ghost use Rattle.cl_model.specs.declared.class.Class as classes;
 ghost use Rattle.cl_model.specs.States.{Entry};
@@ -22,8 +22,7 @@ use std::sync::Arc;
 
 /// Whether a reply is one to a task that has not begun.
 fn is_to_begin<T: Told>(reply: &Reply<T>) -> bool
-    ensures { (c : Configured) → MatchBool result (IsReplyTo c waits.Beginning reply.now)
-        (IsReplyTo c waits.Beginning reply.now → ⊥) }
+    ensures { (c : Configured) → Decides result (IsReplyTo c waits.Beginning reply.now) }
 {
     match reply {
         Reply::Start | Reply::Memory => true,
@@ -34,8 +33,7 @@ fn is_to_begin<T: Told>(reply: &Reply<T>) -> bool
 /// Whether it is one to a look.
 fn is_to_look<T: Told>(reply: &Reply<T>) -> bool
     ensures { (c : Configured) (l : ℕ) (n : List ℕ)
-        → MatchBool result (IsReplyTo c (waits.Looking l n) reply.now)
-        (IsReplyTo c (waits.Looking l n) reply.now → ⊥) }
+        → Decides result (IsReplyTo c (waits.Looking l n) reply.now) }
 {
     match reply {
         Reply::Looked(_) | Reply::Memory => true,
@@ -46,8 +44,7 @@ fn is_to_look<T: Told>(reply: &Reply<T>) -> bool
 /// Whether it is one to a read of a name of a loader.
 fn is_to_read<T: Told>(loader: LoaderId, name: &Name, reply: &Reply<T>) -> bool
     ensures { (c : Configured)
-        → MatchBool result (IsReplyTo c (waits.Reading loader name.now) reply.now)
-        (IsReplyTo c (waits.Reading loader name.now) reply.now → ⊥) }
+        → Decides result (IsReplyTo c (waits.Reading loader name.now) reply.now) }
 {
     match reply {
         Reply::Probed(probe) => probe.loader() == loader && *probe.name() == *name,
@@ -58,8 +55,7 @@ fn is_to_read<T: Told>(loader: LoaderId, name: &Name, reply: &Reply<T>) -> bool
 
 /// Whether a need is this record.
 fn is_entry(need: &Need, loader: LoaderId, name: &Name, home: LoaderId) -> bool
-    ensures { MatchBool result (Entry loader name.now home ≡ need_of need.now)
-        (Entry loader name.now home ≡ need_of need.now → ⊥) }
+    ensures { Decides result (Entry loader name.now home ≡ need_of need.now) }
 {
     match need {
         Need::Entry {
@@ -73,8 +69,7 @@ fn is_entry(need: &Need, loader: LoaderId, name: &Name, home: LoaderId) -> bool
 
 /// Whether a need is this equality.
 fn is_equality(need: &Need, equality: &Equality) -> bool
-    ensures { MatchBool result (equal_need equality.now ≡ need_of need.now)
-        (equal_need equality.now ≡ need_of need.now → ⊥) }
+    ensures { Decides result (equal_need equality.now ≡ need_of need.now) }
 {
     match need {
         Need::Entry { .. } => false,
@@ -84,8 +79,7 @@ fn is_equality(need: &Need, equality: &Equality) -> bool
 
 /// Whether it is one to the record of a class.
 fn is_to_define<T: Told>(draft: &Draft<T>, reply: &Reply<T>) -> bool
-    ensures { (c : Configured) → MatchBool result (IsReplyTo c (waits.Defining draft.now) reply.now)
-        (IsReplyTo c (waits.Defining draft.now) reply.now → ⊥) }
+    ensures { (c : Configured) → Decides result (IsReplyTo c (waits.Defining draft.now) reply.now) }
 {
     match reply {
         Reply::Defined(_) | Reply::Memory => true,
@@ -100,8 +94,7 @@ fn is_to_define<T: Told>(draft: &Draft<T>, reply: &Reply<T>) -> bool
 /// Whether it is one to the record of the loader that was asked.
 fn is_to_initiate<T: Told>(home: &Home<T>, reply: &Reply<T>) -> bool
     ensures { (c : Configured)
-        → MatchBool result (IsReplyTo c (waits.Initiating home.now) reply.now)
-        (IsReplyTo c (waits.Initiating home.now) reply.now → ⊥) }
+        → Decides result (IsReplyTo c (waits.Initiating home.now) reply.now) }
 {
     match reply {
         Reply::Initiated(_) | Reply::Memory => true,
@@ -112,8 +105,7 @@ fn is_to_initiate<T: Told>(home: &Home<T>, reply: &Reply<T>) -> bool
 
 /// Whether it is one to the question for the lineage of a class.
 fn is_to_trace<T: Told>(config: &Config, class: &Class, reply: &Reply<T>) -> bool
-    ensures { MatchBool result (IsReplyTo config.now (waits.Tracing class.now) reply.now)
-        (IsReplyTo config.now (waits.Tracing class.now) reply.now → ⊥) }
+    ensures { Decides result (IsReplyTo config.now (waits.Tracing class.now) reply.now) }
 {
     match reply {
         Reply::Lineage(lineage) => {
@@ -126,8 +118,7 @@ fn is_to_trace<T: Told>(config: &Config, class: &Class, reply: &Reply<T>) -> boo
 
 /// Whether what is settled is the entry at an index of the pool of a class.
 fn is_of(settled: &Settled, class: &Class, index: u16) -> bool
-    ensures { MatchBool result ((settled.now.class ≡ class.now) × (settled.now.index ≡ index))
-        ((settled.now.class ≡ class.now) × (settled.now.index ≡ index) → ⊥) }
+    ensures { Decides result ((settled.now.class ≡ class.now) × (settled.now.index ≡ index)) }
 {
     settled.class.is_same(class) && settled.index == index
 }
@@ -135,8 +126,7 @@ fn is_of(settled: &Settled, class: &Class, index: u16) -> bool
 /// Whether it is one to a look at the entry at an index of the pool of a class.
 fn is_to_look_reference<T: Told>(class: &Class, index: u16, reply: &Reply<T>) -> bool
     ensures { (c : Configured)
-        → MatchBool result (IsReplyTo c (waits.LookingReference class.now index) reply.now)
-        (IsReplyTo c (waits.LookingReference class.now index) reply.now → ⊥) }
+        → Decides result (IsReplyTo c (waits.LookingReference class.now index) reply.now) }
 {
     match reply {
         Reply::LookedReference(None) | Reply::Memory => true,
@@ -147,8 +137,7 @@ fn is_to_look_reference<T: Told>(class: &Class, index: u16, reply: &Reply<T>) ->
 
 /// Whether what is settled is the entry of a request.
 fn is_for(settled: &Settled, request: &Request) -> bool
-    ensures { MatchBool result (IsSettledFor request.now settled.now)
-        (IsSettledFor request.now settled.now → ⊥) }
+    ensures { Decides result (IsSettledFor request.now settled.now) }
 {
     match request {
         Request::Resolve(_, name, index) => *name == settled.class.name && *index == settled.index,
@@ -159,8 +148,7 @@ fn is_for(settled: &Settled, request: &Request) -> bool
 /// Whether it is one to the settlement of the entry of a request.
 fn is_to_settle<T: Told>(request: &Request, reply: &Reply<T>) -> bool
     ensures { (c : Configured)
-        → MatchBool result (IsReplyTo c (waits.Settling request.now) reply.now)
-        (IsReplyTo c (waits.Settling request.now) reply.now → ⊥) }
+        → Decides result (IsReplyTo c (waits.Settling request.now) reply.now) }
 {
     match reply {
         Reply::Settled(settled) => is_for(settled, request),
@@ -171,8 +159,7 @@ fn is_to_settle<T: Told>(request: &Request, reply: &Reply<T>) -> bool
 
 /// Whether a need is the equality at a place of a list.
 fn is_equality_at<T: Told>(list: &Equalities<T>, place: usize, need: &Need) -> bool
-    ensures { MatchBool result (equality_at list.now place ≡ Some (need_of need.now))
-        (equality_at list.now place ≡ Some (need_of need.now) → ⊥) }
+    ensures { Decides result (equality_at list.now place ≡ Some (need_of need.now)) }
 {
     match list.needs().get(place) {
         Some(equality) => is_equality(need, equality),
@@ -183,8 +170,7 @@ fn is_equality_at<T: Told>(list: &Equalities<T>, place: usize, need: &Need) -> b
 /// Whether it is one to the imposition of the equality at a place of a list.
 fn is_to_impose<T: Told>(list: &Equalities<T>, place: usize, reply: &Reply<T>) -> bool
     ensures { (c : Configured)
-        → MatchBool result (IsReplyTo c (waits.Imposing list.now place) reply.now)
-        (IsReplyTo c (waits.Imposing list.now place) reply.now → ⊥) }
+        → Decides result (IsReplyTo c (waits.Imposing list.now place) reply.now) }
 {
     match reply {
         Reply::Imposed | Reply::Memory => true,
@@ -196,8 +182,7 @@ fn is_to_impose<T: Told>(list: &Equalities<T>, place: usize, reply: &Reply<T>) -
 /// Whether it is one to a look whether a class is prepared.
 fn is_to_look_prepared<T: Told>(reply: &Reply<T>) -> bool
     ensures { (c : Configured) (k : classes.Class)
-        → MatchBool result (IsReplyTo c (waits.LookingPrepared k) reply.now)
-        (IsReplyTo c (waits.LookingPrepared k) reply.now → ⊥) }
+        → Decides result (IsReplyTo c (waits.LookingPrepared k) reply.now) }
 {
     match reply {
         Reply::LookedPrepared(_) | Reply::Memory => true,
@@ -207,8 +192,7 @@ fn is_to_look_prepared<T: Told>(reply: &Reply<T>) -> bool
 
 /// Whether it is one to the preparation of a class.
 fn is_to_mark<T: Told>(list: &Equalities<T>, reply: &Reply<T>) -> bool
-    ensures { (c : Configured) → MatchBool result (IsReplyTo c (waits.Marking list.now) reply.now)
-        (IsReplyTo c (waits.Marking list.now) reply.now → ⊥) }
+    ensures { (c : Configured) → Decides result (IsReplyTo c (waits.Marking list.now) reply.now) }
 {
     let _ = list;
     match reply {
@@ -229,8 +213,7 @@ fn place_of<T: Told>(search: &Search<T>) -> LoaderId
 
 /// Whether a reply is one to what a load asked for.
 fn load_expects<T: Told>(load: &Load<T>, reply: &Reply<T>) -> bool
-    ensures { (c : Configured) → MatchBool result (Expects (loading_at c load.now) reply.now)
-        (Expects (loading_at c load.now) reply.now → ⊥) }
+    ensures { (c : Configured) → Decides result (Expects (loading_at c load.now) reply.now) }
 {
     match load {
         Load::Fresh(_) => is_to_begin(reply),
@@ -248,8 +231,7 @@ fn resolution_expects<T: Told>(
     resolution: &Resolution<T>,
     reply: &Reply<T>,
 ) -> bool
-    ensures { MatchBool result (Expects (resolving_at config.now resolution.now) reply.now)
-        (Expects (resolving_at config.now resolution.now) reply.now → ⊥) }
+    ensures { Decides result (Expects (resolving_at config.now resolution.now) reply.now) }
 {
     match resolution {
         Resolution::Checking(_) => is_to_look(reply),
@@ -265,8 +247,7 @@ fn resolution_expects<T: Told>(
 
 /// Whether a reply is one to what a link asked for.
 fn link_expects<T: Told>(config: &Config, link: &Link<T>, reply: &Reply<T>) -> bool
-    ensures { MatchBool result (Expects (linking_at config.now link.now) reply.now)
-        (Expects (linking_at config.now link.now) reply.now → ⊥) }
+    ensures { Decides result (Expects (linking_at config.now link.now) reply.now) }
 {
     match link {
         Link::LookingPrepared(_) => is_to_look_prepared(reply),
@@ -279,8 +260,7 @@ fn link_expects<T: Told>(config: &Config, link: &Link<T>, reply: &Reply<T>) -> b
 
 /// Whether a reply is one to what a task asked for that posted its answer: none is.
 fn end_expects<T: Told>(reply: &Reply<T>) -> bool
-    ensures { (c : Configured) → MatchBool result (IsReplyTo c waits.Ended reply.now)
-        (IsReplyTo c waits.Ended reply.now → ⊥) }
+    ensures { (c : Configured) → Decides result (IsReplyTo c waits.Ended reply.now) }
 {
     let _ = reply;
     false
@@ -288,8 +268,7 @@ fn end_expects<T: Told>(reply: &Reply<T>) -> bool
 
 /// Whether a reply is one to what a task at this stage asked for.
 pub(crate) fn expects<T: Told>(config: &Arc<Config>, stage: &Stage<T>, reply: &Reply<T>) -> bool
-    ensures { MatchBool result (Expects (task_at config.now.value stage.now) reply.now)
-        (Expects (task_at config.now.value stage.now) reply.now → ⊥) }
+    ensures { Decides result (Expects (task_at config.now.value stage.now) reply.now) }
 {
     match stage {
         Stage::Load(load) => load_expects(load, reply),

@@ -1,5 +1,5 @@
-ghost use Rattle.std.specs.Prelude.{◌≡◌, ◌<◌, IfOk, IfErr, IfSome, MatchBool, length};
-ghost use Rattle.cl_findings.specs.Findings.{loader_of};
+ghost use Rattle.std.specs.Prelude.{◌≡◌, ◌<◌, IfOk, IfErr, IfSome, length};
+ghost use Rattle.cl_findings.specs.Findings.{loader_of, Decides};
 ghost use Rattle.cl_registry.specs.Tables.{Shown};
 ghost use Rattle.cl_tasks.specs.Blames.{BlamesWhere};
 ghost use Rattle.cl_tasks.specs.Facts.{Holds};
@@ -100,7 +100,7 @@ impl<T: Told> Task<T> {
 
     /// Whether a reply is one to what the task asked for.
     pub fn expects(&self, reply: &Reply<T>) -> bool
-        ensures { MatchBool result (Expects self.now reply.now) (Expects self.now reply.now → ⊥) }
+        ensures { Decides result (Expects self.now reply.now) }
     {
         expects(&self.config, &self.stage, reply)
     }

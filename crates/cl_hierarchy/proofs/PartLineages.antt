@@ -101,6 +101,7 @@ part_own l start above own h i t =
     let same : own.class ≡ start.class = ap (λ (k : Kin). k.class) is.own_kin in
     let last : IsRowIn rows own = (all_pop (IsRowIn rows) above own t.all).1 in
     same_Some own start (sym last ∙ ap (λ (c : Class). row_of rows c) same ∙ i)
+
 -- ---- what was told by places
 
 rows_in_all : (rows : List Rowed) (ps : List ℕ) → SupersBefore [] rows → AllByRecursion (HasRow rows) ps → AllByRecursion (IsRowIn rows) (rows_at rows ps)

@@ -28,7 +28,6 @@ use Rattle.cl_hierarchy.proofs.Stages.{IsStage, ended_by, first_stage, preserved
 use Rattle.cl_hierarchy.proofs.SuperTables.{supers_at}
 use Rattle.cl_hierarchy.proofs.Tours.{lineage_told}
 
-
 -- ---- rows at places
 
 -- one row

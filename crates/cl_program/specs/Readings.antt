@@ -1,12 +1,12 @@
 -- What reading a class file answers, and what it writes.
-use Rattle.std.specs.Prelude.{◌≡◌, ◌⊎◌, ℕ, ⊤, List, Result, Ok, Err, string_bytes}
+use Rattle.std.specs.Prelude.{◌≡◌, ◌⊎◌, ℕ, ⊤, List, Result, Ok, Err}
 use Rattle.cl_classfile.specs.Structure.{Structure}
 use Rattle.cl_classfile.specs.declared.fault.Fault.{Fault as ClassFault}
 use Rattle.cl_classfile.specs.declared.fault.ReadError.TheVariants as errors
 use Rattle.cl_classfile.specs.Reading.{read_of}
 use Rattle.cl_writer.specs.Listings.{listing_of}
-use Rattle.cl_source.specs.Seen.{IsTooLarge, IsWithin}
-use Rattle.cl_program.specs.Files.{Giving, IsUnreadable, IsUnread}
+use Rattle.cl_source.specs.Seen.{IsWithin}
+use Rattle.cl_program.specs.Files.{Giving, IsUnread}
 use Rattle.cl_program.specs.Outputs.{BreaksOff, EndsWith, Outputs, Prints, Stream, WritesNothing}
 use Rattle.cl_program.specs.declared.fault.Fault.{Fault}
 use Rattle.cl_program.specs.declared.fault.Fault.TheVariants.{Write, TooLarge, Path, File, Memory}

@@ -37,10 +37,10 @@ method_says bytes m s k (Some t) e = (m, s, (k, rw e refl))
 says : (bytes : List ℕ) (r : Result FieldType DescriptorFault) (q : Result MethodType DescriptorFault) → field_of bytes ≡ r → method_of bytes ≡ q → FormOf bytes (option_or (field_form r) (method_form q))
 says bytes (Ok t) q e d =
     let is = field_is bytes (Ok t) e in
-    field_says bytes t (method_form q) is.0 (record { shallow = is.1 }) (eqb t.dims 0) refl
+    field_says bytes t (method_form q) is.0 is.1 (eqb t.dims 0) refl
 says bytes (Err f) (Ok m) e d =
     let is = method_is bytes (Ok m) d in
-    method_says bytes m is.0 (record { shallow = is.1; short = is.2 }) m.ret refl
+    method_says bytes m is.0 is.1 m.ret refl
 says bytes (Err f) (Err g) e d = (
   λ h. absurd (let read = field_read bytes h.0 h.1 h.2 in cc),
   λ h. absurd (let read = method_read bytes h.0 h.1 h.2 in cc),
@@ -78,7 +78,7 @@ method_told bytes m s k = rw (begins bytes _ s.spelled, method_read bytes m s k)
 -- ---- units
 
 units_by : (bytes : List ℕ) (q : Result MethodType DescriptorFault) → method_of bytes ≡ q → UnitsOf bytes (option_map units_of_method (result_ok q))
-units_by bytes (Ok m) d = let is = method_is bytes (Ok m) d in (m, is.0, (record { shallow = is.1; short = is.2 }, refl))
+units_by bytes (Ok m) d = let is = method_is bytes (Ok m) d in (m, is.0, (is.1, refl))
 units_by bytes (Err g) d = λ h. absurd (let read = method_read bytes h.0 h.1 h.2 in cc)
 
 pub units_are : (bytes : List ℕ) → UnitsOf bytes (units_of bytes)

@@ -16,8 +16,8 @@ shallow_outcome : (bytes : List ℕ) (t : FieldType) → SpellsField bytes t →
     → Gives r (if b then Ok t else Err TooManyDimensions) → FieldOf bytes r
 shallow_outcome bytes t s true e (Ok x) g =
     let is : t ≡ x = cc in
-    subst (λ (y : FieldType). FieldOf bytes (Ok y)) is (s, e)
-shallow_outcome bytes t s true e (Err Memory) g = (t, s, e)
+    subst (λ (y : FieldType). FieldOf bytes (Ok y)) is (s, record { shallow = e })
+shallow_outcome bytes t s true e (Err Memory) g = (t, s, record { shallow = e })
 shallow_outcome bytes t s true e (Err Malformed) g = absurd cc
 shallow_outcome bytes t s true e (Err TooManyDimensions) g = absurd cc
 shallow_outcome bytes t s true e (Err TooManyUnits) g = absurd cc
@@ -49,8 +49,8 @@ method_limits : (bytes : List ℕ) (m : MethodType) → SpellsMethod bytes m →
     → Gives r (if b then if c then Ok m else Err TooManyUnits else Err TooManyDimensions) → MethodOf bytes r
 method_limits bytes m s true true e f (Ok x) g =
     let is : m ≡ x = cc in
-    subst (λ (y : MethodType). MethodOf bytes (Ok y)) is (s, e, f)
-method_limits bytes m s true true e f (Err Memory) g = (m, s, (e, f))
+    subst (λ (y : MethodType). MethodOf bytes (Ok y)) is (s, record { shallow = e; short = f })
+method_limits bytes m s true true e f (Err Memory) g = (m, s, record { shallow = e; short = f })
 method_limits bytes m s true true e f (Err Malformed) g = absurd cc
 method_limits bytes m s true true e f (Err TooManyDimensions) g = absurd cc
 method_limits bytes m s true true e f (Err TooManyUnits) g = absurd cc

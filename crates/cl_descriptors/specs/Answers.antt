@@ -44,31 +44,6 @@ IsField bytes Kind = (t : FieldType) × SpellsField bytes t × Kind t
 abbrev pub IsMethod : List ℕ → (MethodType → Type 0) → Type 0
 IsMethod bytes Kind = (m : MethodType) × SpellsMethod bytes m × Kind m
 
--- what reading as a field descriptor may answer (JVMS SE 8, 4.3.2)
-abbrev pub FieldOf : List ℕ → Result FieldType DescriptorFault → Type 0
-FieldOf bytes (Ok t) = SpellsField bytes t × IsTrue (is_shallow t)
-FieldOf bytes (Err Malformed) = (t : FieldType) → SpellsField bytes t → ⊥
-FieldOf bytes (Err TooManyDimensions) = IsField bytes (λ t. IsFalse (is_shallow t))
-FieldOf bytes (Err TooManyUnits) = ⊥
-FieldOf bytes (Err Memory) = IsField bytes (λ t. IsTrue (is_shallow t))
-
--- what reading as a method descriptor may answer (JVMS SE 8, 4.3.3)
-abbrev pub MethodOf : List ℕ → Result MethodType DescriptorFault → Type 0
-MethodOf bytes (Ok m) = SpellsMethod bytes m × IsTrue (are_shallow m) × IsTrue (is_short m)
-MethodOf bytes (Err Malformed) = (m : MethodType) → SpellsMethod bytes m → ⊥
-MethodOf bytes (Err TooManyDimensions) = IsMethod bytes (λ m. IsFalse (are_shallow m))
-MethodOf bytes (Err TooManyUnits) =
-    IsMethod bytes (λ m. IsTrue (are_shallow m) × IsFalse (is_short m))
-MethodOf bytes (Err Memory) = IsMethod bytes (λ m. IsTrue (are_shallow m) × IsTrue (is_short m))
-
--- the answer is that of the bytes, and memory is wanting only where they are a descriptor
-abbrev pub Gives : {A : Type 0} → Result A DescriptorFault → Result A DescriptorFault → Type 0
-Gives (Ok x) reading = reading ≡ Ok x
-Gives (Err Malformed) reading = reading ≡ Err Malformed
-Gives (Err TooManyDimensions) reading = reading ≡ Err TooManyDimensions
-Gives (Err TooManyUnits) reading = reading ≡ Err TooManyUnits
-Gives (Err Memory) reading = IsOk reading
-
 -- a field type within the limit (JVMS SE 8, 4.3.2)
 pub record IsFieldType (t : FieldType) : Type 0 where
   pub shallow : IsTrue (is_shallow t)
@@ -78,15 +53,56 @@ pub record IsMethodType (m : MethodType) : Type 0 where
   pub shallow : IsTrue (are_shallow m)
   pub short : IsTrue (is_short m)
 
+-- the bytes are a field descriptor (JVMS SE 8, 4.3.2)
+abbrev pub IsFieldDescriptor : List ℕ → Type 0
+IsFieldDescriptor bytes = IsField bytes IsFieldType
+
+-- the bytes are the descriptor of an array (JVMS SE 8, 4.3.2)
+abbrev pub IsArrayDescriptor : List ℕ → Type 0
+IsArrayDescriptor bytes = IsField bytes (λ t. IsFieldType t × (t.dims ≢ 0))
+
+-- the bytes are a method descriptor (JVMS SE 8, 4.3.3)
+abbrev pub IsMethodDescriptor : List ℕ → Type 0
+IsMethodDescriptor bytes = IsMethod bytes IsMethodType
+
+-- the bytes are the descriptor of a method that returns nothing (JVMS SE 8, 4.3.3)
+abbrev pub IsVoidDescriptor : List ℕ → Type 0
+IsVoidDescriptor bytes = IsMethod bytes (λ m. IsMethodType m × (m.ret ≡ None))
+
+-- what reading as a field descriptor may answer (JVMS SE 8, 4.3.2)
+abbrev pub FieldOf : List ℕ → Result FieldType DescriptorFault → Type 0
+FieldOf bytes (Ok t) = SpellsField bytes t × IsFieldType t
+FieldOf bytes (Err Malformed) = (t : FieldType) → SpellsField bytes t → ⊥
+FieldOf bytes (Err TooManyDimensions) = IsField bytes (λ t. IsFalse (is_shallow t))
+FieldOf bytes (Err TooManyUnits) = ⊥
+FieldOf bytes (Err Memory) = IsFieldDescriptor bytes
+
+-- what reading as a method descriptor may answer (JVMS SE 8, 4.3.3)
+abbrev pub MethodOf : List ℕ → Result MethodType DescriptorFault → Type 0
+MethodOf bytes (Ok m) = SpellsMethod bytes m × IsMethodType m
+MethodOf bytes (Err Malformed) = (m : MethodType) → SpellsMethod bytes m → ⊥
+MethodOf bytes (Err TooManyDimensions) = IsMethod bytes (λ m. IsFalse (are_shallow m))
+MethodOf bytes (Err TooManyUnits) =
+    IsMethod bytes (λ m. IsTrue (are_shallow m) × IsFalse (is_short m))
+MethodOf bytes (Err Memory) = IsMethodDescriptor bytes
+
+-- the answer is that of the bytes, and memory is wanting only where they are a descriptor
+abbrev pub Gives : {A : Type 0} → Result A DescriptorFault → Result A DescriptorFault → Type 0
+Gives (Ok x) reading = reading ≡ Ok x
+Gives (Err Malformed) reading = reading ≡ Err Malformed
+Gives (Err TooManyDimensions) reading = reading ≡ Err TooManyDimensions
+Gives (Err TooManyUnits) reading = reading ≡ Err TooManyUnits
+Gives (Err Memory) reading = IsOk reading
+
 -- the form says what the bytes are the descriptor of, if of anything (JVMS SE 8, 4.3)
 abbrev pub FormOf : List ℕ → Option Form → Type 0
-FormOf bytes None = (IsField bytes IsFieldType → ⊥) × (IsMethod bytes IsMethodType → ⊥)
+FormOf bytes None = (IsFieldDescriptor bytes → ⊥) × (IsMethodDescriptor bytes → ⊥)
 FormOf bytes (Some Plain) = IsField bytes (λ t. IsFieldType t × (t.dims ≡ 0))
-FormOf bytes (Some Array) = IsField bytes (λ t. IsFieldType t × (t.dims ≢ 0))
+FormOf bytes (Some Array) = IsArrayDescriptor bytes
 FormOf bytes (Some Method) = IsMethod bytes (λ m. IsMethodType m × IsSome m.ret)
-FormOf bytes (Some Void) = IsMethod bytes (λ m. IsMethodType m × (m.ret ≡ None))
+FormOf bytes (Some Void) = IsVoidDescriptor bytes
 
 -- the units of the parameters, if the bytes are the descriptor of a method (JVMS SE 8, 4.3.3)
 abbrev pub UnitsOf : List ℕ → Option ℕ → Type 0
-UnitsOf bytes None = IsMethod bytes IsMethodType → ⊥
+UnitsOf bytes None = IsMethodDescriptor bytes → ⊥
 UnitsOf bytes (Some n) = IsMethod bytes (λ m. IsMethodType m × (units_of_method m ≡ n))

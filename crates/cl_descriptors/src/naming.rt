@@ -1,6 +1,6 @@
 //! The classes that types name.
 
-ghost use Rattle.std.specs.Prelude.{◌≡◌, ◌++◌, OnOk, IfOk, IfErr, option_map, option_to_list, filter_map};
+ghost use Rattle.std.specs.Prelude.{◌≡◌, ◌++◌, OnOk, IfOk, IsOkUnless, option_map, option_to_list, filter_map};
 ghost use Rattle.cl_descriptors.specs.Types.{class_of_base, class_of, classes_of};
 ghost use Rattle.cl_descriptors.specs.declared.types.DescriptorFault.TheVariants.{Memory};
 
@@ -25,7 +25,7 @@ impl MethodType {
     /// It is refused only where memory runs out.
     pub fn element_names(&self, alloc: Global) -> Result<Vec<Name>, DescriptorFault>
         ensures names { IfOk result (λ names. names.items ≡ classes_of self.now) }
-        ensures memory { IfErr result (λ fault. fault ≡ Memory) }
+        ensures memory { IsOkUnless result Memory }
     {
         let mut names = Vec::new(alloc);
         if let Some(ret) = &self.ret {

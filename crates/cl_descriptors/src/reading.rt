@@ -1,9 +1,9 @@
 //! Reading descriptors: a first pass decides without memory, a second builds.
 
-ghost use Rattle.std.specs.Prelude.{◌≡◌, Some, ◌≤◌, ◌<◌, ◌+◌, ◌*◌, ◌^◌, ◌&&◌, length, IsTrue, IfSome, IfOk, sum_by, option_map};
+ghost use Rattle.std.specs.Prelude.{◌≡◌, Some, ◌≤◌, ◌<◌, ◌+◌, ◌*◌, ◌^◌, ◌&&◌, length, IsTrue, IfSome, IfOk, option_map};
 ghost use Rattle.std.specs.List.{list_all};
 ghost use Rattle.cl_descriptors.specs.Types.{SpellsField, SpellsMethod, AreNamed, is_shallow, are_shallow, is_short};
-ghost use Rattle.cl_descriptors.specs.Units.{units_of_field};
+ghost use Rattle.cl_descriptors.specs.Units.{units_of_field, units_of_types};
 ghost use Rattle.cl_descriptors.specs.Pieces.{seen, outlined, IsCounted};
 ghost use Rattle.cl_descriptors.specs.Reading.{all_types, whole_method, within_field, within_method, field_of, method_of, field_form, method_form, form_of, units_of};
 ghost use Rattle.cl_descriptors.specs.Answers.{FieldOf, MethodOf, FormOf, UnitsOf, Gives};
@@ -48,7 +48,7 @@ impl Tally {
 
 /// What the types at the front count for the limits, and what follows.
 fn tally_of(bytes: &[u8]) -> (Tally, &[u8])
-    ensures units { result.0.units ≡ sum_by units_of_field (all_types bytes.now).0 }
+    ensures units { result.0.units ≡ units_of_types (all_types bytes.now).0 }
     ensures shallow { result.0.shallow ≡ list_all is_shallow (all_types bytes.now).0 }
     ensures rest { result.1.now ≡ (all_types bytes.now).1 }
 {

@@ -1,6 +1,7 @@
 //! Writing descriptors.
 
-ghost use Rattle.std.specs.Prelude.{◌≡◌, ◌++◌, OnOk, IfOk, codes, flat_map, replicate};
+ghost use Rattle.std.specs.Prelude.{◌≡◌, ◌++◌, OnOk, IfOk, flat_map, replicate};
+ghost use Rattle.cl_descriptors.specs.declared.types.Base.TheVariants.{Class};
 ghost use Rattle.cl_descriptors.specs.Types.{spelling_of_base, spelling_of_field, spelling_of_return, spelling_of_method};
 
 use crate::types::{Base, FieldType, MethodType};
@@ -32,8 +33,7 @@ impl MethodType {
 }
 
 fn push_class(text: &mut Vec<u8>, name: &[u8]) -> Result<(), AllocError>
-    ensures { OnOk result (text.new.items ≡ text.old.items
-        ++ (codes "L" ++ (name.now ++ codes ";"))) }
+    ensures { OnOk result (text.new.items ≡ text.old.items ++ spelling_of_base (Class name.now)) }
 {
     text.push(b'L')?;
     text.extend_from_slice(name)?;

@@ -2,7 +2,7 @@
 ghost use Rattle.std.specs.Prelude.{◌≡◌, ◌==◌, ◌||◌, not};
 ghost use Rattle.std.specs.List.{list_all};
 ghost use Rattle.cl_names.specs.Text.{is_single, is_text};
-ghost use Rattle.cl_names.specs.Kind.{is_allowed, is_angle, has_class_form, has_unqualified_form};
+ghost use Rattle.cl_names.specs.Kind.{is_allowed, is_angle, has_no_angle, has_class_form, has_unqualified_form};
 ghost use Rattle.cl_names.specs.Bits.{lacks};
 
 use crate::text::is_text;
@@ -71,7 +71,7 @@ pub fn marks_of(bytes: &[u8]) -> Marks
     ensures single { result.single ≡ list_all is_single bytes.now }
     ensures class { result.class ≡ has_class_form bytes.now }
     ensures unqualified { result.unqualified ≡ has_unqualified_form bytes.now }
-    ensures plain { result.plain ≡ list_all (λ p. not (is_angle p)) bytes.now }
+    ensures plain { result.plain ≡ has_no_angle bytes.now }
 {
     let mut seen = 0u8;
     let mut twice = 0u8;

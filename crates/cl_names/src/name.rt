@@ -1,13 +1,14 @@
-ghost use Rattle.std.specs.Prelude.{◌≡◌, ◌≤◌, ℕ, List, [], ◌∷◌, ◌++◌, length, IfErr, IfOk, OnOk, MatchOption};
-ghost use Rattle.std.specs.Prelude.{refl, nat_eq, Some, string_bytes};
+ghost use Rattle.std.specs.Prelude.{◌≡◌, ◌≤◌, ℕ, List, [], ◌∷◌, ◌++◌, length, IfErr, IfOk, IsOkUnless, OnOk};
+ghost use Rattle.std.specs.Prelude.{bytes_eq, refl, nat_eq, Some, string_bytes};
 ghost use Rattle.std.specs.Option.{option_map};
 ghost use Rattle.std.specs.Ordering.{nat_cmp};
 ghost use Rattle.std.specs.Cmp;
-ghost use Rattle.std.specs.Cmp.Lexicographic.{pointwise, slice_cmp, nat_list_eq_equiv, nat_list_cmp_total, texts_ties, texts_po};
+ghost use Rattle.std.specs.Cmp.Lexicographic.{slice_cmp, nat_list_eq_equiv, nat_list_cmp_total, texts_ties, texts_po};
 ghost use Rattle.std.specs.Cmp.Rules.{hashing};
 ghost use Rattle.std.specs.Hash as fed;
 ghost use Rattle.std.proofs.Common.{rules};
 ghost use Rattle.cl_names.specs.Text.{IsModifiedUtf8};
+ghost use Rattle.cl_names.specs.Truth.{Reads};
 ghost use Rattle.cl_names.specs.Escape.{escaped, WritesName};
 ghost use Rattle.cl_names.specs.Name.{TestedNameOf, WritesClass};
 ghost use Rattle.cl_names.specs.Plain.{plain_of};
@@ -49,7 +50,7 @@ impl Model for Name {
 }
 
 impl PartialEq for Name {
-    ghost eq = { pointwise nat_eq };
+    ghost eq = { bytes_eq };
 
     ghost laws = { Cmp.partial_equiv_from_equiv nat_list_eq_equiv };
 
@@ -120,7 +121,8 @@ impl From<AllocError> for NameFault {
 }
 
 impl Name {
-    ghost use Rattle.std.specs.Prelude.{◌+◌, MatchBool, string_bytes};
+    ghost use Rattle.std.specs.Prelude.{◌+◌, string_bytes};
+    ghost use Rattle.cl_names.specs.Truth.{Decides};
     ghost use Rattle.std.specs.Arc.{arc_slice_items};
     ghost use Rattle.std.specs.List.{starts_with};
     ghost use Rattle.cl_names.specs.Kind.{IsUnqualified, IsMethod, IsClass, IsNameOf, is_unqualified_name, is_method_name, is_class_name, HasNoSlash, package_of};
@@ -217,7 +219,7 @@ impl Name {
     /// The name as escaped text, in lower case, with escapes only where they are needed, or `Memory`.
     pub fn text(&self, alloc: Global) -> Result<String, NameFault>
         ensures printed { IfOk result (λ text. string_bytes text ≡ escaped self.now) }
-        ensures memory { IfErr result (λ e. e ≡ Memory) }
+        ensures memory { IsOkUnless result Memory }
     {
         let mut text = String::with_capacity(alloc, self.bytes().len())?;
         self.put_text(&mut text)?;
@@ -233,8 +235,7 @@ impl Name {
 
     /// Whether it is a class's name (JVMS SE 8, 4.2.1).
     pub fn is_class(&self) -> bool
-        ensures kind { MatchBool result (IsNameOf IsClass self.now) (IsNameOf IsClass self.now
-            → ⊥) }
+        ensures kind { Decides result (IsNameOf IsClass self.now) }
         ensures test { result ≡ is_class_name self.now }
     {
         is_class_name(self.bytes())
@@ -242,8 +243,7 @@ impl Name {
 
     /// Whether it is an unqualified name (JVMS SE 8, 4.2.2).
     pub fn is_unqualified(&self) -> bool
-        ensures kind { MatchBool result (IsNameOf IsUnqualified self.now)
-            (IsNameOf IsUnqualified self.now → ⊥) }
+        ensures kind { Decides result (IsNameOf IsUnqualified self.now) }
         ensures test { result ≡ is_unqualified_name self.now }
     {
         is_unqualified_name(self.bytes())
@@ -251,8 +251,7 @@ impl Name {
 
     /// Whether it is a method's name (JVMS SE 8, 4.2.2).
     pub fn is_method(&self) -> bool
-        ensures kind { MatchBool result (IsNameOf IsMethod self.now) (IsNameOf IsMethod self.now
-            → ⊥) }
+        ensures kind { Decides result (IsNameOf IsMethod self.now) }
         ensures test { result ≡ is_method_name self.now }
     {
         is_method_name(self.bytes())
@@ -272,8 +271,7 @@ impl Name {
 
     /// Whether its bytes begin with those of `prefix`.
     pub fn starts_with(&self, prefix: &Name) -> bool
-        ensures begins { MatchBool result ((rest : List ℕ) × (self.now ≡ prefix.now ++ rest))
-            ((rest : List ℕ) → self.now ≡ prefix.now ++ rest → ⊥) }
+        ensures begins { Decides result ((rest : List ℕ) × (self.now ≡ prefix.now ++ rest)) }
         ensures value { result ≡ starts_with nat_eq self.now prefix.now }
     {
         self.bytes().starts_with(prefix.bytes())
@@ -312,8 +310,7 @@ impl Name {
 /// The class's name that escaped text writes, if it writes one (JVMS SE 8, 4.2.1): what a script or a
 /// bundle calls a class by. A text that writes no name is told without regard to memory.
 pub fn class_name(alloc: Global, text: &str) -> Result<Option<Name>, AllocError>
-    ensures writes { IfOk result (λ found. MatchOption found ((name : List ℕ)
-        → WritesClass text.now name → ⊥) (λ name. WritesClass text.now name)) }
+    ensures writes { Reads (WritesClass text.now) result }
     ensures memory { IfErr result (λ _. (name : List ℕ) × WritesName text.now name) }
 {
     let name = match Name::from_text(alloc, text) {

@@ -8,7 +8,7 @@ use Rattle.std.proofs.lemmas.List.Concat.{flat_map-cons}
 use Rattle.std.proofs.lemmas.Nat.{be_bytes_2, be_bytes_4, be_bytes_8, from_be_bytes-to_be_bytes_2, from_be_bytes-to_be_bytes_4, from_be_bytes-to_be_bytes_8}
 use Rattle.cl_classfile.specs.declared.fault.Fault.{Fault}
 use Rattle.cl_classfile.specs.declared.fault.Fault.TheVariants.{Truncated}
-use Rattle.cl_classfile.specs.Checking.{◌>>=◌}
+use Rattle.cl_names.specs.Steps.{◌>>=◌}
 use Rattle.cl_classfile.specs.Reading.{Reader, many_at, number_at, then_at, test_at, map_at, bytes_at, sized_at}
 
 abbrev pub IsBytes : List ℕ → Type 0

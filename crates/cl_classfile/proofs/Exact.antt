@@ -44,13 +44,13 @@ read_takes bytes f fits e =
     let a = bind_ok (whole_of bytes) kept_file f e in
     let one = whole_takes bytes a.0 fits a.1 in
     let two = file_says a.0 f a.2 in
-    subst (λ (y : Structure). Spells bytes y) two.0 (record { fits = one.1; kept = two.1.kept; spelled = one.0 })
+    subst (λ (y : Structure). Spells bytes y) two.0 (record { file = record { fits = one.1; kept = two.1.kept }; spelled = one.0 })
 
 pub read_again : (bytes : List ℕ) (f : Structure) → Spells bytes f → read_of bytes ≡ Ok f
 unfolding read_of
 read_again bytes f s =
-    let one : whole_of bytes ≡ Ok f = ap whole_of s.spelled ∙ whole_again f s.fits in
-    rw one (file_told f s.fits s.kept)
+    let one : whole_of bytes ≡ Ok f = ap whole_of s.spelled ∙ whole_again f s.file.fits in
+    rw one (file_told f s.file.fits s.file.kept)
 
 -- parts that the widths can say are judged as their bytes are
 pub parts_as_read : (f : Structure) → Fits f → parts_of f ≡ read_of (spelling f)
@@ -80,7 +80,7 @@ is_early bytes r f h given is =
 -- ---- laws
 
 read_back : (bytes : List ℕ) (f : Structure) → Spells bytes f → structure_at bytes ≡ Ok (f, [])
-read_back bytes f s = ap structure_at (s.spelled ∙ sym (append-nil (spelling f))) ∙ structure.again f [] s.fits
+read_back bytes f s = ap structure_at (s.spelled ∙ sym (append-nil (spelling f))) ∙ structure.again f [] s.file.fits
 
 -- what bytes spell is one file
 pub one_file : (bytes : List ℕ) (f g : Structure) → Spells bytes f → Spells bytes g → f ≡ g

@@ -5,7 +5,7 @@ use Rattle.std.proofs.lemmas.Bool.{cases_lt, lt-ltb, le-ltb, eqb-true}
 use Rattle.std.proofs.lemmas.List.{take_at, length-drop}
 use Rattle.cl_classfile.specs.declared.fault.Fault.TheVariants.{BadMagic, Version, Truncated}
 use Rattle.cl_classfile.specs.Structure.{magic, version, HasOtherMagic, HasOtherVersion}
-use Rattle.cl_classfile.specs.Reading.{Reader, number_at, then_at, magic_at, version_at, header_at}
+use Rattle.cl_classfile.specs.Reading.{Reader, number_at, then_at, magic_at, version_at, header_at, two_at}
 use Rattle.cl_classfile.proofs.Codec.{both, IsBytes, IsBytes-drop, IsCodec, number16, number32, ok_is, also}
 use Rattle.cl_classfile.proofs.Judging.{tests}
 
@@ -64,7 +64,7 @@ data Two (bytes : List ℕ) : Type 0 where
   Right : 4 ≤ length bytes → take 4 bytes ≡ version → (v : ℕ × ℕ) (rest : List ℕ) → version_at bytes ≡ Ok (v, rest) → Two bytes
 
 abbrev numbers_at : Reader (ℕ × ℕ)
-numbers_at = then_at (number_at w16) (λ minor. number_at w16)
+numbers_at = then_at (number_at w16) (λ first. number_at w16)
 
 abbrev numbers_spelling : ℕ × ℕ → List ℕ
 numbers_spelling v = to_be_bytes w16 v.0 ++ to_be_bytes w16 v.1
@@ -80,7 +80,7 @@ cut_at bytes lt =
     ]
 
 version_of : (bytes : List ℕ) → IsBytes bytes → Two bytes
-unfolding version_at
+unfolding version_at two_at
 version_of bytes fits =
     elim (cases_lt (length bytes) 4) [
       | inl lt ↦ Cut lt (rw (cut_at bytes lt) refl)

@@ -1,10 +1,10 @@
 -- The member to which an index leads is the one of its name and its descriptor.
-use Rattle.std.proofs.Common.{◌≡◌, ◌⊎◌, ℕ, zero, suc, ◌+◌, ◌≤◌, ◌<◌, Bool, true, false, cond, ◌&&◌, ◌==◌, nat_eq, List, [], ◌∷◌, ◌++◌, length, Option, Some, None, refl, sym, ap, subst, ◌∙◌, arith, inl, inr}
-use Rattle.std.specs.Prelude.{find, slice_get, IsSome, option_and_then}
+use Rattle.std.proofs.Common.{◌≡◌, ◌⊎◌, ℕ, zero, suc, ◌+◌, ◌≤◌, ◌<◌, Bool, true, false, cond, ◌&&◌, ◌==◌, List, [], ◌∷◌, ◌++◌, length, Option, Some, None, refl, sym, ap, subst, ◌∙◌, arith, inl, inr}
+use Rattle.std.specs.Prelude.{find, slice_get, IsSome, option_and_then, bytes_eq}
 use Rattle.std.specs.List.{AllByRecursion}
 use Rattle.std.specs.Ordering.{is_eq, nat_cmp}
 use Rattle.std.specs.Cmp.{both_tied, unsigned_ties}
-use Rattle.std.specs.Cmp.Lexicographic.{pointwise, same_text}
+use Rattle.std.specs.Cmp.Lexicographic.{same_text}
 use Rattle.std.proofs.lemmas.Bool.{eqb-true, eq-eqb, cases_lt}
 use Rattle.std.proofs.lemmas.Option.{slice_get_within}
 use Rattle.cl_classfile.specs.declared.entry.Entry.{Entry}
@@ -140,7 +140,7 @@ module _ (ns : Numbers) (old new : Places) (ms : List Member) (i : ℕ) (m : Mem
 pub is_done : (ns : Numbers) (ps : Places) (ms : List Member) (end : ℕ) → length ms ≤ end → StandTo ns ps ms end → StandThere ns ps ms
 is_done ns ps ms end le to = record {
   each = to.each;
-  all = λ i m stands. (let within : i < length ms = slice_get_within ms i m stands in to.all i m (omega (arith, within, le)) stands);
+  all = λ i m within stands. to.all i m (omega (arith, within, le)) stands;
 }
 
 -- ---- texts and their numbers
@@ -167,7 +167,7 @@ text_told : (pool : List Entry) (of : List ℕ → Option ℕ) → IsFirst pool 
 text_told pool of first text None n h e = absurd (let none : text_at pool 0 ≡ Some text = first text 0 (e ∙ ap Some h) in cc)
 text_told pool of first text (Some t) n h e =
     let same : text ≡ t = one_text (text_at pool n) text t (first text n e) (first t n h) in
-    ap (λ (u : List ℕ). pointwise nat_eq t u) same ∙ reflexive t
+    ap (λ (u : List ℕ). bytes_eq t u) same ∙ reflexive t
 
 -- the text that stands at an index is this one
 stands_there : (pool : List Entry) (text : List ℕ) (i : ℕ) (o : Option (List ℕ)) → text_at pool i ≡ o → is_this text o ≡ true → IsText pool i text
@@ -226,7 +226,7 @@ module _ (pool : List Entry) (ns : Numbers) (ps : Places) (ms : List Member) (le
       sym (find_none test ms (λ i m stands. never (test m) (λ is.
       let s = numbers_say i m stands is in
       let pair : pair_of ns m ≡ (n, d) = pairs (pair_of ns m).0 n (pair_of ns m).1 d (some_number (number_of ns name) (pair_of ns m).0 n s.named e) (some_number (number_of ns descriptor) (pair_of ns m).1 d s.described f) in
-      none_there (place_of ps (n, d)) g (subst (λ (p : ℕ × ℕ). IsSome (place_of ps p)) pair (lead.stand.all i m stands)))))
+      none_there (place_of ps (n, d)) g (subst (λ (p : ℕ × ℕ). IsSome (place_of ps p)) pair (lead.stand.all i m (slice_get_within ms i m stands) stands)))))
   place_case n d e f (Some i) g =
       let s = lead.stand.each (n, d) i g in
       let is = numbers_told i s.member s.stands (e ∙ ap (λ (p : ℕ × ℕ). Some p.0) (sym s.pair_is)) (f ∙ ap (λ (p : ℕ × ℕ). Some p.1) (sym s.pair_is)) in

@@ -1,13 +1,13 @@
 -- The tests of the table of entries, and what they say.
-use Rattle.std.proofs.Common.{◌≡◌, ◌⊎◌, ℕ, zero, suc, Bool, true, false, cond, eqb, leb, ◌&&◌, ◌||◌, nat_eq, List, [], ◌∷◌, length, map, Option, Some, None, unwrap_or, refl, sym, ap, ◌∙◌, arith, inl, inr}
-use Rattle.std.specs.Prelude.{option_map, is_some}
-use Rattle.std.specs.Cmp.Lexicographic.{pointwise, same_text}
+use Rattle.std.proofs.Common.{◌≡◌, ◌⊎◌, ℕ, zero, suc, Bool, true, false, cond, eqb, leb, ◌&&◌, ◌||◌, List, [], ◌∷◌, length, map, Option, Some, None, unwrap_or, refl, sym, ap, ◌∙◌, arith, inl, inr}
+use Rattle.std.specs.Prelude.{option_map, is_some, bytes_eq}
+use Rattle.std.specs.Cmp.Lexicographic.{same_text}
 use Rattle.std.proofs.lemmas.Bool.{eqb-true, eq-eqb, leb-true, le-leb}
 use Rattle.cl_names.specs.Text.{is_text}
-use Rattle.cl_names.specs.Kind.{IsNameOf, IsUnqualified, IsMethod, is_class_name}
+use Rattle.cl_names.specs.Kind.{IsNameOf, IsUnqualified, IsMethod, is_class_name, init, clinit}
 use Rattle.cl_names.proofs.Texts.{text_from_test, test_of}
 use Rattle.cl_names.proofs.Grammars.{class_from_test, class_test_of, unqualified_from_test, unqualified_test_of, method_from_test, method_test_of}
-use Rattle.cl_descriptors.specs.Answers.{FormOf}
+use Rattle.cl_descriptors.specs.Answers.{FormOf, IsFieldDescriptor, IsArrayDescriptor, IsMethodDescriptor, IsVoidDescriptor}
 use Rattle.cl_descriptors.specs.Reading.{form_of}
 use Rattle.cl_descriptors.specs.declared.types.Form.{Form}
 use Rattle.cl_descriptors.specs.declared.types.Form.TheVariants as forms
@@ -18,7 +18,7 @@ use Rattle.cl_classfile.specs.declared.entry.Entry.TheVariants.{Utf8, Integer, F
 use Rattle.cl_classfile.specs.declared.traits.Special.{Special}
 use Rattle.cl_classfile.specs.declared.traits.Special.TheVariants as names
 use Rattle.cl_classfile.specs.declared.traits.Traits.{Traits}
-use Rattle.cl_classfile.specs.Pool.{at, HasText, HasClass, HasPair, IsNamed, IsField, IsArray, IsCall, IsVoid, NamesType, init, clinit, MayCall, IsPlain, MayPair, MayHandle, EntryFits, KeepsEntry}
+use Rattle.cl_classfile.specs.Pool.{at, HasText, HasClass, HasPair, IsNamed, NamesType, MayCall, IsPlain, MayPair, MayHandle, EntryFits, KeepsEntry}
 use Rattle.cl_classfile.specs.Rows.{begins_angle, special_of, is_field, is_array, is_call, is_void, traits_of, nothing, entry_traits, traits_at, is_class, pair_of, pair_at, may_call, may_pair, is_plain, is_init, may_handle, keeps_entry}
 use Rattle.cl_classfile.proofs.Codec.{both}
 use Rattle.cl_names.specs.declared.kind.TheConstants.{MOST_TEXT_BYTES}
@@ -66,28 +66,28 @@ of_one k a b d (inr (inr e)) = second (eqb k a || eqb k b) (eqb k d) (eq-eqb k d
 
 -- ---- forms of descriptors
 
-field_form_says : (text : List ℕ) (o : Option Form) → FormOf text o → is_field o ≡ true → IsField text
+field_form_says : (text : List ℕ) (o : Option Form) → FormOf text o → is_field o ≡ true → IsFieldDescriptor text
 field_form_says text None f h = absurd cc
 field_form_says text (Some forms.Plain) f h = (f.0, f.1, f.2.0)
 field_form_says text (Some forms.Array) f h = (f.0, f.1, f.2.0)
 field_form_says text (Some forms.Method) f h = absurd cc
 field_form_says text (Some forms.Void) f h = absurd cc
 
-array_form_says : (text : List ℕ) (o : Option Form) → FormOf text o → is_array o ≡ true → IsArray text
+array_form_says : (text : List ℕ) (o : Option Form) → FormOf text o → is_array o ≡ true → IsArrayDescriptor text
 array_form_says text None f h = absurd cc
 array_form_says text (Some forms.Plain) f h = absurd cc
 array_form_says text (Some forms.Array) f h = f
 array_form_says text (Some forms.Method) f h = absurd cc
 array_form_says text (Some forms.Void) f h = absurd cc
 
-call_form_says : (text : List ℕ) (o : Option Form) → FormOf text o → is_call o ≡ true → IsCall text
+call_form_says : (text : List ℕ) (o : Option Form) → FormOf text o → is_call o ≡ true → IsMethodDescriptor text
 call_form_says text None f h = absurd cc
 call_form_says text (Some forms.Plain) f h = absurd cc
 call_form_says text (Some forms.Array) f h = absurd cc
 call_form_says text (Some forms.Method) f h = (f.0, f.1, f.2.0)
 call_form_says text (Some forms.Void) f h = (f.0, f.1, f.2.0)
 
-void_form_says : (text : List ℕ) (o : Option Form) → FormOf text o → is_void o ≡ true → IsVoid text
+void_form_says : (text : List ℕ) (o : Option Form) → FormOf text o → is_void o ≡ true → IsVoidDescriptor text
 void_form_says text None f h = absurd cc
 void_form_says text (Some forms.Plain) f h = absurd cc
 void_form_says text (Some forms.Array) f h = absurd cc
@@ -106,25 +106,25 @@ arrays : (n : ℕ) (b : Bool) → eqb n 0 ≡ b → (n ≡ 0 → ⊥) → is_arr
 arrays n true e h = absurd (h (eqb-true n 0 e))
 arrays n false e h = refl
 
-field_says : (text : List ℕ) → is_field (form_of text) ≡ true → IsField text
+field_says : (text : List ℕ) → is_field (form_of text) ≡ true → IsFieldDescriptor text
 field_says text = field_form_says text (form_of text) (form_is text)
 
-pub field_is : (text : List ℕ) → IsField text → is_field (form_of text) ≡ true
+pub field_is : (text : List ℕ) → IsFieldDescriptor text → is_field (form_of text) ≡ true
 field_is text h = ap is_field (field_told text h.0 h.1 h.2) ∙ fields (eqb h.0.dims 0)
 
-array_is : (text : List ℕ) → IsArray text → is_array (form_of text) ≡ true
+array_is : (text : List ℕ) → IsArrayDescriptor text → is_array (form_of text) ≡ true
 array_is text h = ap is_array (field_told text h.0 h.1 h.2.0) ∙ arrays h.0.dims (eqb h.0.dims 0) refl h.2.1
 
-call_says : (text : List ℕ) → is_call (form_of text) ≡ true → IsCall text
+call_says : (text : List ℕ) → is_call (form_of text) ≡ true → IsMethodDescriptor text
 call_says text = call_form_says text (form_of text) (form_is text)
 
-pub call_is : (text : List ℕ) → IsCall text → is_call (form_of text) ≡ true
+pub call_is : (text : List ℕ) → IsMethodDescriptor text → is_call (form_of text) ≡ true
 call_is text h = ap is_call (method_told text h.0 h.1 h.2) ∙ calls (is_some h.0.ret)
 
-void_says : (text : List ℕ) → is_void (form_of text) ≡ true → IsVoid text
+void_says : (text : List ℕ) → is_void (form_of text) ≡ true → IsVoidDescriptor text
 void_says text = void_form_says text (form_of text) (form_is text)
 
-void_is : (text : List ℕ) → IsVoid text → is_void (form_of text) ≡ true
+void_is : (text : List ℕ) → IsVoidDescriptor text → is_void (form_of text) ≡ true
 void_is text h = ap is_void (method_told text h.0 h.1 h.2.0) ∙ ap (λ (r : Option FieldType). is_void (cond (is_some r) (Some forms.Method) (Some forms.Void))) h.2.1
 
 void_calls : (o : Option Form) → is_void o ≡ true → is_call o ≡ true
@@ -164,13 +164,13 @@ text_told trait Kind t pool i h = ap trait (traits_are pool i) ∙ ap (λ (o : O
 stands : IsTrait (λ t. t.stands) (λ text. Unit {0})
 stands = record { never = refl; says = λ text h. tt; told = λ text h. refl }
 
-pub field : IsTrait (λ t. is_field t.form) IsField
+pub field : IsTrait (λ t. is_field t.form) IsFieldDescriptor
 field = record { never = refl; says = field_says; told = field_is }
 
-call : IsTrait (λ t. is_call t.form) IsCall
+call : IsTrait (λ t. is_call t.form) IsMethodDescriptor
 call = record { never = refl; says = call_says; told = call_is }
 
-void : IsTrait (λ t. is_void t.form) IsVoid
+void : IsTrait (λ t. is_void t.form) IsVoidDescriptor
 void = record { never = refl; says = void_says; told = void_is }
 
 pub unqualified : IsTrait (λ t. t.unqualified) (IsNameOf IsUnqualified)
@@ -201,15 +201,15 @@ is_special names.Init = true
 is_special names.Clinit = true
 is_special names.Angle = true
 
-same : (a b : List ℕ) → pointwise nat_eq a b ≡ true → a ≡ b
+same : (a b : List ℕ) → bytes_eq a b ≡ true → a ≡ b
 same a b e = same_text a b (sym e)
 
 -- a special name begins with <
 special_begins : (text : List ℕ) → is_special (special_of text) ≡ true → (rest : List ℕ) × (text ≡ 60 ∷ rest)
 special_begins text h =
-    elim (tests (pointwise nat_eq text init)) [
+    elim (tests (bytes_eq text init)) [
       | inl e ↦ (_, same text init e)
-      | inr e ↦ elim (tests (pointwise nat_eq text clinit)) [
+      | inr e ↦ elim (tests (bytes_eq text clinit)) [
         | inl f ↦ (_, same text clinit f)
         | inr f ↦ begins text (rw (e, f) at h)
       ]
@@ -225,9 +225,9 @@ special_begins text h =
 
 pub init_says : (text : List ℕ) → is_init (special_of text) ≡ true → text ≡ init
 init_says text h =
-    elim (tests (pointwise nat_eq text init)) [
+    elim (tests (bytes_eq text init)) [
       | inl e ↦ same text init e
-      | inr e ↦ elim (tests (pointwise nat_eq text clinit)) [
+      | inr e ↦ elim (tests (bytes_eq text clinit)) [
         | inl f ↦ absurd (differ (is_init (special_of text)) h (rw (e, f) refl))
         | inr f ↦ elim (tests (begins_angle text)) [
           | inl g ↦ absurd (differ (is_init (special_of text)) h (rw (e, f, g) refl))
@@ -244,9 +244,9 @@ is_clinit names.Angle = false
 
 pub clinit_says : (text : List ℕ) → is_clinit (special_of text) ≡ true → text ≡ clinit
 clinit_says text h =
-    elim (tests (pointwise nat_eq text clinit)) [
+    elim (tests (bytes_eq text clinit)) [
       | inl e ↦ same text clinit e
-      | inr e ↦ elim (tests (pointwise nat_eq text init)) [
+      | inr e ↦ elim (tests (bytes_eq text init)) [
         | inl f ↦ absurd (differ (is_clinit (special_of text)) h (rw f refl))
         | inr f ↦ elim (tests (begins_angle text)) [
           | inl g ↦ absurd (differ (is_clinit (special_of text)) h (rw (f, e, g) refl))
@@ -319,9 +319,9 @@ calls_special names.Angle form k h = absurd cc
 
 angle : (rest : List ℕ) → is_special (special_of (60 ∷ rest)) ≡ true
 angle rest =
-    elim (tests (pointwise nat_eq (60 ∷ rest) init)) [
+    elim (tests (bytes_eq (60 ∷ rest) init)) [
       | inl e ↦ rw e refl
-      | inr e ↦ elim (tests (pointwise nat_eq (60 ∷ rest) clinit)) [
+      | inr e ↦ elim (tests (bytes_eq (60 ∷ rest) clinit)) [
         | inl f ↦ rw (e, f) refl
         | inr f ↦ rw (e, f) refl
       ]
@@ -331,7 +331,7 @@ call_name_says : (pool : List Entry) (i : ℕ) → may_call (pair pool i).0.spec
 call_name_says pool i h = λ rest n.
     let is : (pair pool i).0.special ≡ special_of (60 ∷ rest) = named pool i (60 ∷ rest) n in
     let k = calls_special (pair pool i).0.special (pair pool i).1.form (ap is_special is ∙ angle rest) h in
-    (init_says (60 ∷ rest) (ap is_init (sym is) ∙ k.0), pair_says (λ t. is_void t.form) IsVoid void pool i k.1)
+    (init_says (60 ∷ rest) (ap is_init (sym is) ∙ k.0), pair_says (λ t. is_void t.form) IsVoidDescriptor void pool i k.1)
 
 plain_call : (s : Special) (form : Option Form) → is_special s ≡ false → is_call form ≡ true → may_call s form ≡ true
 plain_call names.Plain form k h = h
@@ -339,7 +339,7 @@ plain_call names.Init form k h = absurd cc
 plain_call names.Clinit form k h = absurd cc
 plain_call names.Angle form k h = absurd cc
 
-call_name_told : (pool : List Entry) (i : ℕ) → HasPair pool i IsCall → MayCall pool i → may_call (pair pool i).0.special (pair pool i).1.form ≡ true
+call_name_told : (pool : List Entry) (i : ℕ) → HasPair pool i IsMethodDescriptor → MayCall pool i → may_call (pair pool i).0.special (pair pool i).1.form ≡ true
 call_name_told pool i p m =
     elim (tests (is_special (pair pool i).0.special)) [
       | inl e ↦
@@ -347,8 +347,8 @@ call_name_told pool i p m =
           let b = special_begins n.text n.passes in
           let k = m b.0 (record { name = n.is_named.name; descriptor = n.is_named.descriptor; is_entry = n.is_named.is_entry; named = n.is_named.named ∙ ap (λ (t : List ℕ). Some (Utf8 t)) b.1 }) in
           let is : (pair pool i).0.special ≡ names.Init = named pool i n.text n.is_named ∙ ap special_of (b.1 ∙ k.0) in
-          ap (λ (s : Special). may_call s (pair pool i).1.form) is ∙ pair_told (λ t. is_void t.form) IsVoid void pool i k.1
-      | inr e ↦ plain_call (pair pool i).0.special (pair pool i).1.form e (pair_told (λ t. is_call t.form) IsCall call pool i p)
+          ap (λ (s : Special). may_call s (pair pool i).1.form) is ∙ pair_told (λ t. is_void t.form) IsVoidDescriptor void pool i k.1
+      | inr e ↦ plain_call (pair pool i).0.special (pair pool i).1.form e (pair_told (λ t. is_call t.form) IsMethodDescriptor call pool i p)
     ]
 
 -- ---- method handles
@@ -402,15 +402,15 @@ may_pair_says pool n d h =
     let name = traits_at (map entry_traits pool) n in
     let form = (traits_at (map entry_traits pool) d).form in
     elim (either (is_field form && name.unqualified) (is_call form && name.method) h) [
-      | inl e ↦ let b = both (is_field form) name.unqualified e in inl (text_says (λ t. is_field t.form) IsField field pool d b.0, text_says (λ t. t.unqualified) (IsNameOf IsUnqualified) unqualified pool n b.1)
-      | inr e ↦ let b = both (is_call form) name.method e in inr (text_says (λ t. is_call t.form) IsCall call pool d b.0, text_says (λ t. t.method) (IsNameOf IsMethod) method pool n b.1)
+      | inl e ↦ let b = both (is_field form) name.unqualified e in inl (text_says (λ t. is_field t.form) IsFieldDescriptor field pool d b.0, text_says (λ t. t.unqualified) (IsNameOf IsUnqualified) unqualified pool n b.1)
+      | inr e ↦ let b = both (is_call form) name.method e in inr (text_says (λ t. is_call t.form) IsMethodDescriptor call pool d b.0, text_says (λ t. t.method) (IsNameOf IsMethod) method pool n b.1)
     ]
 
 may_pair_told : (pool : List Entry) (n d : ℕ) → MayPair pool n d → may_pair (traits_at (map entry_traits pool) n) (traits_at (map entry_traits pool) d).form ≡ true
 may_pair_told pool n d (inl h) =
-    first _ _ (all _ _ (text_told (λ t. is_field t.form) IsField field pool d h.0) (text_told (λ t. t.unqualified) (IsNameOf IsUnqualified) unqualified pool n h.1))
+    first _ _ (all _ _ (text_told (λ t. is_field t.form) IsFieldDescriptor field pool d h.0) (text_told (λ t. t.unqualified) (IsNameOf IsUnqualified) unqualified pool n h.1))
 may_pair_told pool n d (inr h) =
-    second _ _ (all _ _ (text_told (λ t. is_call t.form) IsCall call pool d h.0) (text_told (λ t. t.method) (IsNameOf IsMethod) method pool n h.1))
+    second _ _ (all _ _ (text_told (λ t. is_call t.form) IsMethodDescriptor call pool d h.0) (text_told (λ t. t.method) (IsNameOf IsMethod) method pool n h.1))
 
 pub keeps_entry_says : (pool : List Entry) (e : Entry) → keeps_entry (map entry_traits pool) pool e ≡ true → KeepsEntry pool e
 keeps_entry_says pool (Utf8 text) h = text_from_test text (both (is_text text) (leb (length text) MOST_TEXT_BYTES) h).0
@@ -421,15 +421,15 @@ keeps_entry_says pool (Double b) h = tt
 keeps_entry_says pool Unusable h = tt
 keeps_entry_says pool (Class text) h = text_says (λ t. t.class) NamesType type pool text h
 keeps_entry_says pool (String text) h = text_says (λ t. t.stands) (λ text. Unit {0}) stands pool text h
-keeps_entry_says pool (Fieldref c p) h = let b = both (is_class (at pool c)) (is_field (pair pool p).1.form) h in (class_says pool c b.0, pair_says (λ t. is_field t.form) IsField field pool p b.1)
+keeps_entry_says pool (Fieldref c p) h = let b = both (is_class (at pool c)) (is_field (pair pool p).1.form) h in (class_says pool c b.0, pair_says (λ t. is_field t.form) IsFieldDescriptor field pool p b.1)
 keeps_entry_says pool (Methodref c p) h =
     let b = both (is_class (at pool c)) (may_call (pair pool p).0.special (pair pool p).1.form) h in
-    (class_says pool c b.0, pair_says (λ t. is_call t.form) IsCall call pool p (calls_any (pair pool p).0.special (pair pool p).1.form b.1), call_name_says pool p b.1)
-keeps_entry_says pool (InterfaceMethodref c p) h = let b = both (is_class (at pool c)) (is_call (pair pool p).1.form) h in (class_says pool c b.0, pair_says (λ t. is_call t.form) IsCall call pool p b.1)
+    (class_says pool c b.0, pair_says (λ t. is_call t.form) IsMethodDescriptor call pool p (calls_any (pair pool p).0.special (pair pool p).1.form b.1), call_name_says pool p b.1)
+keeps_entry_says pool (InterfaceMethodref c p) h = let b = both (is_class (at pool c)) (is_call (pair pool p).1.form) h in (class_says pool c b.0, pair_says (λ t. is_call t.form) IsMethodDescriptor call pool p b.1)
 keeps_entry_says pool (NameAndType n d) h = may_pair_says pool n d h
 keeps_entry_says pool (MethodHandle k r) h = handle_says pool k (at pool r) h
-keeps_entry_says pool (MethodType d) h = text_says (λ t. is_call t.form) IsCall call pool d h
-keeps_entry_says pool (InvokeDynamic b p) h = pair_says (λ t. is_call t.form) IsCall call pool p h
+keeps_entry_says pool (MethodType d) h = text_says (λ t. is_call t.form) IsMethodDescriptor call pool d h
+keeps_entry_says pool (InvokeDynamic b p) h = pair_says (λ t. is_call t.form) IsMethodDescriptor call pool p h
 
 pub keeps_entry_told : (pool : List Entry) (e : Entry) → EntryFits e → KeepsEntry pool e → keeps_entry (map entry_traits pool) pool e ≡ true
 keeps_entry_told pool (Utf8 text) fits h = let short : leb (length text) MOST_TEXT_BYTES ≡ true = le-leb _ _ (omega (arith, fits)) in rw (test_of text h, short) refl
@@ -440,10 +440,10 @@ keeps_entry_told pool (Double b) fits h = refl
 keeps_entry_told pool Unusable fits h = refl
 keeps_entry_told pool (Class text) fits h = text_told (λ t. t.class) NamesType type pool text h
 keeps_entry_told pool (String text) fits h = text_told (λ t. t.stands) (λ text. Unit {0}) stands pool text h
-keeps_entry_told pool (Fieldref c p) fits h = all (is_class (at pool c)) (is_field (pair pool p).1.form) (class_told pool c h.0) (pair_told (λ t. is_field t.form) IsField field pool p h.1)
+keeps_entry_told pool (Fieldref c p) fits h = all (is_class (at pool c)) (is_field (pair pool p).1.form) (class_told pool c h.0) (pair_told (λ t. is_field t.form) IsFieldDescriptor field pool p h.1)
 keeps_entry_told pool (Methodref c p) fits h = all (is_class (at pool c)) (may_call (pair pool p).0.special (pair pool p).1.form) (class_told pool c h.0) (call_name_told pool p h.1 h.2)
-keeps_entry_told pool (InterfaceMethodref c p) fits h = all (is_class (at pool c)) (is_call (pair pool p).1.form) (class_told pool c h.0) (pair_told (λ t. is_call t.form) IsCall call pool p h.1)
+keeps_entry_told pool (InterfaceMethodref c p) fits h = all (is_class (at pool c)) (is_call (pair pool p).1.form) (class_told pool c h.0) (pair_told (λ t. is_call t.form) IsMethodDescriptor call pool p h.1)
 keeps_entry_told pool (NameAndType n d) fits h = may_pair_told pool n d h
 keeps_entry_told pool (MethodHandle k r) fits h = handle_told pool k (at pool r) h
-keeps_entry_told pool (MethodType d) fits h = text_told (λ t. is_call t.form) IsCall call pool d h
-keeps_entry_told pool (InvokeDynamic b p) fits h = pair_told (λ t. is_call t.form) IsCall call pool p h
+keeps_entry_told pool (MethodType d) fits h = text_told (λ t. is_call t.form) IsMethodDescriptor call pool d h
+keeps_entry_told pool (InvokeDynamic b p) fits h = pair_told (λ t. is_call t.form) IsMethodDescriptor call pool p h

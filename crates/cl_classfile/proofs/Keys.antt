@@ -1,17 +1,19 @@
 -- The set of members that the loop over them keeps, by the numbers of their names and descriptors.
-use Rattle.std.proofs.Common.{◌≡◌, ℕ, Bool, true, false, cond, not, ◌&&◌, ◌||◌, ◌==◌, nat_eq, List, [], ◌∷◌, ◌++◌, Option, Some, None, refl, sym, ap, ◌∙◌}
+use Rattle.std.proofs.Common.{◌≡◌, ℕ, Bool, true, false, cond, not, ◌&&◌, ◌||◌, ◌==◌, List, [], ◌∷◌, ◌++◌, Option, Some, None, refl, sym, ap, ◌∙◌}
 use Rattle.std.specs.List.{list_any}
 use Rattle.std.specs.Ordering.{is_eq, nat_cmp}
 use Rattle.std.specs.Cmp.{both_tied, unsigned_ties}
-use Rattle.std.specs.Cmp.Lexicographic.{pointwise, bytes_decides}
+use Rattle.std.specs.Cmp.Lexicographic.{bytes_decides}
 use Rattle.std.proofs.lemmas.Bool.Decides.{same_from_decides, Decides-like, Decides-eqb}
 use Rattle.std.proofs.lemmas.List.Folds.{list_any-append}
 use Rattle.cl_classfile.specs.declared.entry.Entry.{Entry}
 use Rattle.cl_classfile.specs.Structure.{Member}
 use Rattle.cl_classfile.specs.Files.{text_at}
 use Rattle.cl_classfile.specs.Numbers.{IsNumber, IsFirst}
-use Rattle.cl_classfile.specs.Checking.{Key, both_texts, key_of, same_key, same_member}
+use Rattle.cl_classfile.specs.Checking.{Key, key_of, same_key, same_member}
 use Rattle.cl_classfile.specs.Seen.{pair_cmp, has_pair, HasPairs}
+use Rattle.std.specs.Prelude.{bytes_eq}
+use Rattle.std.specs.Option.{option_zip}
 
 -- ---- numbers and texts
 
@@ -22,17 +24,17 @@ one_text : (o : Option (List ℕ)) (t u : List ℕ) → o ≡ Some t → o ≡ S
 one_text o t u e f = cc
 
 -- texts are the same where their numbers are
-number_tells : (pool : List Entry) (of : List ℕ → Option ℕ) → IsFirst pool of → (t u : List ℕ) (n m : ℕ) → of t ≡ Some n → of u ≡ Some m → pointwise nat_eq t u ≡ (n == m)
+number_tells : (pool : List Entry) (of : List ℕ → Option ℕ) → IsFirst pool of → (t u : List ℕ) (n m : ℕ) → of t ≡ Some n → of u ≡ Some m → bytes_eq t u ≡ (n == m)
 number_tells pool of first t u n m tn um =
-    same_from_decides (pointwise nat_eq t u) (n == m)
-    (Decides-like (pointwise nat_eq t u) (λ e. one_number (of u) n m (ap of (sym e) ∙ tn) um) (λ e. one_text (text_at pool m) t u (ap (text_at pool) (sym e) ∙ first t n tn) (first u m um)) (bytes_decides t u))
+    same_from_decides (bytes_eq t u) (n == m)
+    (Decides-like (bytes_eq t u) (λ e. one_number (of u) n m (ap of (sym e) ∙ tn) um) (λ e. one_text (text_at pool m) t u (ap (text_at pool) (sym e) ∙ first t n tn) (first u m um)) (bytes_decides t u))
     (Decides-eqb n m)
 
 -- pairs that compare equal are those of the same texts
 tied : (pool : List Entry) (of : List ℕ → Option ℕ) → IsFirst pool of → (k l : Key) (n d m e : ℕ) → of k.0 ≡ Some n → of k.1 ≡ Some d → of l.0 ≡ Some m → of l.1 ≡ Some e
-    → pointwise nat_eq k.0 l.0 && pointwise nat_eq k.1 l.1 ≡ is_eq (pair_cmp (n, d) (m, e))
+    → bytes_eq k.0 l.0 && bytes_eq k.1 l.1 ≡ is_eq (pair_cmp (n, d) (m, e))
 tied pool of first k l n d m e kn kd lm le =
-    both_tied (pointwise nat_eq k.0 l.0) (pointwise nat_eq k.1 l.1) (nat_cmp n m) (nat_cmp d e)
+    both_tied (bytes_eq k.0 l.0) (bytes_eq k.1 l.1) (nat_cmp n m) (nat_cmp d e)
     (number_tells pool of first k.0 l.0 n m kn lm ∙ unsigned_ties n m)
     (number_tells pool of first k.1 l.1 d e kd le ∙ unsigned_ties d e)
 
@@ -51,7 +53,7 @@ some_text : (of : List ℕ → Option ℕ) (o : Option (List ℕ)) (n : ℕ) →
 some_text of None n h other = absurd (other h)
 some_text of (Some t) n h other = record { text = t; is = refl; number = h }
 
-no_key : (o p : Option (List ℕ)) → p ≡ None → both_texts o p ≡ None
+no_key : (o p : Option (List ℕ)) → p ≡ None → option_zip o p ≡ None
 no_key None p e = refl
 no_key (Some t) None e = refl
 no_key (Some t) (Some u) e = absurd cc
@@ -98,7 +100,7 @@ with_key pool of first pairs new n d added m before is_n is_d some_n some_d has 
     let name = some_text of (text_at pool m.name_index) n is_n some_n in
     let descriptor = some_text of (text_at pool m.descriptor_index) d is_d some_d in
     let k : Key = (name.text, descriptor.text) in
-    let is : key_of pool m ≡ Some k = ap (λ (o : Option (List ℕ)). both_texts o (text_at pool m.descriptor_index)) name.is ∙ ap (both_texts (Some name.text)) descriptor.is in (
+    let is : key_of pool m ≡ Some k = ap (λ (o : Option (List ℕ)). option_zip o (text_at pool m.descriptor_index)) name.is ∙ ap (option_zip (Some name.text)) descriptor.is in (
       e ∙ ap not (has k n d name.number descriptor.number) ∙ ap (λ (o : Option Key). not (list_any (λ e. same_key (key_of pool e) o) before)) (sym is),
       put pool of first pairs new k n d name.number descriptor.number m before is has updates,
     )
@@ -120,7 +122,7 @@ passed pool of pairs m before is has = (
 pub without_name : (pool : List Entry) (of : List ℕ → Option ℕ) → IsFirst pool of → (pairs : List (ℕ × ℕ)) (n : ℕ) (m : Member) (before : List Member)
     → IsNumber of (text_at pool m.name_index) n → n ≡ 0 → HasPairs pool of pairs before → IsSeen pool of true pairs m before
 without_name pool of first pairs n m before is_n none has =
-    passed pool of pairs m before (ap (λ (o : Option (List ℕ)). both_texts o (text_at pool m.descriptor_index)) (no_text pool of first (text_at pool m.name_index) n is_n none)) has
+    passed pool of pairs m before (ap (λ (o : Option (List ℕ)). option_zip o (text_at pool m.descriptor_index)) (no_text pool of first (text_at pool m.name_index) n is_n none)) has
 
 pub without_descriptor : (pool : List Entry) (of : List ℕ → Option ℕ) → IsFirst pool of → (pairs : List (ℕ × ℕ)) (d : ℕ) (m : Member) (before : List Member)
     → IsNumber of (text_at pool m.descriptor_index) d → d ≡ 0 → HasPairs pool of pairs before → IsSeen pool of true pairs m before

@@ -4,7 +4,8 @@ use Rattle.std.proofs.lemmas.List.{append-nil}
 use Rattle.cl_classfile.specs.declared.fault.Fault.{Fault}
 use Rattle.cl_classfile.specs.declared.fault.ReadError.{ReadError}
 use Rattle.cl_classfile.specs.declared.fault.ReadError.TheVariants as errors
-use Rattle.cl_classfile.specs.Checking.{◌>>=◌, Fails}
+use Rattle.cl_names.specs.Steps.{◌>>=◌}
+use Rattle.cl_classfile.specs.Checking.{Fails}
 use Rattle.cl_classfile.specs.Reading.{Reader, many_at, each_at}
 
 -- what was read before, and what is still read

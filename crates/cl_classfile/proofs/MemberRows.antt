@@ -1,13 +1,13 @@
 -- The tests of the tables of members, and what they say.
-use Rattle.std.proofs.Common.{◌≡◌, ℕ, suc, ◌+◌, ◌^◌, ◌≤◌, ◌<◌, Bool, true, false, cond, ◌&&◌, ◌||◌, eqb, ltb, nat_eq, List, [], ◌∷◌, ◌++◌, length, map, take, drop, get_or, Option, Some, None, Result, Ok, Err, refl, sym, ap, ◌∙◌, add-one, arith, inl, inr}
+use Rattle.std.proofs.Common.{◌≡◌, ℕ, suc, ◌+◌, ◌^◌, ◌≤◌, ◌<◌, Bool, true, false, cond, ◌&&◌, ◌||◌, eqb, ltb, List, [], ◌∷◌, ◌++◌, length, map, take, drop, get_or, Option, Some, None, Result, Ok, Err, refl, sym, ap, ◌∙◌, add-one, arith, inl, inr}
 use Rattle.std.specs.List.{AllByRecursion, list_any}
-use Rattle.std.specs.Cmp.Lexicographic.{pointwise, same_text}
+use Rattle.std.specs.Cmp.Lexicographic.{same_text}
 use Rattle.std.proofs.Math.Seq.{drop-cons, take-suc}
 use Rattle.std.proofs.lemmas.Bool.{leb-true, ltb-true, lt-ltb, eq-eqb}
 use Rattle.std.proofs.lemmas.List.{length-drop, nil_from_length}
-use Rattle.cl_names.specs.Kind.{IsNameOf, IsUnqualified, IsMethod}
+use Rattle.cl_names.specs.Kind.{IsNameOf, IsUnqualified, IsMethod, init, clinit}
 use Rattle.cl_descriptors.specs.Types.{units_of_method}
-use Rattle.cl_descriptors.specs.Answers.{UnitsOf}
+use Rattle.cl_descriptors.specs.Answers.{UnitsOf, IsFieldDescriptor}
 use Rattle.cl_descriptors.specs.Reading.{units_of}
 use Rattle.cl_descriptors.proofs.Forms.{units_are, units_told}
 use Rattle.cl_classfile.specs.declared.entry.Entry.{Entry}
@@ -20,17 +20,19 @@ use Rattle.cl_classfile.specs.declared.traits.Special.{Special}
 use Rattle.cl_classfile.specs.declared.traits.Special.TheVariants as names
 use Rattle.cl_classfile.specs.declared.traits.Traits.{Traits}
 use Rattle.cl_classfile.specs.Flags.{has, static, is_field_flags, is_method_flags, is_init_flags}
-use Rattle.cl_classfile.specs.Pool.{at, IsText, HasText, IsField, init, clinit}
+use Rattle.cl_classfile.specs.Pool.{at, IsText, HasText}
 use Rattle.cl_classfile.specs.Members.{Member, AllFit, MemberFits, KeepsField, TakesUnits, KeepsMethod, SameMember, AreNew, KeepMembers}
 use Rattle.cl_classfile.specs.Widths.{is_short, member_fits}
 use Rattle.cl_classfile.specs.Rows.{special_of, is_field, is_init, entry_traits, traits_at}
 use Rattle.cl_classfile.specs.Files.{text_of, text_at}
-use Rattle.cl_classfile.specs.Checking.{keeps_field, has_room, keeps_method_flags, keeps_method, Key, both_texts, key_of, same_key, same_member, checked_members, keeps_member, checked_list}
+use Rattle.cl_classfile.specs.Checking.{keeps_field, has_room, keeps_method_flags, keeps_method, Key, key_of, same_key, same_member, checked_members, keeps_member, checked_list}
 use Rattle.cl_classfile.proofs.Codec.{both}
 use Rattle.cl_classfile.proofs.Judging.{tests, differ, all, IsTrait, field, unqualified, method, option_traits, traits_are, text_says, text_told, is_clinit, init_says, clinit_says}
 use Rattle.cl_classfile.proofs.Fitting.{short_tells, choice_ok, member_tells}
 use Rattle.cl_descriptors.specs.declared.limits.TheConstants.{MOST_UNITS}
 use Rattle.cl_classfile.specs.declared.limits.TheConstants.{MOST_COUNTED}
+use Rattle.std.specs.Prelude.{bytes_eq}
+use Rattle.std.specs.Option.{option_zip}
 
 -- ---- units
 
@@ -66,14 +68,14 @@ field_says pool of_interface m h =
     record {
       flags = b.0;
       name = text_says (λ t. t.unqualified) (IsNameOf IsUnqualified) unqualified pool m.name_index b.1;
-      descriptor = text_says (λ t. is_field t.form) IsField field pool m.descriptor_index a.1;
+      descriptor = text_says (λ t. is_field t.form) IsFieldDescriptor field pool m.descriptor_index a.1;
     }
 
 field_told : (pool : List Entry) (of_interface : Bool) (m : Member) → KeepsField pool of_interface m → keeps_fields pool of_interface m ≡ true
 field_told pool of_interface m k =
     all _ _
     (all _ _ k.flags (text_told (λ t. t.unqualified) (IsNameOf IsUnqualified) unqualified pool m.name_index k.name))
-    (text_told (λ t. is_field t.form) IsField field pool m.descriptor_index k.descriptor)
+    (text_told (λ t. is_field t.form) IsFieldDescriptor field pool m.descriptor_index k.descriptor)
 
 -- ---- the row of a method
 
@@ -143,12 +145,12 @@ pub named_text : (o : Option Entry) (text : List ℕ) → text_of o ≡ Some tex
 named_text (Some (Utf8 t)) text e = cc
 named_text _ text e = absurd cc
 
-pub reflexive : (text : List ℕ) → pointwise nat_eq text text ≡ true
+pub reflexive : (text : List ℕ) → bytes_eq text text ≡ true
 reflexive [] = refl
-reflexive (b ∷ bytes) = all (eqb b b) (pointwise nat_eq bytes bytes) (eq-eqb b b refl) (reflexive bytes)
+reflexive (b ∷ bytes) = all (eqb b b) (bytes_eq bytes bytes) (eq-eqb b b refl) (reflexive bytes)
 
 -- a key is that of two texts
-both_are : (o p : Option (List ℕ)) (k : Key) → both_texts o p ≡ Some k → (o ≡ Some k.0) × (p ≡ Some k.1)
+both_are : (o p : Option (List ℕ)) (k : Key) → option_zip o p ≡ Some k → (o ≡ Some k.0) × (p ≡ Some k.1)
 both_are (Some a) (Some b) k e = let same : (let x : Key = (a, b) in x) ≡ k = cc in (ap (λ (x : Key). Some x.0) same, ap (λ (x : Key). Some x.1) same)
 both_are (Some a) None k e = absurd cc
 both_are None p k e = absurd cc
@@ -164,11 +166,11 @@ key_says pool m k e =
 
 key_told : (pool : List Entry) (m : Member) (name descriptor : List ℕ) → IsText pool m.name_index name → IsText pool m.descriptor_index descriptor → key_of pool m ≡ Some (name, descriptor)
 key_told pool m name descriptor n d =
-    ap (λ (o : Option Entry). both_texts (text_of o) (text_at pool m.descriptor_index)) n ∙ ap (λ (o : Option Entry). both_texts (Some name) (text_of o)) d
+    ap (λ (o : Option Entry). option_zip (text_of o) (text_at pool m.descriptor_index)) n ∙ ap (λ (o : Option Entry). option_zip (Some name) (text_of o)) d
 
 same_by : (pool : List Entry) (a b : Member) (o p : Option Key) → key_of pool a ≡ o → key_of pool b ≡ p → same_key o p ≡ true → SameMember pool a b
 same_by pool a b (Some k) (Some l) e f h =
-    let t = both (pointwise nat_eq k.0 l.0) (pointwise nat_eq k.1 l.1) h in
+    let t = both (bytes_eq k.0 l.0) (bytes_eq k.1 l.1) h in
     let first = key_says pool a k e in
     let second = key_says pool b l f in
     let name : k.0 ≡ l.0 = same_text k.0 l.0 (sym t.0) in
@@ -188,7 +190,7 @@ same_told pool a b s =
     let k : Key = (s.name.text, s.descriptor.text) in
     ap (λ (o : Option Key). same_key o (key_of pool b)) (key_told pool a s.name.text s.descriptor.text s.name.first s.descriptor.first)
     ∙ ap (λ (o : Option Key). same_key (Some k) o) (key_told pool b s.name.text s.descriptor.text s.name.second s.descriptor.second)
-    ∙ all (pointwise nat_eq k.0 k.0) (pointwise nat_eq k.1 k.1) (reflexive k.0) (reflexive k.1)
+    ∙ all (bytes_eq k.0 k.0) (bytes_eq k.1 k.1) (reflexive k.0) (reflexive k.1)
 
 neither : (a b : Bool) → a || b ≡ false → (a ≡ false) × (b ≡ false)
 neither true b h = absurd cc

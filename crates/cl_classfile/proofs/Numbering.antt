@@ -1,9 +1,9 @@
 -- The numbers of texts, as they are asked for one after the other.
-use Rattle.std.proofs.Common.{◌≡◌, ℕ, zero, suc, ◌+◌, ◌<◌, Bool, true, false, cond, nat_eq, List, [], ◌∷◌, ◌++◌, length, take, get_or, Option, Some, None, refl, sym, ap, subst, ◌∙◌, arith, inl, inr}
-use Rattle.std.specs.Prelude.{set, slice_get, unwrap_or}
+use Rattle.std.proofs.Common.{◌≡◌, ℕ, zero, suc, ◌+◌, ◌<◌, Bool, true, false, cond, List, [], ◌∷◌, ◌++◌, length, take, get_or, Option, Some, None, refl, sym, ap, subst, ◌∙◌, arith, inl, inr}
+use Rattle.std.specs.Prelude.{set, slice_get, unwrap_or, bytes_eq}
 use Rattle.std.specs.List.{AllByRecursion}
 use Rattle.std.specs.Ordering.{is_eq}
-use Rattle.std.specs.Cmp.Lexicographic.{pointwise, same_text, texts_ties}
+use Rattle.std.specs.Cmp.Lexicographic.{same_text, texts_ties}
 use Rattle.std.proofs.lemmas.Bool.{cases_eq, cases_lt}
 use Rattle.std.proofs.lemmas.List.{length-set}
 use Rattle.std.specs.BTreeMap.{get}
@@ -23,19 +23,19 @@ Of = List ℕ → Option ℕ
 
 -- the numbers when a text was put in
 abbrev pub Puts : Of → Of → List ℕ → ℕ → Type 0
-Puts old new t n = (u : List ℕ) → new u ≡ cond (pointwise nat_eq t u) (Some n) (old u)
+Puts old new t n = (u : List ℕ) → new u ≡ cond (bytes_eq t u) (Some n) (old u)
 
 put_first : (pool : List Entry) (old new : Of) (t : List ℕ) (n : ℕ) → Puts old new t n → text_at pool n ≡ Some t → IsFirst pool old → IsFirst pool new
-put_first pool old new t n puts is first u m e = choose (pointwise nat_eq t u) refl (sym (puts u) ∙ e)
+put_first pool old new t n puts is first u m e = choose (bytes_eq t u) refl (sym (puts u) ∙ e)
   where
-    choose : (b : Bool) → pointwise nat_eq t u ≡ b → cond b (Some n) (old u) ≡ Some m → text_at pool m ≡ Some u
+    choose : (b : Bool) → bytes_eq t u ≡ b → cond b (Some n) (old u) ≡ Some m → text_at pool m ≡ Some u
     choose true same is_m = let same_number : n ≡ m = cc in ap (text_at pool) (sym same_number) ∙ is ∙ ap Some (same_text t u (sym same))
     choose false other is_m = first u m is_m
 
 pub put_grows : (old new : Of) (t : List ℕ) (n : ℕ) → Puts old new t n → old t ≡ None → (u : List ℕ) (m : ℕ) → old u ≡ Some m → new u ≡ Some m
-put_grows old new t n puts none u m e = puts u ∙ choose (pointwise nat_eq t u) refl
+put_grows old new t n puts none u m e = puts u ∙ choose (bytes_eq t u) refl
   where
-    choose : (b : Bool) → pointwise nat_eq t u ≡ b → cond b (Some n) (old u) ≡ Some m
+    choose : (b : Bool) → bytes_eq t u ≡ b → cond b (Some n) (old u) ≡ Some m
     choose true same = absurd (let t_is : old t ≡ Some m = ap old (same_text t u (sym same)) ∙ e in cc)
     choose false other = e
 
@@ -58,9 +58,9 @@ put_number pool old new t n same puts none is a = record {
 
 -- a text that had a number has it again
 pub put_back : (old mid new : Of) (t : List ℕ) (i n : ℕ) → Puts old mid t i → Puts mid new t n → old t ≡ Some n → (u : List ℕ) → new u ≡ old u
-put_back old mid new t i n first again had u = again u ∙ choose (pointwise nat_eq t u) refl
+put_back old mid new t i n first again had u = again u ∙ choose (bytes_eq t u) refl
   where
-    choose : (b : Bool) → pointwise nat_eq t u ≡ b → cond b (Some n) (mid u) ≡ old u
+    choose : (b : Bool) → bytes_eq t u ≡ b → cond b (Some n) (mid u) ≡ old u
     choose true same = sym had ∙ ap old (same_text t u (sym same))
     choose false other = first u ∙ rw other refl
 
@@ -162,11 +162,13 @@ pub one_more : (pool : List Entry) (old so_far named new : Numbers) (ms : List M
 one_more pool old so_far named new ms i m lt is a name descriptor =
     let kept : (j : ℕ) → IsNoted pool so_far j → IsNoted pool new j = λ j h. descriptor.kept j (name.kept j h) in
     record {
-      numbers = descriptor.numbers;
       kept = λ j h. kept j (a.kept j h);
-      noted =
-          subst (AllByRecursion (IsMemberNoted pool new)) (sym (front ms i m lt is))
-          (all_and (IsMemberNoted pool new) (take i ms) m (members_kept pool so_far new kept (take i ms) a.noted) (descriptor.kept m.name_index name.noted, descriptor.noted));
+      noted = record {
+        numbers = descriptor.numbers;
+        each =
+            subst (AllByRecursion (IsMemberNoted pool new)) (sym (front ms i m lt is))
+            (all_and (IsMemberNoted pool new) (take i ms) m (members_kept pool so_far new kept (take i ms) a.noted.each) (descriptor.kept m.name_index name.noted, descriptor.noted));
+      };
     }
 
 -- of no text there is a number

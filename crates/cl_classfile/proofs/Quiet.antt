@@ -14,7 +14,8 @@ use Rattle.cl_classfile.specs.Widths.{is_short, all_fit, attribute_fits}
 use Rattle.cl_classfile.specs.Tags as tags
 use Rattle.cl_classfile.specs.Files.{class_name}
 use Rattle.cl_classfile.specs.Rows.{entry_traits, keeps_entry}
-use Rattle.cl_classfile.specs.Checking.{◌>>=◌, kept_entry, checked_entries, keeps_names, keeps_interfaces, checked_class, keeps_member, same_member, checked_members, checked_list, checked_tables, kept_file}
+use Rattle.cl_names.specs.Steps.{◌>>=◌}
+use Rattle.cl_classfile.specs.Checking.{kept_entry, checked_entries, keeps_names, keeps_interfaces, checked_class, keeps_member, same_member, checked_members, checked_list, checked_tables, kept_file}
 use Rattle.cl_classfile.specs.Reading.{Reader, number_at, bytes_at, then_at, test_at, map_at, sized_at, many_at, counted_at, header_at, text_at, byte_at, signed_at, two_at, handle_at, wide_at, tagged_at, entry_at, slot_at, next_place, entries_at, pool_at, class_at, interfaces_at, attribute_at, attributes_at, member_at, members_at, tables_at, Parts, parts_at, structure_of, structure_at, whole_of, read_of}
 use Rattle.cl_classfile.proofs.Judging.{differ}
 
@@ -131,7 +132,7 @@ unfolding pool_at entries_at
 pool bytes = bind (test_at (number_at w16) (λ n. leb 1 n) (BadPool 0) bytes) _ (tested (number_at w16) _ (BadPool 0) refl (number w16) bytes) (λ n. many (slot_at (n.0 - 1)) next_place (slot (n.0 - 1)) (n.0 - 1) (1, false) n.1)
 
 class : Quiet class_at
-unfolding class_at
+unfolding class_at two_at
 class = also (number_at w16) _ (number w16) (λ flags. also (number_at w16) _ (number w16) (λ this. number w16))
 
 sized : (w : Width) → Quiet (sized_at w)

@@ -8,13 +8,14 @@ use Rattle.cl_descriptors.specs.declared.types.Form.{Form}
 use Rattle.cl_descriptors.specs.declared.types.Form.TheVariants as forms
 use Rattle.cl_classfile.specs.declared.entry.Entry.{Entry}
 use Rattle.cl_classfile.specs.declared.entry.Entry.TheVariants.{Class, Fieldref, Methodref, InterfaceMethodref, NameAndType}
-use Rattle.cl_classfile.specs.Pool.{at, HasText, HasClass, HasPair, IsField, IsCall, NamesType, MayPair, KeepsEntry}
+use Rattle.cl_classfile.specs.Pool.{at, HasText, HasClass, HasPair, NamesType, MayPair, KeepsEntry}
 use Rattle.cl_classfile.specs.Rows.{is_field, is_call}
 use Rattle.cl_classfile.specs.Structure.{Structure}
 use Rattle.cl_classfile.specs.Files.{Reference, Symbol, Cited, text_of, type_of, type_name, pair_name, pair_descriptor, symbol_at, cited, typed, reference_of, references_from, file_of, reference}
 use Rattle.cl_classfile.specs.References.{refers, IsFieldSymbol, IsMethodSymbol, IsCited}
 use Rattle.cl_classfile.proofs.Judging.{field_is, call_is}
 use Rattle.cl_classfile.proofs.Classes.{Rows, row_at}
+use Rattle.cl_descriptors.specs.Answers.{IsFieldDescriptor, IsMethodDescriptor}
 
 -- ---- the reference at an index
 
@@ -67,16 +68,16 @@ disjoint (Some forms.Array) f c = absurd cc
 disjoint (Some forms.Method) f c = absurd cc
 disjoint (Some forms.Void) f c = absurd cc
 
-one_kind : (pool : List Entry) (i : ℕ) → HasText pool i IsField → HasText pool i IsCall → ⊥
+one_kind : (pool : List Entry) (i : ℕ) → HasText pool i IsFieldDescriptor → HasText pool i IsMethodDescriptor → ⊥
 one_kind pool i f c =
     let same : c.text ≡ f.text = cc (f.is_text, c.is_text) in
-    disjoint (form_of f.text) (field_is f.text f.kind) (call_is f.text (subst IsCall same c.kind))
+    disjoint (form_of f.text) (field_is f.text f.kind) (call_is f.text (subst IsMethodDescriptor same c.kind))
 
-field_name : (pool : List Entry) (name descriptor : ℕ) → MayPair pool name descriptor → HasText pool descriptor IsField → HasText pool name (IsNameOf IsUnqualified)
+field_name : (pool : List Entry) (name descriptor : ℕ) → MayPair pool name descriptor → HasText pool descriptor IsFieldDescriptor → HasText pool name (IsNameOf IsUnqualified)
 field_name pool name descriptor (inl h) f = h.1
 field_name pool name descriptor (inr h) f = absurd (one_kind pool descriptor f h.0)
 
-method_name : (pool : List Entry) (name descriptor : ℕ) → MayPair pool name descriptor → HasText pool descriptor IsCall → HasText pool name (IsNameOf IsMethod)
+method_name : (pool : List Entry) (name descriptor : ℕ) → MayPair pool name descriptor → HasText pool descriptor IsMethodDescriptor → HasText pool name (IsNameOf IsMethod)
 method_name pool name descriptor (inl h) c = absurd (one_kind pool descriptor h.0 c)
 method_name pool name descriptor (inr h) c = h.1
 
@@ -93,17 +94,17 @@ record IsRight (pool : List Entry) (class pair : ℕ) (Kind : Symbol → Type 0)
   is : symbol_at pool class pair ≡ Some symbol
   right : Kind symbol
 
-field_right : (pool : List Entry) → Rows pool → (class pair : ℕ) → HasClass pool class → HasPair pool pair IsField → IsRight pool class pair IsFieldSymbol
+field_right : (pool : List Entry) → Rows pool → (class pair : ℕ) → HasClass pool class → HasPair pool pair IsFieldDescriptor → IsRight pool class pair IsFieldSymbol
 field_right pool rows class pair c p =
     let t = row_at pool class (Class c.text) rows c.is_entry in
     let n = field_name pool p.name p.descriptor (row_at pool pair (NameAndType p.name p.descriptor) rows p.is_entry) p.described in
-    record { symbol = record { class = t.text; name = n.text; descriptor = p.described.text }; is = symbol_is pool class pair c (IsNameOf IsUnqualified) IsField p t n; right = record { class = t.kind; name = n.kind; descriptor = p.described.kind } }
+    record { symbol = record { class = t.text; name = n.text; descriptor = p.described.text }; is = symbol_is pool class pair c (IsNameOf IsUnqualified) IsFieldDescriptor p t n; right = record { class = t.kind; name = n.kind; descriptor = p.described.kind } }
 
-method_right : (pool : List Entry) → Rows pool → (class pair : ℕ) → HasClass pool class → HasPair pool pair IsCall → IsRight pool class pair IsMethodSymbol
+method_right : (pool : List Entry) → Rows pool → (class pair : ℕ) → HasClass pool class → HasPair pool pair IsMethodDescriptor → IsRight pool class pair IsMethodSymbol
 method_right pool rows class pair c p =
     let t = row_at pool class (Class c.text) rows c.is_entry in
     let n = method_name pool p.name p.descriptor (row_at pool pair (NameAndType p.name p.descriptor) rows p.is_entry) p.described in
-    record { symbol = record { class = t.text; name = n.text; descriptor = p.described.text }; is = symbol_is pool class pair c (IsNameOf IsMethod) IsCall p t n; right = record { class = t.kind; name = n.kind; descriptor = p.described.kind } }
+    record { symbol = record { class = t.text; name = n.text; descriptor = p.described.text }; is = symbol_is pool class pair c (IsNameOf IsMethod) IsMethodDescriptor p t n; right = record { class = t.kind; name = n.kind; descriptor = p.described.kind } }
 
 -- what is cited where an entry is a reference: it is there, and each text is of its kind
 record IsSound (o : Option Cited) (b : Bool) : Type 0 where

@@ -5,7 +5,7 @@ use Rattle.std.specs.List.{flat_map}
 use Rattle.std.proofs.lemmas.Bool.{eqb-true}
 use Rattle.cl_classfile.specs.declared.fault.Fault.TheVariants.{BadMagic, Version}
 use Rattle.cl_classfile.specs.Structure.{Structure, counted, pool_spelling, member_spelling, attribute_spelling, magic, version, spelling, AllFit, PoolFits, AttributeFits, MemberFits, Fits}
-use Rattle.cl_classfile.specs.Reading.{Reader, number_at, then_at, sized_at, each_at, counted_at, magic_at, version_at, header_at, pool_at, class_at, interfaces_at, attribute_at, attributes_at, member_at, members_at, tables_at, Parts, parts_at, structure_of, structure_at}
+use Rattle.cl_classfile.specs.Reading.{Reader, number_at, then_at, sized_at, each_at, counted_at, magic_at, version_at, header_at, pool_at, class_at, interfaces_at, attribute_at, attributes_at, member_at, members_at, tables_at, Parts, parts_at, structure_of, structure_at, two_at}
 use Rattle.cl_classfile.proofs.Codec.{both, bind_ok, Takes, Takes-then, IsCodec, number16, number32, also, sized, tested, mapped, many, EachFits, each_of_all, all_of_each}
 use Rattle.cl_classfile.proofs.Pooled.{pool}
 
@@ -18,7 +18,7 @@ abbrev pub HeaderFits : ℕ × (ℕ × ℕ) → Type 0
 HeaderFits p = ((p.0 < 2 ^ 32) × (eqb p.0 0xcafebabe ≡ true)) × (((p.1.0 < 2 ^ 16) × (p.1.1 < 2 ^ 16)) × (eqb p.1.0 0 && eqb p.1.1 52 ≡ true))
 
 pub header : IsCodec header_at header_spelling HeaderFits
-unfolding header_at magic_at version_at
+unfolding header_at magic_at version_at two_at
 header =
     also magic_at version_at _ _ _ _
     (tested (number_at w32) (to_be_bytes w32) (λ n. n < 2 ^ 32) (λ n. eqb n 0xcafebabe) BadMagic number32)
@@ -42,7 +42,7 @@ abbrev ClassFits : ℕ × (ℕ × ℕ) → Type 0
 ClassFits p = (p.0 < 2 ^ 16) × ((p.1.0 < 2 ^ 16) × (p.1.1 < 2 ^ 16))
 
 class : IsCodec class_at class_spelling ClassFits
-unfolding class_at
+unfolding class_at two_at
 class = also (number_at w16) (then_at (number_at w16) (λ this. number_at w16)) _ _ _ _ number16 (also (number_at w16) (number_at w16) _ _ _ _ number16 number16)
 
 each : {A : Type 0} (r : Reader A) (s : A → List ℕ) (F : A → Type 0) → IsCodec r s F → (n : ℕ) → IsCodec (each_at r n) (flat_map s) (λ xs. (length xs ≡ n) × EachFits {C = ℕ} (λ i. F) (λ i a. i) 0 xs)

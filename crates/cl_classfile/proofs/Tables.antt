@@ -1,9 +1,9 @@
 -- The tests of the tables, and what they say.
-use Rattle.std.proofs.Common.{◌≡◌, ℕ, ◌+◌, ◌^◌, ◌<◌, Bool, true, false, cond, not, ◌&&◌, eqb, nat_eq, List, [], ◌∷◌, length, map, Option, Some, None, Result, Ok, Err, refl, sym, ap, ◌∙◌, arith, inl, inr}
-use Rattle.std.specs.Prelude.{is_some}
+use Rattle.std.proofs.Common.{◌≡◌, ℕ, ◌+◌, ◌^◌, ◌<◌, Bool, true, false, cond, not, ◌&&◌, eqb, List, [], ◌∷◌, length, map, Option, Some, None, Result, Ok, Err, refl, sym, ap, ◌∙◌, arith, inl, inr}
+use Rattle.std.specs.Prelude.{is_some, bytes_eq}
 use Rattle.std.specs.Bool.{Decides}
 use Rattle.std.specs.List.{AllByRecursion}
-use Rattle.std.specs.Cmp.Lexicographic.{pointwise, same_text}
+use Rattle.std.specs.Cmp.Lexicographic.{same_text}
 use Rattle.std.proofs.lemmas.Bool.{eqb-true, ltb-true}
 use Rattle.cl_names.specs.Kind.{IsNameOf, IsClass}
 use Rattle.cl_classfile.specs.declared.entry.Entry.{Entry}
@@ -18,7 +18,8 @@ use Rattle.cl_classfile.specs.Members.{AllFit, AttributeFits, MemberFits}
 use Rattle.cl_classfile.specs.Widths.{is_short, all_fit, attribute_fits}
 use Rattle.cl_classfile.specs.Files.{class_name}
 use Rattle.cl_classfile.specs.Rows.{entry_traits, keeps_entry}
-use Rattle.cl_classfile.specs.Checking.{◌>>=◌, kept_entry, checked_entries, may_stand_above, keeps_super, keeps_names, keeps_interfaces, checked_class, checked_list, checked_attributes, checked_tables, kept_file, checked_pool, parts_of}
+use Rattle.cl_names.specs.Steps.{◌>>=◌}
+use Rattle.cl_classfile.specs.Checking.{kept_entry, checked_entries, may_stand_above, keeps_super, keeps_names, keeps_interfaces, checked_class, checked_list, checked_attributes, checked_tables, kept_file, checked_pool, parts_of}
 use Rattle.cl_classfile.proofs.Codec.{bind_ok, test_ok, ok_is, both}
 use Rattle.cl_classfile.proofs.Fitting.{short_tells, all_tell, attributes_tell, pool_says, pool_told, within}
 use Rattle.cl_classfile.proofs.Judging.{keeps_entry_says, keeps_entry_told, tests}
@@ -46,8 +47,8 @@ some_is : {A : Type 0} (o : Option A) → is_some o ≡ true → (x : A) × (o �
 some_is None e = absurd cc
 some_is (Some x) e = (x, refl)
 
-is_object : (name : List ℕ) → name ≡ object → pointwise nat_eq name object ≡ true
-is_object name e = ap (λ (n : List ℕ). pointwise nat_eq n object) e
+is_object : (name : List ℕ) → name ≡ object → bytes_eq name object ≡ true
+is_object name e = ap (λ (n : List ℕ). bytes_eq n object) e
 
 -- what stands above: of an interface it is java/lang/Object
 above_says : (pool : List Entry) → Rows pool → (of_interface : Bool) (super : ℕ) (o : Option (List ℕ)) → class_name pool super ≡ o → may_stand_above of_interface o ≡ true
@@ -66,7 +67,7 @@ no_interface false b h = (refl, h)
 
 super_says : (pool : List Entry) → Rows pool → (of_interface : Bool) (name : List ℕ) (super : ℕ) → keeps_super pool of_interface name super ≡ true → KeepsSuper pool of_interface name super
 super_says pool rows of_interface name super h =
-    elim (tests (pointwise nat_eq name object)) [
+    elim (tests (bytes_eq name object)) [
       | inl e ↦ let k = no_interface of_interface (eqb super 0) (rw e at h) in inl (same_text name object (sym e), k.0, eqb-true super 0 k.1)
       | inr e ↦
           let a = above_says pool rows of_interface super (class_name pool super) refl (rw e at h) in
@@ -76,7 +77,7 @@ super_says pool rows of_interface name super h =
 super_told : (pool : List Entry) (of_interface : Bool) (name : List ℕ) (super : ℕ) → KeepsSuper pool of_interface name super → keeps_super pool of_interface name super ≡ true
 super_told pool of_interface name super (inl h) = rw (is_object name h.0, h.1, h.2) refl
 super_told pool of_interface name super (inr h) =
-    elim (tests (pointwise nat_eq name object)) [
+    elim (tests (bytes_eq name object)) [
       | inl e ↦ absurd (h.0 (same_text name object (sym e)))
       | inr e ↦ rw (e, class_named pool super h.1 h.2) (above_told of_interface h.1 h.3)
     ]

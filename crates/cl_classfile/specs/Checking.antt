@@ -10,7 +10,6 @@ use Rattle.std.specs.Prelude.{
   ◌&&◌,
   ◌||◌,
   ◌==◌,
-  nat_eq,
   nat_lt,
   List,
   [],
@@ -26,9 +25,9 @@ use Rattle.std.specs.Prelude.{
   Ok,
   Err,
   if◌then◌else◌,
+  bytes_eq,
 }
 use Rattle.std.specs.List.{list_any}
-use Rattle.std.specs.Cmp.Lexicographic.{pointwise}
 use Rattle.cl_classfile.specs.declared.entry.Entry.{Entry}
 use Rattle.cl_classfile.specs.declared.fault.Fault.{Fault}
 use Rattle.cl_classfile.specs.declared.fault.Fault.TheVariants.{
@@ -67,19 +66,10 @@ use Rattle.cl_classfile.specs.Widths.{
 use Rattle.cl_classfile.specs.Rows.{is_field, entry_traits, traits_at, keeps_entry}
 use Rattle.cl_classfile.specs.Files.{text_at, class_name}
 use Rattle.cl_descriptors.specs.declared.limits.TheConstants.{MOST_UNITS}
+use Rattle.std.specs.Option.{option_zip}
+use Rattle.cl_names.specs.Steps.{◌>>=◌}
 
--- the first fault of two steps, or what the second gives
-infixl 10 ◌>>=◌
-abbrev pub ◌>>=◌ : {A B : Type 0} → Result A Fault → (A → Result B Fault) → Result B Fault
-(Ok x) >>= f = f x
-(Err e) >>= f = Err e
-
--- what a function that takes no memory returned is, seen by view, this value or fault
-abbrev pub Finds : {X Y : Type 0} → (X → Y) → Result X Fault → Result Y Fault → Type 0
-Finds view (Ok x) read = read ≡ Ok (view x)
-Finds view (Err f) read = read ≡ Err f
-
--- the same of a function that takes memory, unless memory ran out
+-- a function that takes memory found this fault, unless memory ran out
 abbrev pub Fails : {Y : Type 0} → ReadError → Result Y Fault → Type 0
 Fails errors.Memory read = Unit {0}
 Fails (errors.Fault f) read = read ≡ Err f
@@ -102,12 +92,12 @@ checked_entries pool i (e ∷ es) = kept_entry pool i e >>= λ kept. checked_ent
 -- (JVMS SE 8, 4.1)
 abbrev pub may_stand_above : Bool → Option (List ℕ) → Bool
 may_stand_above of_interface None = false
-may_stand_above of_interface (Some above) = not of_interface || pointwise nat_eq above object
+may_stand_above of_interface (Some above) = not of_interface || bytes_eq above object
 
 -- super_class is 0 exactly in java/lang/Object, which is no interface (JVMS SE 8, 4.1)
 abbrev pub keeps_super : List Entry → Bool → List ℕ → ℕ → Bool
 keeps_super pool of_interface name super =
-    if pointwise nat_eq name object
+    if bytes_eq name object
     then not of_interface && super == 0
     else may_stand_above of_interface (class_name pool super)
 
@@ -168,19 +158,13 @@ keeps_member kinds.Method traits of_interface m =
 abbrev pub Key : Type 0
 Key = List ℕ × List ℕ
 
--- two texts, where both are there (4.5, 4.6)
-abbrev pub both_texts : Option (List ℕ) → Option (List ℕ) → Option Key
-both_texts (Some a) (Some b) = Some (a, b)
-both_texts (Some a) None = None
-both_texts None other = None
-
 -- what no two fields, and no two methods, may have in common (4.5, 4.6)
 abbrev pub key_of : List Entry → Member → Option Key
-key_of pool m = both_texts (text_at pool m.name_index) (text_at pool m.descriptor_index)
+key_of pool m = option_zip (text_at pool m.name_index) (text_at pool m.descriptor_index)
 
 -- two keys are the same (4.5, 4.6)
 abbrev pub same_key : Option Key → Option Key → Bool
-same_key (Some a) (Some b) = pointwise nat_eq a.0 b.0 && pointwise nat_eq a.1 b.1
+same_key (Some a) (Some b) = bytes_eq a.0 b.0 && bytes_eq a.1 b.1
 same_key (Some a) None = false
 same_key None other = false
 

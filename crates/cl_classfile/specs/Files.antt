@@ -6,7 +6,6 @@ use Rattle.std.specs.Prelude.{
   false,
   ◌&&◌,
   ◌==◌,
-  nat_eq,
   List,
   [],
   ◌∷◌,
@@ -21,6 +20,8 @@ use Rattle.std.specs.Prelude.{
   option_to_list,
   unwrap_or,
   if◌then◌else◌,
+  bytes_eq,
+  slice_index,
 }
 use Rattle.std.specs.Cmp.Lexicographic.{pointwise}
 use Rattle.cl_descriptors.specs.declared.types.Base.{Base}
@@ -42,6 +43,7 @@ pub use Rattle.cl_classfile.specs.Flags.{has}
 use Rattle.cl_classfile.specs.Flags.{public, private, protected, static, abstract, interface}
 use Rattle.cl_classfile.specs.Structure.{Structure, at}
 use Rattle.cl_classfile.specs.Structure as structure
+use Rattle.cl_descriptors.specs.Types.{spelling_of_base, class_of_base}
 
 -- the bytes of the name of a class or a member (4.2)
 abbrev pub Name : Type 0
@@ -261,31 +263,15 @@ is_interface f = has f.flags interface
 
 -- two names are the same (4.2)
 abbrev pub same_name : Name → Name → Bool
-same_name a b = pointwise nat_eq a b
+same_name = bytes_eq
 
--- the letter of a base that is no class (4.3.2), and the name of one that is
+-- the letter of a base, and `L` of a class (4.3.2)
 abbrev pub letter : Base → ℕ
-letter bases.Byte = 0x42
-letter bases.Char = 0x43
-letter bases.Double = 0x44
-letter bases.Float = 0x46
-letter bases.Int = 0x49
-letter bases.Long = 0x4a
-letter bases.Short = 0x53
-letter bases.Boolean = 0x5a
-letter (bases.Class name) = 0x4c
+letter base = slice_index (spelling_of_base base) 0
 
 -- the name of a base that is a class (4.3.2)
 abbrev pub element_name : Base → List Name
-element_name bases.Byte = []
-element_name bases.Char = []
-element_name bases.Double = []
-element_name bases.Float = []
-element_name bases.Int = []
-element_name bases.Long = []
-element_name bases.Short = []
-element_name bases.Boolean = []
-element_name (bases.Class name) = name ∷ []
+element_name base = option_to_list (class_of_base base)
 
 -- two bases are the same (4.3.2)
 abbrev pub same_base : Base → Base → Bool

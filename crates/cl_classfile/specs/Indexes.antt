@@ -56,9 +56,8 @@ pub record StandTo (ns : Numbers) (ps : Places) (ms : List Member) (end : ℕ) :
       → IsSome (place_of ps (pair_of ns m))
 
 -- each place is that of a member of its numbers, and each of the members has one
-pub record StandThere (ns : Numbers) (ps : Places) (ms : List Member) : Type 0 where
-  pub each : (pair : ℕ × ℕ) (i : ℕ) → place_of ps pair ≡ Some i → StandsAt ns ms pair i
-  pub all : (i : ℕ) (m : Member) → slice_get ms i ≡ Some m → IsSome (place_of ps (pair_of ns m))
+abbrev pub StandThere : Numbers → Places → List Member → Type 0
+StandThere ns ps ms = StandTo ns ps ms (length ms)
 
 -- the texts of these members have numbers, under which the members stand
 pub record Lead (pool : List Entry) (ns : Numbers) (ps : Places) (ms : List Member) : Type 0 where

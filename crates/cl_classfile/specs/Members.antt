@@ -17,13 +17,14 @@ use Rattle.std.specs.Prelude.{
 }
 use Rattle.std.specs.List.{flat_map, AllByRecursion}
 use Rattle.std.specs.Int.{w16, w32, to_be_bytes}
-use Rattle.cl_names.specs.Kind.{IsNameOf, IsUnqualified, IsMethod}
+use Rattle.cl_names.specs.Kind.{IsNameOf, IsUnqualified, IsMethod, init, clinit}
 use Rattle.cl_descriptors.specs.Types.{units_of_method}
 use Rattle.cl_descriptors.specs.Answers as descriptors
 use Rattle.cl_classfile.specs.declared.entry.Entry.{Entry}
 use Rattle.cl_classfile.specs.Flags.{has, static, is_field_flags, is_method_flags, is_init_flags}
-use Rattle.cl_classfile.specs.Pool.{IsText, HasText, IsField, init, clinit}
+use Rattle.cl_classfile.specs.Pool.{IsText, HasText}
 use Rattle.cl_descriptors.specs.declared.limits.TheConstants.{MOST_UNITS}
+use Rattle.cl_descriptors.specs.Answers.{IsFieldDescriptor}
 
 -- ---- the parts
 
@@ -80,7 +81,7 @@ pub record MemberFits (m : Member) : Type 0 where
 pub record KeepsField (pool : List Entry) (of_interface : Bool) (m : Member) : Type 0 where
   pub flags : IsTrue (is_field_flags of_interface m.flags)
   pub name : HasText pool m.name_index (IsNameOf IsUnqualified)
-  pub descriptor : HasText pool m.descriptor_index IsField
+  pub descriptor : HasText pool m.descriptor_index IsFieldDescriptor
 
 -- the parameters count not too many units, with one for this where the method is of an instance
 -- (4.3.3)

@@ -61,13 +61,12 @@ pub record Notes (pool : List Entry) (old new : Numbers) (i : ℕ) : Type 0 wher
 abbrev pub IsMemberNoted : List Entry → Numbers → Member → Type 0
 IsMemberNoted pool ns m = IsNoted pool ns m.name_index × IsNoted pool ns m.descriptor_index
 
--- the texts of these members were asked for, and no other's number changed (4.5, 4.6)
-pub record NotesAll (pool : List Entry) (old new : Numbers) (ms : List Member) : Type 0 where
-  pub numbers : AreNumbers pool new
-  pub kept : (j : ℕ) → IsNoted pool old j → IsNoted pool new j
-  pub noted : AllByRecursion (IsMemberNoted pool new) ms
-
 -- the texts of these members have numbers (4.5, 4.6)
 pub record AreNoted (pool : List Entry) (ns : Numbers) (ms : List Member) : Type 0 where
   pub numbers : AreNumbers pool ns
   pub each : AllByRecursion (IsMemberNoted pool ns) ms
+
+-- the texts of these members were asked for, and no other's number changed (4.5, 4.6)
+pub record NotesAll (pool : List Entry) (old new : Numbers) (ms : List Member) : Type 0 where
+  pub kept : (j : ℕ) → IsNoted pool old j → IsNoted pool new j
+  pub noted : AreNoted pool new ms

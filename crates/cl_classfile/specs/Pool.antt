@@ -22,13 +22,11 @@ use Rattle.std.specs.Prelude.{
   Option,
   Some,
   None,
-  codes,
   slice_get,
 }
 use Rattle.std.specs.Int.{w16, w32, w64, to_be_bytes, cast_unsigned}
 use Rattle.cl_names.specs.Text.{IsModifiedUtf8}
-use Rattle.cl_names.specs.Kind.{IsNameOf, IsUnqualified, IsMethod, IsClass}
-use Rattle.cl_descriptors.specs.Answers as descriptors
+use Rattle.cl_names.specs.Kind.{IsNameOf, IsUnqualified, IsMethod, IsClass, init, clinit}
 use Rattle.cl_classfile.specs.Tags as tags
 use Rattle.cl_classfile.specs.declared.entry.Entry.{Entry}
 use Rattle.cl_classfile.specs.declared.entry.Entry.TheVariants.{
@@ -47,6 +45,12 @@ use Rattle.cl_classfile.specs.declared.entry.Entry.TheVariants.{
   MethodHandle,
   MethodType,
   InvokeDynamic,
+}
+use Rattle.cl_descriptors.specs.Answers.{
+  IsFieldDescriptor,
+  IsArrayDescriptor,
+  IsMethodDescriptor,
+  IsVoidDescriptor,
 }
 
 -- ---- the one spelling of each: its tag, and what follows it (table 4.4-A)
@@ -148,38 +152,15 @@ pub record IsNamed (pool : List Entry) (i : ℕ) (text : List ℕ) : Type 0 wher
 
 -- ---- what the table asks of each kind
 
--- the descriptor of a field, an array, a method, a method that returns nothing (4.3)
-abbrev pub IsField : List ℕ → Type 0
-IsField text = descriptors.IsField text descriptors.IsFieldType
-
--- the descriptor of an array (4.3.2)
-abbrev pub IsArray : List ℕ → Type 0
-IsArray text = descriptors.IsField text (λ t. descriptors.IsFieldType t × (t.dims ≢ 0))
-
--- the descriptor of a method (4.3.3)
-abbrev pub IsCall : List ℕ → Type 0
-IsCall text = descriptors.IsMethod text descriptors.IsMethodType
-
--- the descriptor of a method that returns nothing (4.3.3)
-abbrev pub IsVoid : List ℕ → Type 0
-IsVoid text = descriptors.IsMethod text (λ m. descriptors.IsMethodType m × (m.ret ≡ None))
-
 -- a class's name, or the descriptor of an array (4.4.1)
 abbrev pub NamesType : List ℕ → Type 0
-NamesType text = IsNameOf IsClass text ⊎ IsArray text
-
--- the two names that no programmer writes (2.9)
-abbrev pub init : List ℕ
-init = codes "<init>"
-
--- the name of what initializes a class (2.9)
-abbrev pub clinit : List ℕ
-clinit = codes "<clinit>"
+NamesType text = IsNameOf IsClass text ⊎ IsArrayDescriptor text
 
 -- the name, if it begins with <, is <init>, and the descriptor returns nothing (4.4.2)
 abbrev pub MayCall : List Entry → ℕ → Type 0
 MayCall pool i =
-    (rest : List ℕ) → IsNamed pool i (0x3c ∷ rest) → (0x3c ∷ rest ≡ init) × HasPair pool i IsVoid
+    (rest : List ℕ) → IsNamed pool i (0x3c ∷ rest)
+    → (0x3c ∷ rest ≡ init) × HasPair pool i IsVoidDescriptor
 
 -- it is a name that a programmer may write (4.4.8)
 abbrev pub IsPlain : List Entry → ℕ → Type 0
@@ -188,8 +169,8 @@ IsPlain pool i = (IsNamed pool i init → ⊥) × (IsNamed pool i clinit → ⊥
 -- a name and its descriptor go together (4.4.6)
 abbrev pub MayPair : List Entry → ℕ → ℕ → Type 0
 MayPair pool name descriptor =
-    (HasText pool descriptor IsField × HasText pool name (IsNameOf IsUnqualified))
-    ⊎ (HasText pool descriptor IsCall × HasText pool name (IsNameOf IsMethod))
+    (HasText pool descriptor IsFieldDescriptor × HasText pool name (IsNameOf IsUnqualified))
+    ⊎ (HasText pool descriptor IsMethodDescriptor × HasText pool name (IsNameOf IsMethod))
 
 -- what a method handle of each kind may be made of (4.4.8)
 abbrev pub MayHandle : List Entry → ℕ → Option Entry → Type 0
@@ -206,12 +187,13 @@ abbrev pub KeepsEntry : List Entry → Entry → Type 0
 KeepsEntry pool (Utf8 text) = IsModifiedUtf8 text
 KeepsEntry pool (Class text) = HasText pool text NamesType
 KeepsEntry pool (String text) = HasText pool text (λ text. Unit {0})
-KeepsEntry pool (Fieldref class pair) = HasClass pool class × HasPair pool pair IsField
+KeepsEntry pool (Fieldref class pair) = HasClass pool class × HasPair pool pair IsFieldDescriptor
 KeepsEntry pool (Methodref class pair) =
-    HasClass pool class × HasPair pool pair IsCall × MayCall pool pair
-KeepsEntry pool (InterfaceMethodref class pair) = HasClass pool class × HasPair pool pair IsCall
+    HasClass pool class × HasPair pool pair IsMethodDescriptor × MayCall pool pair
+KeepsEntry pool (InterfaceMethodref class pair) =
+    HasClass pool class × HasPair pool pair IsMethodDescriptor
 KeepsEntry pool (NameAndType name descriptor) = MayPair pool name descriptor
 KeepsEntry pool (MethodHandle kind reference) = MayHandle pool kind (at pool reference)
-KeepsEntry pool (MethodType descriptor) = HasText pool descriptor IsCall
-KeepsEntry pool (InvokeDynamic bootstrap pair) = HasPair pool pair IsCall
+KeepsEntry pool (MethodType descriptor) = HasText pool descriptor IsMethodDescriptor
+KeepsEntry pool (InvokeDynamic bootstrap pair) = HasPair pool pair IsMethodDescriptor
 KeepsEntry pool _ = Unit {0}

@@ -53,7 +53,8 @@ use Rattle.cl_classfile.specs.declared.fault.Fault.TheVariants.{
 use Rattle.cl_classfile.specs.Pool.{is_wide}
 use Rattle.cl_classfile.specs.Tags as tags
 use Rattle.cl_classfile.specs.Structure.{Structure, Member, Attribute}
-use Rattle.cl_classfile.specs.Checking.{◌>>=◌, kept_file}
+use Rattle.cl_names.specs.Steps.{◌>>=◌}
+use Rattle.cl_classfile.specs.Checking.{kept_file}
 
 -- ---- readers, and how they are put together
 
@@ -109,10 +110,13 @@ counted_at r bytes = number_at w16 bytes >>= λ n. each_at r n.0 n.1
 unfoldable pub magic_at : Reader ℕ
 magic_at = test_at (number_at w32) (λ n. n == 0xcafebabe) BadMagic
 
+-- two numbers of two bytes (4.1, 4.4.2, 4.4.6, 4.4.10)
+unfoldable pub two_at : Reader (ℕ × ℕ)
+two_at = then_at (number_at w16) (λ first. number_at w16)
+
 -- the minor and the major version (4.1; that it has to be 52.0 is own choice)
 unfoldable pub version_at : Reader (ℕ × ℕ)
-version_at =
-    test_at (then_at (number_at w16) (λ minor. number_at w16)) (λ v. v.0 == 0 && v.1 == 52) Version
+version_at = test_at two_at (λ v. v.0 == 0 && v.1 == 52) Version
 
 -- the magic and the version (4.1)
 unfoldable pub header_at : Reader (ℕ × (ℕ × ℕ))
@@ -120,7 +124,7 @@ header_at = then_at magic_at (λ magic. version_at)
 
 -- two bytes of length, and that many bytes of text (4.4.7)
 unfoldable pub text_at : Reader (List ℕ)
-text_at bytes = number_at w16 bytes >>= λ n. bytes_at n.0 n.1
+text_at bytes = sized_at w16 bytes
 
 -- one byte (4)
 unfoldable pub byte_at : Reader ℕ
@@ -130,10 +134,6 @@ byte_at (b ∷ rest) = Ok (b, rest)
 -- a number in two's complement (4.4.4, 4.4.5)
 unfoldable pub signed_at : Width → Reader ℤ
 signed_at w = map_at (number_at w) (cast_signed w)
-
--- two indices (4.4.2, 4.4.6, 4.4.10)
-unfoldable pub two_at : Reader (ℕ × ℕ)
-two_at = then_at (number_at w16) (λ first. number_at w16)
 
 -- a kind and an index (4.4.8)
 unfoldable pub handle_at : Reader (ℕ × ℕ)
@@ -200,7 +200,7 @@ pool_at bytes =
 
 -- the flags, this_class and super_class (4.1)
 unfoldable pub class_at : Reader (ℕ × (ℕ × ℕ))
-class_at = then_at (number_at w16) (λ flags. then_at (number_at w16) (λ this. number_at w16))
+class_at = then_at (number_at w16) (λ flags. two_at)
 
 -- the interfaces (4.1)
 unfoldable pub interfaces_at : Reader (List ℕ)

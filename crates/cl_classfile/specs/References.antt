@@ -11,7 +11,7 @@ use Rattle.cl_classfile.specs.declared.entry.Entry.TheVariants.{
 use Rattle.cl_classfile.specs.declared.reference.Symbol as code
 use Rattle.cl_classfile.specs.declared.reference.Reference.{Reference}
 use Rattle.cl_classfile.specs.declared.reference.Reference.TheVariants as references
-use Rattle.cl_classfile.specs.Pool.{IsField, IsCall, NamesType}
+use Rattle.cl_classfile.specs.Pool.{NamesType}
 use Rattle.cl_classfile.specs.Files.{
   Symbol,
   Cited,
@@ -20,6 +20,7 @@ use Rattle.cl_classfile.specs.Files.{
   CitesMethod,
   CitesInterfaceMethod,
 }
+use Rattle.cl_descriptors.specs.Answers.{IsFieldDescriptor, IsMethodDescriptor}
 
 -- three texts without where they lie (4.4.2)
 abbrev pub plain_symbol : code.Symbol → Symbol
@@ -44,13 +45,13 @@ refers _ = false
 pub record IsFieldSymbol (s : Symbol) : Type 0 where
   pub class : NamesType s.class
   pub name : IsNameOf IsUnqualified s.name
-  pub descriptor : IsField s.descriptor
+  pub descriptor : IsFieldDescriptor s.descriptor
 
 -- the names of a reference to a method (4.4.2)
 pub record IsMethodSymbol (s : Symbol) : Type 0 where
   pub class : NamesType s.class
   pub name : IsNameOf IsMethod s.name
-  pub descriptor : IsCall s.descriptor
+  pub descriptor : IsMethodDescriptor s.descriptor
 
 -- each name is of its kind (4.4.1, 4.4.2)
 abbrev pub IsCited : Cited → Type 0

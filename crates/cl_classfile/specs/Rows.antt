@@ -7,7 +7,6 @@ use Rattle.std.specs.Prelude.{
   ◌&&◌,
   ◌||◌,
   ◌==◌,
-  nat_eq,
   nat_le,
   length,
   List,
@@ -18,10 +17,10 @@ use Rattle.std.specs.Prelude.{
   None,
   unwrap_or,
   if◌then◌else◌,
+  bytes_eq,
 }
-use Rattle.std.specs.Cmp.Lexicographic.{pointwise}
 use Rattle.cl_names.specs.Text.{is_text}
-use Rattle.cl_names.specs.Kind.{is_class_name, is_unqualified_name, is_method_name}
+use Rattle.cl_names.specs.Kind.{is_class_name, is_unqualified_name, is_method_name, init, clinit}
 use Rattle.cl_descriptors.specs.Reading.{form_of, units_of}
 use Rattle.cl_descriptors.specs.declared.types.Form.{Form}
 use Rattle.cl_descriptors.specs.declared.types.Form.TheVariants as forms
@@ -41,7 +40,7 @@ use Rattle.cl_classfile.specs.declared.entry.Entry.TheVariants.{
 use Rattle.cl_classfile.specs.declared.traits.Special.{Special}
 use Rattle.cl_classfile.specs.declared.traits.Special.TheVariants as names
 use Rattle.cl_classfile.specs.declared.traits.Traits.{Traits}
-use Rattle.cl_classfile.specs.Pool.{at, init, clinit}
+use Rattle.cl_classfile.specs.Pool.{at}
 use Rattle.cl_names.specs.declared.kind.TheConstants.{MOST_TEXT_BYTES}
 
 -- ---- what a text is
@@ -54,9 +53,9 @@ begins_angle (c ∷ rest) = c == 0x3c
 -- which of the names that begin with < it is, if one (2.9, 4.2.2)
 abbrev pub special_of : List ℕ → Special
 special_of text =
-    if pointwise nat_eq text init
+    if bytes_eq text init
     then names.Init
-    else if pointwise nat_eq text clinit
+    else if bytes_eq text clinit
     then names.Clinit
     else if begins_angle text
     then names.Angle

@@ -146,8 +146,7 @@ AreBytes bytes = AllByRecursion (λ b. b < 2 ^ 8) bytes
 
 -- the bytes spell the file, which keeps the tables (4.1)
 pub record Spells (bytes : List ℕ) (f : Structure) : Type 0 where
-  pub fits : Fits f
-  pub kept : Keeps f
+  pub file : IsClassFile f
   pub spelled : bytes ≡ spelling f
 
 -- ---- the two faults of the header

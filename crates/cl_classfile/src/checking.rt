@@ -1,11 +1,11 @@
-ghost use Rattle.std.specs.Prelude.{◌≡◌, is_some, nat_eq};
+ghost use Rattle.std.specs.Prelude.{◌≡◌, is_some, bytes_eq};
 ghost use Rattle.std.specs.Option.{option_map};
 ghost use Rattle.std.specs.List.{list_all};
-ghost use Rattle.std.specs.Cmp.Lexicographic.{pointwise};
 ghost use Rattle.cl_classfile.specs.Structure.{object};
 ghost use Rattle.cl_classfile.specs.Files.{text_at, type_name, is_array_name, class_name};
 ghost use Rattle.cl_classfile.specs.Flags.{has, interface};
-ghost use Rattle.cl_classfile.specs.Checking.{Finds, may_stand_above, keeps_super, keeps_names, keeps_interfaces, checked_class};
+ghost use Rattle.cl_names.specs.Steps.{Finds};
+ghost use Rattle.cl_classfile.specs.Checking.{may_stand_above, keeps_super, keeps_names, keeps_interfaces, checked_class};
 
 use crate::entry::Entry;
 use crate::fault::Fault;
@@ -66,7 +66,7 @@ fn may_stand_above(of_interface: bool, above: Option<&Name>) -> bool
 }
 
 fn is_object(name: &Name) -> bool
-    ensures { result ≡ pointwise nat_eq name.now object }
+    ensures { result ≡ bytes_eq name.now object }
 {
     name.bytes() == b"java/lang/Object".as_slice()
 }

@@ -12,7 +12,8 @@ ghost use Rattle.cl_classfile.specs.Raw.{plain_file, HoldsText};
 ghost use Rattle.cl_classfile.specs.View.{plain_parts};
 ghost use Rattle.cl_classfile.specs.Refusals.{GivesFile};
 ghost use Rattle.cl_classfile.specs.Indexes.{IsIndexOf};
-ghost use Rattle.cl_classfile.specs.Checking.{Finds, Gives, checked_attributes, checked_tables, kept_file, parts_of};
+ghost use Rattle.cl_names.specs.Steps.{Finds};
+ghost use Rattle.cl_classfile.specs.Checking.{Gives, checked_attributes, checked_tables, kept_file, parts_of};
 ghost use Rattle.cl_classfile.specs.Reading.{header_at, read_of};
 
 use crate::attribute::Attribute;

@@ -3,7 +3,8 @@
 ghost use Rattle.std.specs.Prelude.{◌≡◌, List, [], ◌∷◌, ◌++◌, not, IfOk};
 ghost use Rattle.std.specs.List.{list_any};
 ghost use Rattle.cl_classfile.specs.Members.{Member};
-ghost use Rattle.cl_classfile.specs.Checking.{Finds, Gives, keeps_field, has_room, keeps_method_flags, keeps_method, keeps_member, same_member, checked_list};
+ghost use Rattle.cl_names.specs.Steps.{Finds};
+ghost use Rattle.cl_classfile.specs.Checking.{Gives, keeps_field, has_room, keeps_method_flags, keeps_method, keeps_member, same_member, checked_list};
 ghost use Rattle.cl_classfile.specs.Numbers.{AreNumbers, AreNoted, IsMemberNoted, number_of};
 ghost use Rattle.cl_classfile.specs.Seen.{HasPairs};
 ghost use Rattle.cl_classfile.specs.declared.entry.Entry.{Entry};

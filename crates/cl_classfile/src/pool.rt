@@ -3,7 +3,8 @@
 ghost use Rattle.std.specs.Prelude.{◌≡◌, ◌+◌, ◌<◌, ◌^◌, nat_lt, if◌then◌else◌, Ok, Err};
 ghost use Rattle.cl_classfile.specs.declared.fault.Fault.TheVariants as faults;
 ghost use Rattle.std.specs.Int.{w32, w64};
-ghost use Rattle.cl_classfile.specs.Checking.{Finds, Gives};
+ghost use Rattle.cl_names.specs.Steps.{Finds};
+ghost use Rattle.cl_classfile.specs.Checking.{Gives};
 ghost use Rattle.cl_classfile.specs.Reading.{number_at, text_at, byte_at, signed_at, two_at, handle_at, entry_at, slot_at, entries_at, pool_at};
 ghost use Rattle.cl_classfile.specs.Raw.{plain_entry, plain_entries};
 

@@ -3,7 +3,8 @@ ghost use Rattle.std.specs.Int.{w16, w32};
 ghost use Rattle.cl_classfile.specs.declared.fault.Fault.{Fault};
 ghost use Rattle.cl_classfile.specs.declared.fault.ReadError.TheVariants as errors;
 ghost use Rattle.cl_classfile.specs.Structure.{Fits};
-ghost use Rattle.cl_classfile.specs.Checking.{Finds, Gives};
+ghost use Rattle.cl_names.specs.Steps.{Finds};
+ghost use Rattle.cl_classfile.specs.Checking.{Gives};
 ghost use Rattle.cl_classfile.specs.Reading.{number_at, bytes_at, each_at, magic_at, version_at, header_at, class_at, interfaces_at, attribute_at, attributes_at, member_at, members_at, tables_at, structure_at, whole_of};
 ghost use Rattle.cl_classfile.specs.Raw.{plain_file};
 
@@ -69,7 +70,7 @@ fn magic_at(bytes: &[u8]) -> Result<(u32, &[u8]), Fault>
     Ok((magic, rest))
 }
 
-#[tactic(auto, unfolding(crate::specs::Reading::version_at))]
+#[tactic(auto, unfolding(crate::specs::Reading::version_at, crate::specs::Reading::two_at))]
 fn version_at(bytes: &[u8]) -> Result<((u16, u16), &[u8]), Fault>
     ensures { Finds (λ x. (x.0, x.1.now)) result (version_at bytes.now) }
 {
@@ -154,7 +155,7 @@ fn each_at<T: Listed>(alloc: Global, count: u16, bytes: &[u8]) -> Result<(Vec<T>
     Ok((all, rest))
 }
 
-#[tactic(auto, unfolding(crate::specs::Reading::class_at))]
+#[tactic(auto, unfolding(crate::specs::Reading::class_at, crate::specs::Reading::two_at))]
 fn class_at(bytes: &[u8]) -> Result<((u16, (u16, u16)), &[u8]), Fault>
     ensures { Finds (λ x. (x.0, x.1.now)) result (class_at bytes.now) }
 {

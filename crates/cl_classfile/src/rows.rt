@@ -3,7 +3,8 @@
 ghost use Rattle.std.specs.Prelude.{◌≡◌, ◌+◌, ◌<◌, ◌^◌, IfOk, length, map, option_map};
 ghost use Rattle.cl_classfile.specs.Pool.{at};
 ghost use Rattle.cl_classfile.specs.Rows.{entry_traits, traits_at, is_class, pair_of, pair_at, may_call, may_pair, is_plain, is_init, may_handle, keeps_entry};
-ghost use Rattle.cl_classfile.specs.Checking.{Finds, checked_entries};
+ghost use Rattle.cl_names.specs.Steps.{Finds};
+ghost use Rattle.cl_classfile.specs.Checking.{checked_entries};
 ghost use Rattle.cl_classfile.specs.Raw.{plain_entry, plain_entries};
 
 use crate::fault::Fault;

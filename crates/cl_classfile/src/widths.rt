@@ -4,7 +4,8 @@
 ghost use Rattle.std.specs.Prelude.{◌≡◌, ◌+◌, ◌<◌, ◌^◌, false, length};
 ghost use Rattle.cl_classfile.specs.Raw.{plain_entry, plain_entries};
 ghost use Rattle.cl_classfile.specs.Widths.{entry_fits, is_unusable};
-ghost use Rattle.cl_classfile.specs.Checking.{Finds, fits_slot, checked_slots};
+ghost use Rattle.cl_names.specs.Steps.{Finds};
+ghost use Rattle.cl_classfile.specs.Checking.{fits_slot, checked_slots};
 
 use crate::fault::Fault;
 use crate::raw::{RawEntry, is_wide};

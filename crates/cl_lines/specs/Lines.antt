@@ -16,6 +16,7 @@ use Rattle.std.specs.Prelude.{
   filter,
   if◌then◌else◌,
 }
+use Rattle.cl_lines.specs.declared.lines.Line.{Line}
 use Rattle.std.specs.List.{after_first, before_first, slice_split}
 
 -- the parts of a text, where an empty one at its end is none
@@ -24,9 +25,13 @@ without_empty_end [] = []
 without_empty_end (part ∷ []) = if length part == 0 then [] else part ∷ []
 without_empty_end (part ∷ next ∷ more) = part ∷ without_empty_end (next ∷ more)
 
+-- what U+000A parts a text into; behind one at its end stands an empty part
+abbrev pub lines_in : List ℕ → List (List ℕ)
+lines_in text = slice_split (λ b. b == 0x0a) text
+
 -- the lines of a text, which U+000A alone parts; a last line without one counts
 abbrev pub lines_of : List ℕ → List (List ℕ)
-lines_of text = without_empty_end (slice_split (λ b. b == 0x0a) text)
+lines_of text = without_empty_end (lines_in text)
 
 -- the words of a line, which one or more U+0020 part
 abbrev pub words_of : List ℕ → List (List ℕ)
@@ -51,6 +56,10 @@ pub record Numbered : Type 0 where
   pub number : ℕ
   pub text : List ℕ
 
+-- a line that the code cuts, without where it lies
+abbrev pub numbered : Line → Numbered
+numbered line = record { number = line.number; text = line.text.now }
+
 -- the first line is cut off a text whose first line has this number
 pub record CutsLine (old line new : Numbered) : Type 0 where
   pub number : line.number ≡ old.number
@@ -68,3 +77,7 @@ numbered_from number (line ∷ lines) =
 abbrev pub stated_from : ℕ → List ℕ → List Numbered
 stated_from number text =
     filter (λ line. not (is_skipped line.text)) (numbered_from number (lines_of text))
+
+-- the lines of a whole text that are not skipped, counted from 1
+abbrev pub stated_lines : List ℕ → List Numbered
+stated_lines text = stated_from 1 text

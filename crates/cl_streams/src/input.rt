@@ -1,6 +1,7 @@
 //! Reading to the end.
 
-ghost use Rattle.std.specs.Prelude.{◌≡◌, ◌<◌, ◌≤◌, ◌^◌, length, IfOk, IfErr, IfSome, Err, vec_len};
+ghost use Rattle.std.specs.Prelude.{◌≡◌, ◌<◌, ◌≤◌, ◌^◌, length, IfOk, IsOkUnless, Err, vec_len};
+ghost use Rattle.cl_streams.specs.Reading.{AreAllOf, GivesOver};
 ghost use Rattle.std.specs.Io.KnownBytes.{ReadConsumes};
 
 use std::alloc::{AllocError, Global};
@@ -30,10 +31,10 @@ impl From<AllocError> for InputFault {
 /// the others no more are made than one for each byte, and one that finds the end.
 pub fn read_bytes<I: Read>(alloc: Global, input: &mut I, most: usize) -> Result<Vec<u8>, InputFault>
     requires { most < 2 ^ 32 }
-    ensures ok { IfOk result (λ v. IfSome (I.remaining input.old) (λ bytes. v.items ≡ bytes)) }
+    ensures ok { IfOk result (λ v. AreAllOf (I.remaining input.old) v.items) }
     ensures small { IfOk result (λ v. vec_len v ≤ most) }
     ensures large { result ≡ Err InputFault.TooLarge
-        → IfSome (I.remaining input.old) (λ bytes. most < length bytes) }
+        → GivesOver (I.remaining input.old) most }
 {
     let mut bytes = Vec::new(alloc);
     let mut chunk = [0u8; 8192];
@@ -55,7 +56,7 @@ fn read_some<I: Read>(input: &mut I, room: &mut [u8]) -> Result<usize, InputFaul
     ensures bound { IfOk result (λ count. count ≤ length room.new) }
     ensures length { length room.new ≡ length room.old }
     ensures bytes { ReadConsumes (I.remaining input.old) (I.remaining input.new) result room.new }
-    ensures unread { IfErr result (λ fault. fault ≡ InputFault.Unread) }
+    ensures unread { IsOkUnless result InputFault.Unread }
 {
     for _ in 0..u64::MAX {
         match input.read(room) {

@@ -287,7 +287,7 @@ found_or_fault (Err g) = inr (g, refl)
 spelled_so : (f g : Structure) → parts_of f ≡ Ok g → Spells (spelling g) g
 spelled_so f g h =
     let says = parts_say f g h in
-    subst (λ (x : Structure). Spells (spelling x) x) says.0 (record { fits = says.1.fits; kept = says.1.kept; spelled = refl })
+    subst (λ (x : Structure). Spells (spelling x) x) says.0 (record { file = says.1; spelled = refl })
 
 made_of : (lines : List Numbered) (l : Listed) (file : Structure) → IsRead lines l → parts_of (described l) ≡ Ok file → IsAssembled lines file
 made_of lines l file read kept =

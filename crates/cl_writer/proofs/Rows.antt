@@ -10,7 +10,8 @@ use Rattle.cl_writer.specs.declared.statement.ClassLine.{ClassLine}
 use Rattle.cl_writer.specs.declared.statement.MemberLine.{MemberLine}
 use Rattle.cl_writer.specs.declared.statement.Statement.{Statement}
 use Rattle.cl_writer.specs.declared.statement.Statement.TheVariants.{Implements, Field, Method, Ref}
-use Rattle.cl_writer.specs.Statements.{Reads, WritesSuper, IsName, IsInteger, IsMemberLine, IsMemberName, IsClassLine, Begins, kind_word, Refers, Says}
+use Rattle.cl_writer.specs.Statements.{WritesSuper, IsName, IsInteger, IsMemberLine, IsMemberName, IsClassLine, Begins, kind_word, Refers, Says}
+use Rattle.cl_names.specs.Truth.{Reads}
 
 -- ---- a word that writes nothing
 

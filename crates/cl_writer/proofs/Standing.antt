@@ -4,7 +4,7 @@ use Rattle.std.specs.Prelude.{slice_get, option_map, unwrap_or, option_to_list}
 use Rattle.std.specs.List.{flat_map, AllByRecursion}
 use Rattle.std.proofs.lemmas.Bool.Decides.{nat_tests}
 use Rattle.std.proofs.lemmas.Option.{slice_get-map, same_Some}
-use Rattle.cl_names.specs.Escape.{escaped}
+use Rattle.cl_names.specs.Escape.{escaped, four_digits}
 use Rattle.cl_classfile.specs.declared.entry.Entry.{Entry}
 use Rattle.cl_classfile.specs.Pool.{at}
 use Rattle.cl_classfile.specs.Files as files
@@ -15,7 +15,7 @@ use Rattle.cl_writer.specs.declared.statement.MemberLine.{MemberLine}
 use Rattle.cl_writer.specs.Assemblies.{Listed}
 use Rattle.cl_writer.specs.Items.{same_item, index_from, index_of, index, with_item, class_wanted, line_wanted, wanted, all_wanted, items_of}
 use Rattle.cl_writer.specs.Described.{entry_of, member_of, super_index, described}
-use Rattle.cl_writer.specs.Listings.{printed_flags, printed_name, printed_type, printed_super, class_line, implements_line, member_line, listing_of, super_text, class_text, implements_text, member_text, text_of}
+use Rattle.cl_writer.specs.Listings.{printed_name, printed_type, printed_super, class_line, implements_line, member_line, listing_of, super_text, class_text, implements_text, member_text, text_of}
 use Rattle.cl_writer.proofs.Indexed.{same_says, same_self, index_more, some_is}
 use Rattle.std.specs.Option.{option_or}
 
@@ -127,8 +127,8 @@ module _ (items : List Item) where
 
   member_named : (word : List ℕ) (line : MemberLine) → AllByRecursion (Stands items) (line_wanted line) → member_line word (pool_of items) (member_of items line) ≡ member_text word line
   member_named word line h =
-      ap (λ t. word ++ printed_flags line.flags ++ codes " " ++ printed_name t ++ codes " " ++ printed_name (files.text_at (pool_of items) (index items (Text line.descriptor))) ++ 10 ∷ []) (text_named line.name h.0)
-      ∙ ap (λ t. word ++ printed_flags line.flags ++ codes " " ++ escaped line.name ++ codes " " ++ printed_name t ++ 10 ∷ []) (text_named line.descriptor h.1.0)
+      ap (λ t. word ++ four_digits line.flags ++ codes " " ++ printed_name t ++ codes " " ++ printed_name (files.text_at (pool_of items) (index items (Text line.descriptor))) ++ 10 ∷ []) (text_named line.name h.0)
+      ∙ ap (λ t. word ++ four_digits line.flags ++ codes " " ++ escaped line.name ++ codes " " ++ printed_name t ++ 10 ∷ []) (text_named line.descriptor h.1.0)
 
   members_named : (word : List ℕ) (lines : List MemberLine) → AllByRecursion (λ l. AllByRecursion (Stands items) (line_wanted l)) lines
       → flat_map (member_line word (pool_of items)) (map (member_of items) lines) ≡ flat_map (member_text word) lines
@@ -138,10 +138,10 @@ module _ (items : List Item) where
       ∙ ap (λ t. member_text word l ++ t) (members_named word ls h.1)
 
   class_line_named : (line : ClassLine) → AllByRecursion (Stands items) (class_wanted line.name) → AllByRecursion (Stands items) (flat_map class_wanted (option_to_list line.superclass))
-      → codes "class " ++ printed_flags line.flags ++ codes " " ++ printed_type (pool_of items) (index items (Class line.name)) ++ codes " " ++ printed_super (pool_of items) (super_index items line.superclass) ++ 10 ∷ [] ≡ class_text line
+      → codes "class " ++ four_digits line.flags ++ codes " " ++ printed_type (pool_of items) (index items (Class line.name)) ++ codes " " ++ printed_super (pool_of items) (super_index items line.superclass) ++ 10 ∷ [] ≡ class_text line
   class_line_named line h s =
-      ap (λ t. codes "class " ++ printed_flags line.flags ++ codes " " ++ t ++ codes " " ++ printed_super (pool_of items) (super_index items line.superclass) ++ 10 ∷ []) (class_named line.name h)
-      ∙ ap (λ t. codes "class " ++ printed_flags line.flags ++ codes " " ++ escaped line.name ++ codes " " ++ t ++ 10 ∷ []) (super_named line.superclass s)
+      ap (λ t. codes "class " ++ four_digits line.flags ++ codes " " ++ t ++ codes " " ++ printed_super (pool_of items) (super_index items line.superclass) ++ 10 ∷ []) (class_named line.name h)
+      ∙ ap (λ t. codes "class " ++ four_digits line.flags ++ codes " " ++ escaped line.name ++ codes " " ++ t ++ 10 ∷ []) (super_named line.superclass s)
 
 -- the listing of what lines describe has these lines
 pub printed_so : (l : Listed) → listing_of (described l) ≡ text_of l

@@ -1,5 +1,6 @@
 -- The lines of a class, by what they say, and which line is the first that says nothing.
 use Rattle.std.specs.Prelude.{◌≡◌, ◌⊎◌, ℕ, List, [], ◌∷◌, ◌++◌, fold, Result, Ok, Err}
+use Rattle.std.specs.List.{AllZip}
 use Rattle.cl_lines.specs.Lines.{Numbered, words_of}
 use Rattle.cl_writer.specs.declared.item.Item.{Item}
 use Rattle.cl_writer.specs.declared.statement.ClassLine.{ClassLine}
@@ -44,10 +45,7 @@ with_said l (Ref item) = record l { references = l.references ++ item ∷ [] }
 
 -- each line says what stands at its place
 abbrev pub AllSay : List Numbered → List Statement → Type 0
-AllSay [] [] = Unit {0}
-AllSay [] (s ∷ ss) = ⊥
-AllSay (l ∷ ls) [] = ⊥
-AllSay (l ∷ ls) (s ∷ ss) = Says (words_of l.text) s × AllSay ls ss
+AllSay = AllZip (λ line said. Says (words_of line.text) said)
 
 -- the lines behind that of the class say this
 pub record IsRest (class : ClassLine) (lines : List Numbered) (listed : Listed) : Type 0 where

@@ -2,7 +2,6 @@
 use Rattle.std.specs.Prelude.{
   ◌≡◌,
   ℕ,
-  ◌+◌,
   Bool,
   true,
   false,
@@ -14,14 +13,14 @@ use Rattle.std.specs.Prelude.{
   fold,
   Option,
   Some,
-  None,
   is_some,
   unwrap_or,
   option_to_list,
   if◌then◌else◌,
 }
 use Rattle.std.specs.Ordering.{int_eq}
-use Rattle.std.specs.List.{flat_map}
+use Rattle.std.specs.List.{flat_map, position_from}
+use Rattle.std.specs.Map.{update}
 use Rattle.indexmap.specs.IndexMap.{IndexMap, get}
 use Rattle.cl_classfile.specs.Files.{same_name}
 use Rattle.cl_writer.specs.declared.item.MemberKind.{MemberKind}
@@ -66,8 +65,7 @@ same_item _ _ = false
 -- the least index at which the entry stands, where the first has this index
 -- (4.1; own choice of the least)
 abbrev pub index_from : ℕ → List Item → Item → Option ℕ
-index_from n [] item = None
-index_from n (x ∷ xs) item = if same_item item x then Some n else index_from (n + 1) xs item
+index_from n items item = position_from (same_item item) n items
 
 -- indices count from 1 (4.1)
 abbrev pub index_of : List Item → Item → Option ℕ
@@ -84,8 +82,7 @@ IsIndexed items indices = (item : Item) → get same_item indices item ≡ index
 -- one entry of the map is put, and the others stay
 abbrev pub PutsIndex : {S : Type 0} → IndexMap Item ℕ S → IndexMap Item ℕ S → Item → ℕ → Type 0
 PutsIndex old new item index =
-    (q : Item)
-    → get same_item new q ≡ (if same_item item q then Some index else get same_item old q)
+    (q : Item) → get same_item new q ≡ update same_item (get same_item old) item (Some index) q
 
 -- ---- what stands
 

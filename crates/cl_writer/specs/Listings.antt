@@ -1,8 +1,6 @@
 -- The lines of a class file in the assembler's form.
 use Rattle.std.specs.Prelude.{
   ℕ,
-  ◌/◌,
-  ◌%◌,
   ◌==◌,
   List,
   [],
@@ -15,20 +13,13 @@ use Rattle.std.specs.Prelude.{
   if◌then◌else◌,
 }
 use Rattle.std.specs.List.{flat_map}
-use Rattle.std.specs.Char.{digit_char}
-use Rattle.cl_names.specs.Escape.{escaped}
+use Rattle.cl_names.specs.Escape.{escaped, four_digits}
 use Rattle.cl_classfile.specs.declared.entry.Entry.{Entry}
 use Rattle.cl_classfile.specs.Files.{type_name, text_at}
 use Rattle.cl_classfile.specs.Structure.{Structure, Member}
 use Rattle.cl_writer.specs.declared.statement.ClassLine.{ClassLine}
 use Rattle.cl_writer.specs.declared.statement.MemberLine.{MemberLine}
 use Rattle.cl_writer.specs.Assemblies.{Listed}
-
--- four hexadecimal digits, in lower case
-abbrev pub printed_flags : ℕ → List ℕ
-printed_flags flags =
-    digit_char (flags / 4096) ∷ digit_char (flags / 256 % 16) ∷ digit_char (flags / 16 % 16)
-    ∷ digit_char (flags % 16) ∷ []
 
 -- a name as escaped text
 abbrev pub printed_name : Option (List ℕ) → List ℕ
@@ -46,7 +37,7 @@ printed_super pool super = if super == 0 then codes "-" else printed_type pool s
 -- class FLAGS NAME SUPER
 abbrev pub class_words : ℕ → List ℕ → List ℕ → List ℕ
 class_words flags name super =
-    codes "class " ++ printed_flags flags ++ codes " " ++ name ++ codes " " ++ super ++ 0x0a ∷ []
+    codes "class " ++ four_digits flags ++ codes " " ++ name ++ codes " " ++ super ++ 0x0a ∷ []
 
 -- implements NAME
 abbrev pub implements_words : List ℕ → List ℕ
@@ -55,7 +46,7 @@ implements_words name = codes "implements " ++ name ++ 0x0a ∷ []
 -- field FLAGS NAME DESC, and so a method
 abbrev pub member_words : List ℕ → ℕ → List ℕ → List ℕ → List ℕ
 member_words word flags name descriptor =
-    word ++ printed_flags flags ++ codes " " ++ name ++ codes " " ++ descriptor ++ 0x0a ∷ []
+    word ++ four_digits flags ++ codes " " ++ name ++ codes " " ++ descriptor ++ 0x0a ∷ []
 
 -- ---- the lines of a class file
 
@@ -81,7 +72,7 @@ listing_of f =
 
 -- ---- the lines of a text in this form
 
--- the name of the superclass, and `-` where there is none
+-- the name of the superclass, and `-` where there is none (own choice of the sign)
 abbrev pub super_text : Option (List ℕ) → List ℕ
 super_text None = codes "-"
 super_text (Some name) = escaped name

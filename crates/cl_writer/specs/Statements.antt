@@ -10,17 +10,13 @@ use Rattle.std.specs.Prelude.{
   Option,
   Some,
   None,
-  Result,
-  IfOk,
-  MatchOption,
   codes,
   slice_index,
-  if◌then◌else◌,
   FitsSigned,
 }
 use Rattle.std.specs.Int.{w32}
 use Rattle.std.specs.Str.Parse.{IsNumeral, without_leading_sign, signed_digits_value}
-use Rattle.cl_names.specs.Escape.{are_hex, hex_value, WritesName}
+use Rattle.cl_names.specs.Escape.{number_written, WritesName}
 use Rattle.cl_writer.specs.declared.item.MemberKind.{MemberKind}
 use Rattle.cl_writer.specs.declared.item.MemberKind.TheVariants as kinds
 use Rattle.cl_writer.specs.declared.item.MemberName.{MemberName}
@@ -37,13 +33,9 @@ use Rattle.cl_writer.specs.declared.statement.MemberLine.{MemberLine}
 use Rattle.cl_writer.specs.declared.statement.Statement.{Statement}
 use Rattle.cl_writer.specs.declared.statement.Statement.TheVariants.{Implements, Field, Method, Ref}
 
--- what was read is what P says, or it says nothing; memory may have run out
-abbrev pub Reads : {A E : Type 0} → (A → Type 0) → Result (Option A) E → Type 0
-Reads {A} P r = IfOk r (λ o. MatchOption o ((a : A) → P a → ⊥) P)
-
 -- the value of four hexadecimal digits of either case (own choice)
 abbrev pub flags_of : List ℕ → Option ℕ
-flags_of (a ∷ b ∷ c ∷ d ∷ []) = if are_hex a b c d then Some (hex_value a b c d) else None
+flags_of (a ∷ b ∷ c ∷ d ∷ []) = number_written a b c d
 flags_of _ = None
 
 -- a minus, if there is one, and decimal digits write this number of 32 bits (own choice; 4.4.4)

@@ -1,6 +1,6 @@
 //! Class files from assembler text.
 
-ghost use Rattle.cl_lines.specs.Lines.{stated_from};
+ghost use Rattle.cl_lines.specs.Lines.{stated_lines};
 ghost use Rattle.cl_writer.specs.Assembled.{AssembleOf};
 
 use crate::assembly::read_lines;
@@ -17,7 +17,7 @@ use std::alloc::Global;
 ///
 /// The text is one that no stranger wrote: entries are found in a table whose seed everyone knows.
 pub fn assemble(alloc: Global, text: &str) -> Result<ClassFile, AssembleFault>
-    ensures { AssembleOf (stated_from 1 text.now) result }
+    ensures { AssembleOf (stated_lines text.now) result }
 {
     assemble_with_hasher(alloc, Seed::common(), text)
 }
@@ -28,7 +28,7 @@ pub fn assemble_with_hasher(
     seed: Seed,
     text: &str,
 ) -> Result<ClassFile, AssembleFault>
-    ensures { AssembleOf (stated_from 1 text.now) result }
+    ensures { AssembleOf (stated_lines text.now) result }
 {
     let assembly = read_lines(alloc, text)?;
     let items = items_of(alloc, seed, &assembly)?;

@@ -1,7 +1,7 @@
 //! The lines of a text, by what they say.
 
 ghost use Rattle.std.specs.Prelude.{◌≡◌, OnOk};
-ghost use Rattle.cl_lines.specs.Lines.{stated_from};
+ghost use Rattle.cl_lines.specs.Lines.{stated_from, stated_lines};
 ghost use Rattle.cl_writer.specs.Assemblies.{lists_of, with_said, LinesOf, RestOf};
 
 use crate::fault::AssembleFault;
@@ -25,7 +25,7 @@ pub struct Assembly {
 /// Reads the lines of a text: first the line of the class, then lines of the other kinds. `BadLine` of the first line
 /// that is none, and 0 where all are skipped; `Memory`.
 pub fn read_lines(alloc: Global, text: &str) -> Result<Assembly, AssembleFault>
-    ensures { LinesOf (stated_from 1 text.now) result }
+    ensures { LinesOf (stated_lines text.now) result }
 {
     let mut lines = Stated::new(text);
     let Some(first) = lines.next() else {

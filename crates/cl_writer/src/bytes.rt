@@ -2,8 +2,8 @@
 
 ghost use Rattle.std.specs.Prelude.{◌≡◌, ◌<◌, ◌^◌, ◌++◌, ◌∷◌, OnOk, length};
 ghost use Rattle.std.specs.Int.{w16, to_be_bytes};
-ghost use Rattle.cl_classfile.specs.Pool.{two};
-ghost use Rattle.cl_classfile.specs.Tags as tags;
+ghost use Rattle.cl_classfile.specs.Pool.{two, entry_spelling};
+ghost use Rattle.cl_classfile.specs.declared.entry.Entry.TheVariants.{Utf8};
 
 use cl_classfile::tags;
 use std::alloc::AllocError;
@@ -21,7 +21,7 @@ pub fn put_u16(out: &mut Vec<u8>, number: u16) -> Result<(), AllocError>
 pub fn put_text(out: &mut Vec<u8>, text: &[u8]) -> Result<(), AllocError>
     requires { length text.now < 2 ^ 16 }
     ensures { OnOk result (out.new.items ≡ out.old.items
-        ++ (tags.utf8 ∷ (to_be_bytes w16 (length text.now) ++ text.now))) }
+        ++ entry_spelling (Utf8 text.now)) }
 {
     out.push(tags::UTF8)?;
     put_u16(out, text.len() as u16)?;

@@ -1,11 +1,12 @@
 //! Class files as lines of the assembler.
 
 ghost use Rattle.std.specs.Prelude.{◌≡◌, ◌<◌, ◌++◌, ◌∷◌, [], OnOk, IfOk, codes, string_bytes};
+ghost use Rattle.cl_names.specs.Escape.{four_digits};
 ghost use Rattle.std.specs.List.{flat_map};
 ghost use Rattle.std.specs.Option.{option_map};
 ghost use Rattle.std.specs.Char.{digit_char};
 ghost use Rattle.cl_classfile.specs.Files.{type_name, text_at};
-ghost use Rattle.cl_writer.specs.Listings.{printed_flags, printed_name, printed_super, printed_type, class_line, implements_line, member_line, listing_of};
+ghost use Rattle.cl_writer.specs.Listings.{printed_name, printed_super, printed_type, class_line, implements_line, member_line, listing_of};
 ghost use Rattle.cl_writer.specs.Texts.{AreTexts};
 
 use crate::texts::Texts;
@@ -46,7 +47,7 @@ pub fn put_class(text: &mut String, file: &ClassFile) -> Result<(), AllocError>
 /// A word, flags and a space.
 fn put_head(text: &mut String, word: &str, flags: u16) -> Result<(), AllocError>
     ensures { OnOk result (string_bytes text.new ≡ string_bytes text.old
-        ++ (word.now ++ printed_flags flags ++ codes " ")) }
+        ++ (word.now ++ four_digits flags ++ codes " ")) }
 {
     text.push_str(word)?;
     put_flags(text, flags)?;
@@ -156,7 +157,7 @@ fn put_name(text: &mut String, name: Option<&Name>) -> Result<(), AllocError>
 
 /// Four hexadecimal digits.
 fn put_flags(text: &mut String, flags: u16) -> Result<(), AllocError>
-    ensures { OnOk result (string_bytes text.new ≡ string_bytes text.old ++ printed_flags flags) }
+    ensures { OnOk result (string_bytes text.new ≡ string_bytes text.old ++ four_digits flags) }
 {
     put_digit(text, flags / 4096)?;
     put_digit(text, flags / 256 % 16)?;

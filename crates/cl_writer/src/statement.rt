@@ -1,10 +1,10 @@
 //! What the lines of assembler text say.
 
-ghost use Rattle.std.specs.Prelude.{◌≡◌, List, ℕ, ℤ, [], ◌∷◌, Some, None, MatchOption, codes, if◌then◌else◌};
-ghost use Rattle.std.specs.Char.{digit_value, is_digit};
+ghost use Rattle.std.specs.Prelude.{◌≡◌, List, ℕ, [], ◌∷◌, Some, None, MatchOption, codes};
+ghost use Rattle.cl_names.specs.Truth.{Reads, FoundBy};
 ghost use Rattle.cl_lines.specs.Lines.{words_of};
-ghost use Rattle.cl_names.specs.Escape.{are_hex, hex_value, WritesName};
-ghost use Rattle.cl_writer.specs.Statements.{Reads, flags_of, WritesInteger, WritesSuper, IsName, IsMemberLine, IsMemberName, IsInteger, IsClassLine, Refers, Says, kind_word};
+ghost use Rattle.cl_names.specs.Escape.{digit_written, WritesName};
+ghost use Rattle.cl_writer.specs.Statements.{flags_of, WritesInteger, WritesSuper, IsName, IsMemberLine, IsMemberName, IsInteger, IsClassLine, Refers, Says, kind_word};
 
 use crate::item::{Item, MemberKind, MemberName};
 use cl_lines::Words;
@@ -132,8 +132,7 @@ fn reference(alloc: Global, mut words: Words<'_>) -> Result<Option<Item>, AllocE
 
 /// The kind of member that the second word of a `ref` line asks for.
 fn kind_of(word: &str) -> Option<MemberKind>
-    ensures { MatchOption result ((k : MemberKind) → word.now ≡ kind_word k
-        → ⊥) (λ k. word.now ≡ kind_word k) }
+    ensures { FoundBy (λ k. word.now ≡ kind_word k) result }
 {
     if word == "field" {
         Some(MemberKind::Field)
@@ -158,8 +157,7 @@ fn name_of(alloc: Global, words: Words<'_>) -> Result<Option<Name>, AllocError>
 
 /// N, and no word more.
 fn integer_of(words: Words<'_>) -> Option<i32>
-    ensures { MatchOption result ((n : ℤ) → IsInteger (words_of words.entry) n
-        → ⊥) (λ n. IsInteger (words_of words.entry) n) }
+    ensures { FoundBy (IsInteger (words_of words.entry)) result }
 {
     written_integer(one(words)?)
 }
@@ -268,7 +266,7 @@ fn flags_of(text: &str) -> Option<u16>
 }
 
 fn hex(digit: u8) -> Option<u16>
-    ensures { result ≡ (if is_digit digit 16 then Some (digit_value digit) else None) }
+    ensures { result ≡ digit_written digit }
 {
     let value = char::from(digit).to_digit(16)?;
     Some(value as u16)
@@ -276,8 +274,7 @@ fn hex(digit: u8) -> Option<u16>
 
 /// The number that a minus, if there is one, and decimal digits write.
 fn written_integer(text: &str) -> Option<i32>
-    ensures { MatchOption result ((n : ℤ) → WritesInteger text.now n
-        → ⊥) (λ n. WritesInteger text.now n) }
+    ensures { FoundBy (WritesInteger text.now) result }
 {
     if text.as_bytes().first() == Some(&b'+') {
         return None;

@@ -1,10 +1,10 @@
 //! Class files as bytes.
 
-ghost use Rattle.std.specs.Prelude.{◌≡◌, ◌+◌, ◌<◌, ◌^◌, ◌++◌, ◌∷◌, OnOk, IfOk, Ok, length};
+ghost use Rattle.std.specs.Prelude.{◌≡◌, ◌+◌, ◌<◌, ◌^◌, ◌++◌, OnOk, IfOk, Ok, length};
 ghost use Rattle.std.specs.List.{flat_map, AllByRecursion};
 ghost use Rattle.std.specs.Int.{w16, to_be_bytes};
 ghost use Rattle.cl_classfile.specs.Pool.{entry_spelling};
-ghost use Rattle.cl_classfile.specs.Tags as tags;
+ghost use Rattle.cl_classfile.specs.declared.entry.Entry.TheVariants.{MethodHandle};
 ghost use Rattle.cl_classfile.specs.Structure.{AllFit, AttributeFits, MemberFits, Spells, attribute_spelling, counted, member_spelling, pool_spelling};
 ghost use Rattle.cl_classfile.specs.Reading.{read_of};
 
@@ -105,7 +105,7 @@ fn put_entry(out: &mut Vec<u8>, entry: &Entry) -> Result<(), AllocError>
 /// A method handle's tag, its kind and its reference (JVMS SE 8, 4.4.8).
 fn put_handle(out: &mut Vec<u8>, kind: u8, reference: u16) -> Result<(), AllocError>
     ensures { OnOk result (out.new.items ≡ out.old.items
-        ++ (tags.method_handle ∷ kind ∷ to_be_bytes w16 reference)) }
+        ++ entry_spelling (MethodHandle kind reference)) }
 {
     out.push(tags::METHOD_HANDLE)?;
     out.push(kind)?;

@@ -9,8 +9,8 @@ returns-clause-same c = λ f g h. (parts_say f g h).0
 
 pub returns-clause-spelled : goal.returns-clause-spelled
 returns-clause-spelled c = λ f. (
-  λ h. let is = (parts_say f f h).1 in (spelling f, record { fits = is.fits; kept = is.kept; spelled = refl }),
-  λ s. parts_told f s.1.fits s.1.kept,
+  λ h. (spelling f, record { file = (parts_say f f h).1; spelled = refl }),
+  λ s. parts_told f s.1.file.fits s.1.file.kept,
 )
 
 pub returns-clause-as_read : goal.returns-clause-as_read

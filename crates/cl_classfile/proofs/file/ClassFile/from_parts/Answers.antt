@@ -12,7 +12,7 @@ class_file-requires-clause-file c = (parts_say (plain_parts c.args.parts) (plain
 pub returns-in-Ok-clause-found : goal.returns-in-Ok-clause-found
 returns-in-Ok-clause-found c =
     let is = (parts_say (plain_parts c.args.parts) (plain_parts c.args.parts) c.in-Ok.ensures.parts).1 in
-    (c.class_file.ensures, subst (λ (f : Structure). Spells (spelling f) f) (sym c.class_file.ensures) (record { fits = is.fits; kept = is.kept; spelled = refl }))
+    (c.class_file.ensures, subst (λ (f : Structure). Spells (spelling f) f) (sym c.class_file.ensures) (record { file = is; spelled = refl }))
 
 pub returns-in-Err-clause-only : goal.returns-in-Err-clause-only
-returns-in-Err-clause-only c = λ bytes s. subst (λ (file : Result Structure Fault). Fails c.in-Err.error file) (parts_told (plain_parts c.args.parts) s.fits s.kept) c.in-Err.ensures.parts
+returns-in-Err-clause-only c = λ bytes s. subst (λ (file : Result Structure Fault). Fails c.in-Err.error file) (parts_told (plain_parts c.args.parts) s.file.fits s.file.kept) c.in-Err.ensures.parts

@@ -1,11 +1,10 @@
 -- A lineage has each class once, and its direct supertypes before it.
 use Rattle.std.proofs.Common.{◌≡◌, inl, inr, Bool, true, false, ◌||◌, if◌then◌else◌, List, [], ◌∷◌, ◌++◌, refl, sym, ap, subst, ◌∙◌}
-use Rattle.std.specs.List.{AllByRecursion}
 use Rattle.std.proofs.lemmas.Cmp.{nat_eq_equiv, nat_list_eq_equiv}
 use Rattle.cl_classfile.specs.Files.{Name}
 use Rattle.cl_model.specs.Homes.{World}
 use Rattle.cl_model.specs.declared.class.Class.{Class}
-use Rattle.cl_model.specs.Classes.{class, same_class, is_among, Above, AtHome, superclass_of, superinterfaces_of}
+use Rattle.cl_model.specs.Classes.{class, same_class, is_among, Above, AtHome, AllAtHome, superclass_of, superinterfaces_of}
 use Rattle.cl_model.specs.Lineages.{Forest, Bare, Tree, Kin, StandsFor, IsLineage, alone, classes, postorder, once_after, lineage}
 use Rattle.cl_model.specs.Ancestors.{EachClassOnce, SupersFirst}
 use Rattle.cl_model.proofs.Complete.{is_class, or_true}
@@ -81,7 +80,7 @@ within_all cs ds (k ∷ ks) h = within_all cs (k.class ∷ ds) ks (λ c e. withi
 
 -- supertypes that stand among these
 abbrev AllAmong : World → List Class → Class → List Above → Type 0
-AllAmong w before c others = AllByRecursion (λ (a : Above). AtHome w c (λ t. is_among before t ≡ true) a.name) others
+AllAmong w before c others = AllAtHome w c (λ t. is_among before t ≡ true) others
 
 among_within : (w : World) (cs ds : List Class) (c : Class) (others : List Above) → Within cs ds → AllAmong w cs c others → AllAmong w ds c others
 among_within w cs ds c [] h all = tt

@@ -2,11 +2,11 @@
 use Rattle.std.proofs.Common.{◌≡◌, ◌⊎◌, inl, inr, ℕ, List, [], ◌∷◌, ◌++◌, Option, Some, None, Result, Ok, Err, refl, sym, ap, ◌∙◌}
 use Rattle.std.specs.Prelude.{option_and_then}
 use Rattle.cl_classfile.specs.Files.{Name}
-use Rattle.cl_model.specs.Homes.{World, home}
+use Rattle.cl_model.specs.Homes.{World}
 use Rattle.cl_model.specs.declared.class.Class.{Class}
-use Rattle.cl_model.specs.Classes.{class, Error, ClassNotFound, ClassCircularity, Returns}
+use Rattle.cl_model.specs.Classes.{class, Error, ClassNotFound, ClassCircularity, EndsInCircle}
 use Rattle.cl_model.specs.Lineages.{Kin}
-use Rattle.cl_model.specs.States.{State, Need, Verdict, IsClass, Wrong, Linkage}
+use Rattle.cl_model.specs.States.{State, Need, Verdict, IsClass, Wrong, Linkage, IsLinkageError}
 use Rattle.cl_model.specs.Works.{Made}
 use Rattle.cl_model.specs.Plans.{derive, load, Request, Load, Plan, plan_from, needs_of}
 use Rattle.cl_model.specs.Machine.{Setting, Answers, AnswersPlan, IsPlan}
@@ -64,7 +64,7 @@ load_wrong w n l name m p e h k = at m.ends refl h
     at (Err d) r h = r ∙ ap (λ (z : Error). Err z) (wrong_same d e (ap (λ (z : Plan). z.ends) (plan_same _ p h) ∙ k))
     at (Ok x) r h = absurd (class_not_wrong x.class e (ap (λ (z : Plan). z.ends) (plan_same _ p h) ∙ k))
 
-pub circle_is_answered : (g : Setting) (s : State) (l : ℕ) (name : Name) (x : Class) → AnswersPlan g s (Load l name) (Wrong (ClassCircularity x)) → (place : ℕ) × (home g.world l name ≡ Some place) × Returns g.world [] (class name place) x
+pub circle_is_answered : (g : Setting) (s : State) (l : ℕ) (name : Name) (x : Class) → AnswersPlan g s (Load l name) (Wrong (ClassCircularity x)) → EndsInCircle g.world l name x
 circle_is_answered g s l name x a = elim (end_or_refused s (needs_of a.plan) a.plan.ends (Wrong (ClassCircularity x)) a.answered) [
   | inr h ↦ absurd (let e : Wrong (ClassCircularity x) ≡ Linkage h.0 = h.1 in cc)
   | inl h ↦
@@ -73,16 +73,16 @@ circle_is_answered g s l name x a = elim (end_or_refused s (needs_of a.plan) a.p
       let m = load_of w n (Load l name) (load w n ClassNotFound l name) a.plan a.planned.planned in
       elim (load_err w (derive w n []) ClassNotFound l name m.0 (ClassCircularity x) m.1 (load_wrong w n l name m.0 a.plan (ClassCircularity x) m.2 (sym h))) [
         | inl k ↦ absurd (not_circle (class name l) x k.1)
-        | inr k ↦ (k.place, k.found, circle_returns w n [] (class name k.place) k.below x k.made k.ends)
+        | inr k ↦ record { place = k.place; found = k.found; returns = circle_returns w n [] (class name k.place) k.below x k.made k.ends }
       ]
 ]
 
-pub circular_is_answered : (g : Setting) (s : State) (l place : ℕ) (name : Name) (x : Class) (v : Verdict) → home g.world l name ≡ Some place → Returns g.world [] (class name place) x → AnswersPlan g s (Load l name) v → (v ≡ Wrong (ClassCircularity x)) ⊎ ((n : Need) × (v ≡ Linkage n))
-circular_is_answered g s l place name x v h r a =
+pub circular_is_answered : (g : Setting) (s : State) (l : ℕ) (name : Name) (x : Class) (v : Verdict) → EndsInCircle g.world l name x → AnswersPlan g s (Load l name) v → (v ≡ Wrong (ClassCircularity x)) ⊎ IsLinkageError v
+circular_is_answered g s l name x v circle a =
     let w = g.world in
     let e = ClassCircularity x in
-    let d = return_is_derived w (class name place) x r in
-    let k = load_ill w (derive w d.0 []) e ClassNotFound l name place h (record { made = d.1; is = d.2; ends = d.3 }) in
+    let d = return_is_derived w (class name circle.place) x circle.returns in
+    let k = load_ill w (derive w d.0 []) e ClassNotFound l name circle.place circle.found (record { made = d.1; is = d.2; ends = d.3 }) in
     let planned : IsPlan w (Load l name) (stopped_plan k.made e) = record { height = d.0; planned = planned_at w d.0 (Load l name) k.made (load w d.0 ClassNotFound l name) (stopped_plan k.made e) k.is (stops w d.0 l name k.made e k.ends) } in
     let ends : a.plan.ends ≡ Wrong e = ap (λ (p : Plan). p.ends) (one_plan w (Load l name) a.plan (stopped_plan k.made e) a.planned planned) in
     elim (end_or_refused s (needs_of a.plan) a.plan.ends v a.answered) [ inl z ↦ inl (z ∙ ends) | inr z ↦ inr z ]

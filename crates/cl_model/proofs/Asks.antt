@@ -3,24 +3,23 @@ use Rattle.std.proofs.Common.{◌≡◌, ◌≤◌, inl, inr, ℕ, zero, suc, Bo
 use Rattle.std.specs.Prelude.{flat_map, option_map}
 use Rattle.std.specs.List.{AllByRecursion, list_any}
 use Rattle.std.proofs.lemmas.Bool.{eqb-true, and_parts}
-use Rattle.cl_descriptors.specs.declared.types.FieldType.{FieldType}
 use Rattle.cl_descriptors.proofs.Codec.{map_some, then_some}
-use Rattle.cl_classfile.specs.Files.{Name, Key, Member, Reference, ToClass, ToField, ToMethod, ToInterfaceMethod, reference, element_name, same_name}
+use Rattle.cl_classfile.specs.Files.{Name, Key, Member, Reference, ToClass, ToField, ToMethod, ToInterfaceMethod, reference, same_name}
 use Rattle.cl_model.specs.Homes.{World, home}
 use Rattle.cl_model.specs.declared.class.Class.{Class}
-use Rattle.cl_model.specs.Classes.{class, same_class, is_among, Error, ClassNotFound, NoClassDef, NoSuchField, NoSuchMethod, IllegalAccess, class_accessible, file_of, misfit, Above, superclass_of, superinterfaces_of}
+use Rattle.cl_model.specs.Classes.{class, same_class, is_among, Error, ClassNotFound, NoClassDef, NoSuchField, NoSuchMethod, IllegalAccess, file_of, misfit, Above, superclass_of, superinterfaces_of}
 use Rattle.cl_model.specs.Lineages.{Forest, Bare, Kin, alone, classes, postorder, lineage, field_of, method_of, lookup_field, member_accessible}
 use Rattle.cl_model.specs.Preparation.{class_names, constraints_of, equals_of}
 use Rattle.cl_model.specs.Ancestors.{EachClassOnce}
 use Rattle.cl_model.specs.States.{Need, Entry, Equal, Verdict, IsField, IsMethod, IsLinked, Wrong}
 use Rattle.cl_model.specs.Works.{Work, Made, Ask, done, need, ask, or_fail, unless_wrong, of_result, after_made, go_on, ◌>>=◌}
-use Rattle.cl_model.specs.Plans.{initiating, load_by, loads_above, derive_new, derive, load, resolve_class, resolve_found, resolve_field, resolve_method, resolve_member, member_target, resolve_reference, flags_of, Request, Load, Resolve, Link, loaded_by, go_on_with, Plan, plan_after, plan_from, needs_of, same_ask, distinct}
+use Rattle.cl_model.specs.Plans.{initiating, load_by, loads_above, derive_new, derive, load, class_named, inaccessible, resolve_found, resolve_field, resolve_method, resolve_in, through, resolve_named, flags_of, Request, Load, Resolve, Link, loaded_by, go_on_with, Plan, plan_after, plan_from, needs_of, same_ask, distinct}
 use Rattle.cl_model.specs.Machine.{HasLineage, IsPlan}
 use Rattle.cl_model.proofs.Bind.{some_same, ok_same, step_is}
 use Rattle.cl_model.proofs.Heights.{loaded, found, sought, grown, others_after, checked, finished, interfaces_next, superclass_next, circle_or}
 use Rattle.cl_model.proofs.Derived.{load_ok, above_ok, derive_ok, all_both}
 use Rattle.cl_model.proofs.Runs.{names_equal}
-use Rattle.cl_model.proofs.Planned.{accessible, class_found, to_class, resolved, imposed as imposed_for, field_found, looked_up, method_found, method_sought, wrong_kind, one_lineage}
+use Rattle.cl_model.proofs.Planned.{resolved, imposed as imposed_for, field_found, looked_up, method_found, method_sought, wrong_kind, one_lineage}
 use Rattle.cl_model.proofs.Progress.{IsEquality, equals_are, constraints_are, flat_are, once_kept}
 use Rattle.cl_model.proofs.Closed.{all_left, all_right}
 use Rattle.cl_model.proofs.Reached.{reached}
@@ -149,19 +148,6 @@ found_covers before d c owner member key v =
     (need_covers (before ++ x.asked) (equals_of key owner.class.loader d.class.loader) (equality_asked (before ++ x.asked) _ (equals_are (class_names key.descriptor) owner.class.loader d.class.loader)))
     (λ b y hy ey. none_covers _ _ refl))
 
-class_covers : (w : World) (n : ℕ) (before : List Ask) (d : Kin) (name : Name) → Covers before (resolve_class w n d name)
-class_covers w n before d name =
-    covers_then before (load w n NoClassDef d.class.loader name) (accessible d) (whole_load_covers w n NoClassDef d.class.loader name before) (λ k x hx ex.
-    covers_then (before ++ x.asked) (unless_wrong (if class_accessible k.file.flags k.class d.class then None else Some (IllegalAccess k.class))) (λ (b : Unit {0}). done k) (unless_covers (before ++ x.asked) _) (λ b y hy ey. none_covers _ _ refl))
-
-to_class_covers : (w : World) (n : ℕ) (before : List Ask) (d : Kin) (t : FieldType) (l : List Name) → Covers before (to_class w n d t l)
-to_class_covers w n before d t [] = none_covers before _ refl
-to_class_covers w n before d t (name ∷ more) = covers_then before (resolve_class w n d name) (class_found t) (class_covers w n before d name) (λ k x hx ex. none_covers _ _ refl)
-
-member_covers : (w : World) (n : ℕ) (before : List Ask) (d : Kin) (o : Option Name) (member : Kin → Work Verdict) → ((after_it : List Ask) (c : Kin) → Covers after_it (member c)) → Covers before (resolve_member w n d o member)
-member_covers w n before d None member h = none_covers before _ refl
-member_covers w n before d (Some name) member h = covers_then before (resolve_class w n d name) member (class_covers w n before d name) (λ c x hx ex. h (before ++ x.asked) c)
-
 field_covers : (before : List Ask) (d : Kin) (key : Key) (c : Kin) → Covers before (resolve_field d key c)
 field_covers before d key c = covers_then before (or_fail (NoSuchField c.class) (lookup_field c key)) (field_found d key c) (or_fail_covers before (NoSuchField c.class) (lookup_field c key)) (λ owner x hx ex. found_covers (before ++ x.asked) d c owner (field_of owner key) key (IsField owner.class key))
 
@@ -170,15 +156,21 @@ method_covers before b d key c =
     covers_then before (unless_wrong (wrong_kind b c)) (method_sought b d key c) (unless_covers before (wrong_kind b c)) (λ a x hx ex.
     covers_then (before ++ x.asked) (or_fail (NoSuchMethod c.class) (looked_up b c key)) (method_found d key c) (or_fail_covers (before ++ x.asked) (NoSuchMethod c.class) (looked_up b c key)) (λ owner y hy ey. found_covers ((before ++ x.asked) ++ y.asked) d c owner (method_of owner key) key (IsMethod owner.class key)))
 
-reference_covers : (w : World) (n : ℕ) (before : List Ask) (d : Kin) (r : Reference) → Covers before (resolve_reference w n d r)
-reference_covers w n before d (ToClass t) = to_class_covers w n before d t (element_name t.base)
-reference_covers w n before d (ToField t key) = member_covers w n before d (member_target t) (resolve_field d key) (λ b c. field_covers b d key c)
-reference_covers w n before d (ToMethod t key) = member_covers w n before d (member_target t) (resolve_method false d key) (λ b c. method_covers b false d key c)
-reference_covers w n before d (ToInterfaceMethod t key) = member_covers w n before d (member_target t) (resolve_method true d key) (λ b c. method_covers b true d key c)
+in_covers : (before : List Ask) (d c : Kin) (r : Reference) → Covers before (resolve_in d r c)
+in_covers before d c (ToClass t) = none_covers before _ refl
+in_covers before d c (ToField t key) = field_covers before d key c
+in_covers before d c (ToMethod t key) = method_covers before false d key c
+in_covers before d c (ToInterfaceMethod t key) = method_covers before true d key c
+
+named_covers : (w : World) (n : ℕ) (before : List Ask) (d : Kin) (r : Reference) (o : Option Name) → Covers before (resolve_named w n d r o)
+named_covers w n before d r None = none_covers before _ refl
+named_covers w n before d r (Some name) =
+    covers_then before (load w n NoClassDef d.class.loader name) (through d r) (whole_load_covers w n NoClassDef d.class.loader name before) (λ c x hx ex.
+    covers_then (before ++ x.asked) (unless_wrong (inaccessible d c)) (λ (a : Unit {0}). resolve_in d r c) (unless_covers (before ++ x.asked) _) (λ a y hy ey. in_covers ((before ++ x.asked) ++ y.asked) d c r))
 
 resolved_covers : (w : World) (n : ℕ) (before : List Ask) (d : Kin) (o : Option Reference) → Covers before (resolved w n d o)
 resolved_covers w n before d None = none_covers before _ refl
-resolved_covers w n before d (Some r) = reference_covers w n before d r
+resolved_covers w n before d (Some r) = named_covers w n before d r (class_named r)
 
 on_covers : (w : World) (n : ℕ) (before : List Ask) (q : Request) (k : Kin) → Covers before (go_on_with w n q k)
 on_covers w n before (Load loader name) k = none_covers before _ refl

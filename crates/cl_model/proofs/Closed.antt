@@ -6,7 +6,7 @@ use Rattle.cl_model.specs.Homes.{World, home}
 use Rattle.cl_model.specs.declared.class.Class.{Class}
 use Rattle.cl_model.specs.Classes.{class, Above, superclass_of, superinterfaces_of, supers, HasFile, AtHome, IsGood}
 use Rattle.cl_model.specs.Lineages.{Forest, Kin}
-use Rattle.cl_model.specs.States.{State, start, Record, Need, Entry, Met, AllMet, recorded, IsRecorded, added}
+use Rattle.cl_model.specs.States.{State, start, Record, Need, Entry, Met, Keeps, AllMet, recorded, IsRecorded, added}
 use Rattle.cl_model.specs.Works.{Work, Made}
 use Rattle.cl_model.specs.Plans.{initiating, loads_above, derive}
 use Rattle.cl_model.specs.Machine.{Setting, Step, Define, Initiate, Constrain, Settle, Prepare, Post, NextRound, Stray, May, after, state_after, Run, IsClosed}
@@ -28,7 +28,7 @@ all_right P (x ∷ xs) ys h = all_right P xs ys h.1
 
 -- a supertype's record stands
 abbrev pub Stands : World → State → Class → Above → Type 0
-Stands w s c a = AtHome w c (λ t. Met s (Entry c.loader a.name t.loader)) a.name
+Stands w s c a = AtHome w c (Keeps s c.loader) a.name
 
 pub initiating_met : (s : State) (loader place : ℕ) (name : Name) (b : Bool) → Met s (Entry loader name place) → AllMet s ((if b then [] else Entry loader name place ∷ []) ++ [])
 initiating_met s loader place name true h = tt

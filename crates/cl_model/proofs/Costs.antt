@@ -161,10 +161,10 @@ marked w (Load loader name) p is = built w (Load loader name) p [] [] (omega ari
 marked w (Resolve loader name i) p is = at p.reached refl
   where
     at : (o : Option Class) → p.reached ≡ o → (marks : List Mark) × Marked w (Resolve loader name i) p marks × (length marks + 1 ≤ cost w p)
-    at None r = built w (Resolve loader name i) p [] [] (omega arith) (omega arith) (no_class w (Resolve loader name i) p (λ past h. h)) (λ g s e h. absurd (none_not_some p.reached r h.1))
+    at None r = built w (Resolve loader name i) p [] [] (omega arith) (omega arith) (no_class w (Resolve loader name i) p (λ past h. h)) (λ g s e h. absurd (none_not_some p.reached r h.1.0))
     at (Some d) r =
         built w (Resolve loader name i) p [] (OfReference d i ∷ []) (omega arith) (omega arith) (no_class w (Resolve loader name i) p (λ past h. h))
-        (λ g s e h. (h.0, i, h.3.0, h.3.2, h.3.1.unsettled, inl (ap (λ (c : Class). OfReference c i) (some_same d h.0 (sym r ∙ h.1)))))
+        (λ g s e h. (h.0, i, h.2.0, h.2.2, h.2.1.may_keep.unsettled, inl (ap (λ (c : Class). OfReference c i) (some_same d h.0 (sym r ∙ h.1.0)))))
 marked w (Link loader name) p is = at p.reached refl
   where
     at : (o : Option Class) → p.reached ≡ o → (marks : List Mark) × Marked w (Link loader name) p marks × (length marks + 1 ≤ cost w p)

@@ -3,19 +3,18 @@ use Rattle.std.proofs.Common.{◌≡◌, ◌≢◌, inl, inr, ℕ, zero, suc, Bo
 use Rattle.std.specs.Prelude.{option_map}
 use Rattle.std.specs.List.{AllByRecursion}
 use Rattle.std.proofs.lemmas.Bool.{eqb-true}
-use Rattle.cl_classfile.specs.Files.{Name, File, element_name, Reference, ToClass, ToField, ToMethod, ToInterfaceMethod, reference}
-use Rattle.cl_descriptors.specs.declared.types.FieldType.{FieldType}
+use Rattle.cl_classfile.specs.Files.{Name, File, Reference, reference}
 use Rattle.cl_descriptors.proofs.Codec.{map_some, then_some}
 use Rattle.cl_model.specs.Homes.{World, home}
 use Rattle.cl_model.specs.declared.class.Class.{Class}
 use Rattle.cl_model.specs.Classes.{class, Error, Above, is_among, ClassNotFound, NoClassDef, ClassCircularity, file_of, misfit, superclass_of, superinterfaces_of, supers, HasFile, AtHome, Fitting, FitsAt, Good, IsGood, FirstWrong, Next}
-use Rattle.cl_model.specs.Lineages.{first, Bare, Kin}
-use Rattle.cl_model.specs.States.{State, Need, Entry, Verdict, Wrong, Met, AllMet, IsNext, IsRecorded}
+use Rattle.cl_model.specs.Lineages.{Bare, Kin}
+use Rattle.cl_model.specs.States.{State, Need, Entry, Verdict, Wrong, Met, Keeps, AllMet, IsNext, IsRecorded}
 use Rattle.cl_model.specs.Works.{Work, Made, Ask, ask, need, done, or_fail, unless_wrong, of_result, ◌>>=◌}
-use Rattle.cl_model.specs.Plans.{initiating, load_by, loads_above, derive_new, derive, load, Request, loaded_by, go_on_with, Plan, plan_after, plan_from, needs_of, resolve_class, resolve_field, resolve_method, resolve_member, resolve_reference, resolve, member_target, Resolve, ending}
+use Rattle.cl_model.specs.Plans.{initiating, load_by, loads_above, derive_new, derive, load, Request, loaded_by, go_on_with, Plan, plan_after, plan_from, needs_of, class_named, through, resolve_named, resolve, Resolve, ending}
 use Rattle.cl_model.specs.Machine.{Setting, IsPlan, AnswersPlan, IsClosed}
 use Rattle.cl_model.specs.Service.{IsNextNeed}
-use Rattle.cl_model.specs.Frames.{Frame, wanted, Judged, Accepts, Keeps, KeepsAccepted, AllKept, IsFrame, IsFrames, path_of, absent_under, EndsHere, class_named, OfReference, Starts, Under}
+use Rattle.cl_model.specs.Frames.{Frame, wanted, Judged, Accepts, KeepsAccepted, AllKept, IsFrame, IsFrames, path_of, absent_under, EndsHere, OfReference, Starts, Under}
 use Rattle.cl_model.proofs.Bind.{some_same, ok_same, err_same, ok_not_err}
 use Rattle.cl_model.proofs.Heights.{loaded, found, sought, grown, others_after, checked, finished, interfaces_next, superclass_next, circle_or}
 use Rattle.cl_model.proofs.Derived.{derive_yields}
@@ -25,7 +24,7 @@ use Rattle.cl_model.proofs.Outcomes.{wrong_split, judged_still}
 use Rattle.cl_model.proofs.Circles.{IsThere, Leads, leads_comes, LeadsHere, here_next, nothing_leads, one_derivation}
 use Rattle.cl_model.proofs.Closed.{met_both, all_left, all_right, recorded_is_met}
 use Rattle.cl_model.proofs.Looks.{answers_met}
-use Rattle.cl_model.proofs.Planned.{plan_exists, accessible, class_found, to_class, resolved}
+use Rattle.cl_model.proofs.Planned.{plan_exists, resolved}
 use Rattle.cl_model.proofs.Aims.{Aim, AsksFor, Hits, Well, Every, Any, next_left, next_right, then_hits, then_well, first_hits, well_once, hits_once, ask_hits, ask_well, or_fail_well, or_fail_hits, unless_well, unless_hits, read_well, read_hits, need_next, NextIs, EndsIn}
 use Rattle.cl_model.proofs.Marks.{In, in_left, in_right}
 
@@ -149,7 +148,7 @@ complete_hits w s d c f hf all =
 
 -- a supertype of c is recorded at c's loader, and is judged so
 abbrev IsJudged : World → State → Class → Option Error → Above → Type 0
-IsJudged w s c wrong a = AtHome w c (λ t. Met s (Entry c.loader a.name t.loader) × Fitting w c a.role wrong t) a.name
+IsJudged w s c wrong a = AtHome w c (λ t. Keeps s c.loader t × Fitting w c a.role wrong t) a.name
 
 abbrev IsAccepted : World → State → Class → Above → Type 0
 IsAccepted w s c a = IsJudged w s c None a
@@ -313,26 +312,13 @@ plan_on w s g r P p is h on =
         let o = map_some (plan_after m k) (go_on_with w n r k) p z in
         subst (λ (y : Plan). PlanHits s g y) o.2 (rest g m k o.0 c.met (on n k (subst P (ok_same c.value k m.ends c.ends e) c.holds) o.0 o.1))
 
-class_hits : (w : World) (s : State) (g : Aim) (n : ℕ) (d : Kin) (name : Name) → Every (load w n NoClassDef d.class.loader name) (Hits s g) → Every (resolve_class w n d name) (Hits s g)
-class_hits w s g n d name h = first_hits s g (load w n NoClassDef d.class.loader name) (accessible d) h
-
-to_class_hits : (w : World) (s : State) (g : Aim) (n : ℕ) (d : Kin) (t : FieldType) (l : List Name) (name : Name) → first l ≡ Some name → Every (resolve_class w n d name) (Hits s g) → Every (to_class w n d t l) (Hits s g)
-to_class_hits w s g n d t [] name e h = absurd cc
-to_class_hits w s g n d t (x ∷ more) name e h = first_hits s g (resolve_class w n d x) (class_found t) (subst (λ (z : Name). Every (resolve_class w n d z) (Hits s g)) (sym (some_same x name e)) h)
-
-member_hits : (w : World) (s : State) (g : Aim) (n : ℕ) (d : Kin) (o : Option Name) (member : Kin → Work Verdict) (name : Name) → o ≡ Some name → Every (resolve_class w n d name) (Hits s g) → Every (resolve_member w n d o member) (Hits s g)
-member_hits w s g n d None member name e h = absurd cc
-member_hits w s g n d (Some x) member name e h = first_hits s g (resolve_class w n d x) member (subst (λ (z : Name). Every (resolve_class w n d z) (Hits s g)) (sym (some_same x name e)) h)
-
-reference_hits : (w : World) (s : State) (g : Aim) (n : ℕ) (d : Kin) (cited : Reference) (name : Name) → class_named cited ≡ Some name → Every (resolve_class w n d name) (Hits s g) → Every (resolve_reference w n d cited) (Hits s g)
-reference_hits w s g n d (ToClass t) name e h = to_class_hits w s g n d t (element_name t.base) name e h
-reference_hits w s g n d (ToField t key) name e h = member_hits w s g n d (member_target t) (resolve_field d key) name e h
-reference_hits w s g n d (ToMethod t key) name e h = member_hits w s g n d (member_target t) (resolve_method false d key) name e h
-reference_hits w s g n d (ToInterfaceMethod t key) name e h = member_hits w s g n d (member_target t) (resolve_method true d key) name e h
+named_hits : (w : World) (s : State) (g : Aim) (n : ℕ) (d : Kin) (cited : Reference) (o : Option Name) (name : Name) → o ≡ Some name → Every (load w n NoClassDef d.class.loader name) (Hits s g) → Every (resolve_named w n d cited o) (Hits s g)
+named_hits w s g n d cited None name e h = absurd cc
+named_hits w s g n d cited (Some x) name e h = first_hits s g (load w n NoClassDef d.class.loader x) (through d cited) (subst (λ (z : Name). Every (load w n NoClassDef d.class.loader z) (Hits s g)) (sym (some_same x name e)) h)
 
 resolve_hits : (w : World) (s : State) (g : Aim) (n : ℕ) (d : Kin) (i : ℕ) (cited : Reference) (name : Name) → reference d.file i ≡ Some cited → class_named cited ≡ Some name → Every (load w n NoClassDef d.class.loader name) (Hits s g) → Every (resolve w n d i) (Hits s g)
 resolve_hits w s g n d i cited name found names h =
-    subst (λ (o : Option Reference). Every (resolved w n d o) (Hits s g)) (sym found) (reference_hits w s g n d cited name names (class_hits w s g n d name h))
+    subst (λ (o : Option Reference). Every (resolved w n d o) (Hits s g)) (sym found) (named_hits w s g n d cited (class_named cited) name names h)
 
 referring_hits : (w : World) (s : State) (g : Aim) (r : Request) (loader : ℕ) (name : Name) → IsClosed w s → OfReference w s r loader name → ((n : ℕ) → Every (load w n NoClassDef loader name) (Hits s g)) → (p : Plan) → IsPlan w r p → PlanHits s g p
 referring_hits w s g r loader name closed o h p is =
@@ -340,8 +326,8 @@ referring_hits w s g r loader name closed o h p is =
     let q = Resolve o.through o.asked o.index in
     plan_on w s g q (OfClass w d) p (subst (λ (z : Request). IsPlan w z p) o.request is)
     (λ n. load_well w s (derive w n []) ClassNotFound o.through o.asked loader (OfClass w d) (closed.homes o.through loader o.asked o.kept) o.kept (derive_well w s n [] d closed (closed.own o.through loader o.asked o.kept) (nothing_leads w d)))
-    (λ n k c. resolve_hits w s g n k o.index o.cited name
-    (ap (λ (f : File). reference f o.index) (ok_same k.file o.file (file_of w d) c.1 o.has_file) ∙ o.found) o.names
+    (λ n k c. resolve_hits w s g n k o.index o.cites.cited name
+    (ap (λ (f : File). reference f o.index) (ok_same k.file o.file (file_of w d) c.1 o.has_file) ∙ o.cites.found) o.cites.names
     (subst (λ (z : Class). Every (load w n NoClassDef z.loader name) (Hits s g)) (sym c.0) (h n)))
 
 start_hits : (w : World) (s : State) (g : Aim) (r : Request) (absent : Class → Error) (loader : ℕ) (name : Name) → IsClosed w s → Starts w s r absent loader name → ((n : ℕ) → Every (load w n absent loader name) (Hits s g)) → (p : Plan) → IsPlan w r p → PlanHits s g p

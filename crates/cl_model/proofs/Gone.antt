@@ -44,8 +44,7 @@ load_goes_on w s loader place name closed rec =
     record {
       plan = p.0;
       planned = p.1;
-      reached = at.0;
-      own = at.1;
+      past = at;
       before = [];
       met = tt;
       more = ap (λ (y : Plan). y.more) x.is ∙ rest.0;
@@ -64,8 +63,7 @@ resolve_goes_on w s loader place i name m closed rec goes =
     record {
       plan = p.0;
       planned = p.1;
-      reached = at.0;
-      own = at.1;
+      past = at;
       before = goes.before;
       met = goes.met;
       more = ap (λ (y : Plan). y.more) x.is ∙ ap (λ (y : Made Verdict). y.needs) same ∙ goes.needs;
@@ -85,8 +83,7 @@ link_goes_on w s loader place name k closed rec lin =
     record {
       plan = p.0;
       planned = p.1;
-      reached = at.0;
-      own = at.1;
+      past = at;
       before = [];
       met = tt;
       more = ap (λ (y : Plan). y.more) x.is ∙ rest.0 ∙ append-nil (flat_map constraints_of (lineage x.kin)) ∙ ap (λ (y : Kin). flat_map constraints_of (lineage y)) same;
@@ -99,7 +96,7 @@ pub gone_on_ends : (w : World) (s : State) (r : Request) (c : Class) (needs : Li
 gone_on_ends w s r c needs v goes all = record {
   plan = goes.plan;
   planned = goes.planned;
-  met = met_both s goes.plan.own goes.plan.more goes.own (subst (λ (ns : List Need). AllMet s ns) (sym goes.more) (met_both s goes.before needs goes.met all));
+  met = met_both s goes.plan.own goes.plan.more goes.past.1 (subst (λ (ns : List Need). AllMet s ns) (sym goes.more) (met_both s goes.before needs goes.met all));
   ends = goes.ends;
 }
 
@@ -107,7 +104,7 @@ pub gone_on_next : (w : World) (s : State) (r : Request) (c : Class) (needs : Li
 gone_on_next w s r c needs v n goes h = record {
   plan = goes.plan;
   planned = goes.planned;
-  next = next_right s goes.plan.own goes.plan.more n goes.own (subst (λ (ns : List Need). IsNext s ns n) (sym goes.more) (next_right s goes.before needs n goes.met h));
+  next = next_right s goes.plan.own goes.plan.more n goes.past.1 (subst (λ (ns : List Need). IsNext s ns n) (sym goes.more) (next_right s goes.before needs n goes.met h));
 }
 
 -- ---- links
@@ -153,12 +150,14 @@ link_comes g s loader place name k closed rec lin all =
     record {
       plan = goes.plan;
       wants = to_stand goes.plan.own ++ flat_map to_link (lineage k);
-      wanted = link_wants w s loader name goes.plan d k goes.planned goes.reached lin;
-      over = inl (fulfils_both s (to_stand goes.plan.own) (flat_map to_link (lineage k)) (fulfilled_of s goes.plan.own goes.own) (links_fulfilled s (lineage k) all));
+      wanted = link_wants w s loader name goes.plan d k goes.planned goes.past.0 lin;
+      over = inl (fulfils_both s (to_stand goes.plan.own) (flat_map to_link (lineage k)) (fulfilled_of s goes.plan.own goes.past.1) (links_fulfilled s (lineage k) all));
       may_say = record {
-        plan = here.plan;
-        planned = here.planned;
-        answered = answers_met s (needs_of here.plan) here.plan.ends (IsLinked d) here.met (sym here.ends);
+        answers = record {
+          plan = here.plan;
+          planned = here.planned;
+          answered = answers_met s (needs_of here.plan) here.plan.ends (IsLinked d) here.met (sym here.ends);
+        };
         rests = λ c e. subst (λ (x : Class). Contains s.prepared x) (one_linked c d e) prepared;
       };
     }
@@ -184,18 +183,20 @@ link_refusal_comes g s loader place name l k before behind n closed rec lin part
     record {
       plan = goes.plan;
       wants = to_stand goes.plan.own ++ past;
-      wanted = link_wants w s loader name goes.plan d l goes.planned goes.reached lin;
+      wanted = link_wants w s loader name goes.plan d l goes.planned goes.past.0 lin;
       over = inr (
         n,
-        first_right s (to_stand goes.plan.own) past (ToStand n) (fulfilled_of s goes.plan.own goes.own)
+        first_right s (to_stand goes.plan.own) past (ToStand n) (fulfilled_of s goes.plan.own goes.past.1)
             (subst (λ (ks : List Kin). IsFirst s (flat_map to_link ks) (ToStand n)) (sym parts)
             (links_first s before behind k (ToStand n) all (first_left s (to_stand (constraints_of k)) (ToPrepare k.class ∷ []) (ToStand n) (next_is_first s (constraints_of k) n h)))),
         refused,
       );
       may_say = record {
-        plan = next.plan;
-        planned = next.planned;
-        answered = refused_answer s (needs_of next.plan) next.plan.ends n next.next refused;
+        answers = record {
+          plan = next.plan;
+          planned = next.planned;
+          answered = refused_answer s (needs_of next.plan) next.plan.ends n next.next refused;
+        };
         rests = λ c e. absurd (refused_not_linked c n e);
       };
     }
@@ -209,7 +210,7 @@ past_nothing w (Link loader name) p = refl
 
 rests_nothing : (w : World) (s : State) (r : Request) (p : Plan) (v : Verdict) → IsPlan w r p → p.reached ≡ None → Answers s (needs_of p) p.ends v → RestsOn s r p v
 rests_nothing w s (Load loader name) p v is none a = tt
-rests_nothing w s (Resolve loader name i) p v is none a = λ d reach met entry member. absurd (none_not_some p.reached none reach)
+rests_nothing w s (Resolve loader name i) p v is none a = λ d past settling. absurd (none_not_some p.reached none past.0)
 rests_nothing w s (Link loader name) p v is none a = λ c e. absurd (at c e (ends_for w (Link loader name) p (λ (d : Class). IsLinked d) (λ n k r h. (step_is _ r h).1) is) (end_or_refused s (needs_of p) p.ends v a))
   where
     at : (c : Class) → v ≡ IsLinked c → EndsFor (λ (d : Class). IsLinked d) p → ((v ≡ p.ends) × AllMet s (needs_of p)) ⊎ ((n : Need) × (v ≡ Linkage n)) → ⊥
@@ -226,7 +227,7 @@ unreached_comes g s r p v is none a =
       wants = to_stand (needs_of p);
       wanted = record { planned = is; past = to_stand p.more; follows = subst (λ (o : Option Class). WantsPast g.world r p o (to_stand p.more)) (sym none) (past_nothing g.world r p); whole = to_stand_both p.own p.more };
       over = answers_over s (needs_of p) p.ends v answered;
-      may_say = record { plan = p; planned = is; answered = answered; rests = rests_nothing g.world s r p v is none answered };
+      may_say = record { answers = record { plan = p; planned = is; answered = answered }; rests = rests_nothing g.world s r p v is none answered };
     }
 
 -- what a request with this plan wants past its load
@@ -249,7 +250,7 @@ next_met s (x ∷ ns) n all (inr h) = next_met s ns n all.1 h.1
 
 rests_refused : (s : State) (r : Request) (p : Plan) (n : Need) → IsNext s p.own n → Refused s n → RestsOn s r p (Linkage n)
 rests_refused s (Load loader name) p n h refused = tt
-rests_refused s (Resolve loader name i) p n h refused = λ d reach met entry member. absurd (refused.unmet (next_met s p.own n met h))
+rests_refused s (Resolve loader name i) p n h refused = λ d past settling. absurd (refused.unmet (next_met s p.own n past.1 h))
 rests_refused s (Link loader name) p n h refused = λ c e. absurd (refused_not_linked c n e)
 
 pub load_refusal_comes : (g : Setting) (s : State) (r : Request) (p : Plan) (n : Need) → IsPlan g.world r p → IsNext s p.own n → Refused s n → ComesTo g s r (Linkage n)
@@ -260,7 +261,7 @@ load_refusal_comes g s r p n is h refused =
       wants = to_stand p.own ++ past.0;
       wanted = record { planned = is; past = past.0; follows = past.1; whole = refl };
       over = inr (n, first_left s (to_stand p.own) past.0 (ToStand n) (next_is_first s p.own n h), refused);
-      may_say = record { plan = p; planned = is; answered = refused_answer s (needs_of p) p.ends n (next_left s p.own p.more n h) refused; rests = rests_refused s r p n h refused };
+      may_say = record { answers = record { plan = p; planned = is; answered = refused_answer s (needs_of p) p.ends n (next_left s p.own p.more n h) refused }; rests = rests_refused s r p n h refused };
     }
 
 -- ---- records that come next
@@ -310,17 +311,15 @@ link_record_comes g s loader to place name other next refused =
 -- ---- what tables bear
 
 pub borne_said : (g : Setting) (s : State) (r : Request) (v : Verdict) → Bears s r v → AnswersPlan g s r v → MaySay g s r v
-borne_said g s (Load loader name) v bears a = record { plan = a.plan; planned = a.planned; answered = a.answered; rests = tt }
+borne_said g s (Load loader name) v bears a = record { answers = a; rests = tt }
 borne_said g s (Resolve loader name i) v bears a = record {
-  plan = a.plan;
-  planned = a.planned;
-  answered = a.answered;
-  rests = λ d reach met entry member. elim (bears d (reached_records g.world s (Resolve loader name i) a.plan d a.planned reach met)) [
-    | inl e ↦ absurd (entry e)
-    | inr e ↦ elim e [ inl m ↦ absurd (member m) | inr h ↦ h ]
+  answers = a;
+  rests = λ d past settling. elim (bears d (reached_records g.world s (Resolve loader name i) a.plan d a.planned past.0 past.1)) [
+    | inl e ↦ absurd (settling.is_entry e)
+    | inr e ↦ elim e [ inl m ↦ absurd (settling.is_class_member m) | inr h ↦ h ]
   ];
 }
-borne_said g s (Link loader name) v bears a = record { plan = a.plan; planned = a.planned; answered = a.answered; rests = λ c e. (bears c e).1 }
+borne_said g s (Link loader name) v bears a = record { answers = a; rests = λ c e. (bears c e).1 }
 
 pub unrecorded_bears : (g : Setting) (s : State) (r : Request) (v : Verdict) → recorded s.records (loaded_by r).loader (loaded_by r).name ≡ None → AnswersPlan g s r v → Bears s r v
 unrecorded_bears g s (Load loader name) v none a = λ c e.

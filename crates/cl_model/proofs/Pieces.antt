@@ -5,13 +5,13 @@ use Rattle.std.specs.List.{AllByRecursion}
 use Rattle.cl_classfile.specs.Files.{Name}
 use Rattle.cl_model.specs.Homes.{World}
 use Rattle.cl_model.specs.declared.class.Class.{Class}
-use Rattle.cl_model.specs.Classes.{class, same_class, is_among, Above, AtHome, supers}
+use Rattle.cl_model.specs.Classes.{class, same_class, is_among, Above, AllAtHome, supers}
 use Rattle.cl_model.specs.Lineages.{Kin, lineage}
 use Rattle.cl_model.specs.Preparation.{constraints_of}
 use Rattle.cl_model.specs.Ancestors.{SupersFirst}
-use Rattle.cl_model.specs.States.{State, Need, Verdict, AllMet, Refused, IsNext, IsRecorded, recorded, MayAdd}
+use Rattle.cl_model.specs.States.{State, Need, Verdict, IsSettling, AllMet, Refused, IsNext, IsRecorded, recorded, MayAdd}
 use Rattle.cl_model.specs.Plans.{Request, Load, Resolve, Link, Plan, needs_of}
-use Rattle.cl_model.specs.Machine.{Setting, Step, Settle, IsPlan, Answers, AnswersReference, MaySay, May, after, Run, IsClosed, Scheduled, Prepare, NextRound, HasLineage, MaySettle, MayGoOn, state_after, step_for}
+use Rattle.cl_model.specs.Machine.{Setting, Step, Settle, IsPlan, IsPastLoad, Answers, AnswersReference, MaySay, May, after, Run, IsClosed, Scheduled, Prepare, NextRound, HasLineage, MaySettle, MayGoOn, state_after, step_for}
 use Rattle.cl_model.specs.Service.{Want, ToStand, ToPrepare, Fulfils, FulfilsAll, IsFirst, MayServe, serving, to_stand, to_link, WantsPast, HasWants, Settles, IsNextStep, IsOver, ComesTo, IsBegun, IsLinkedIn, PassesRounds, AllServed}
 use Rattle.cl_model.proofs.Complete.{is_class, or_true}
 use Rattle.cl_model.proofs.Closed.{closed_after}
@@ -91,7 +91,7 @@ prepared_more s before c all h d k = elim (or_true (same_class d c) (is_among be
   | inr e ↦ all d e
 ]
 
-above_prepared : (w : World) (s : State) (before : List Class) (c : Class) (others : List Above) → Prepared s before → AllByRecursion (λ (a : Above). AtHome w c (λ t. is_among before t ≡ true) a.name) others → AllByRecursion (λ (a : Above). AtHome w c (Contains s.prepared) a.name) others
+above_prepared : (w : World) (s : State) (before : List Class) (c : Class) (others : List Above) → Prepared s before → AllAtHome w c (λ t. is_among before t ≡ true) others → AllAtHome w c (Contains s.prepared) others
 above_prepared w s before c [] all h = tt
 above_prepared w s before c (a ∷ others) all h = (record { place = h.0.place; found = h.0.found; holds = all (class a.name h.0.place) h.0.holds }, above_prepared w s before c others all h.1)
 
@@ -107,12 +107,14 @@ links_may g s before (k ∷ ks) x kept order all h may = elim (first_split s (to
     | inr p ↦
         subst (λ (y : Want). May g s (serving y)) (sym p.0)
         (record {
-          recorded = kept.0.0;
           unprepared = subst (λ (y : Want). MayServe s y) p.0 may;
-          kin = k;
-          lineage = lineage_is_derived g.world k kept.0.1;
-          above = above_prepared g.world s before k.class (supers k.file) all order.0;
-          imposed = p.1;
+          preparable = record {
+            recorded = kept.0.0;
+            kin = k;
+            lineage = lineage_is_derived g.world k kept.0.1;
+            above = above_prepared g.world s before k.class (supers k.file) all order.0;
+            imposed = p.1;
+          };
         })
   ]
 ]
@@ -150,7 +152,7 @@ past_may g s (Link loader name) p (Some c) past wants x closed is reach follows 
 
 settles_may : (g : Setting) (s : State) (r : Request) (p : Plan) (e : Step) → Settles g s r p e → May g s e
 settles_may g s (Load loader name) p e h = absurd h
-settles_may g s (Resolve loader name i) p e h = subst (λ (f : Step). May g s f) (sym h.3.2) h.3.1
+settles_may g s (Resolve loader name i) p e h = subst (λ (f : Step). May g s f) (sym h.2.2) h.2.1
 settles_may g s (Link loader name) p e h = absurd h
 
 -- the step that comes next in a service may happen
@@ -206,18 +208,18 @@ settled_none : (g : Setting) (s : State) (r : Request) (p q : Plan) (wants : Lis
 settled_none g s (Load loader name) p q wants e x has is h first may = h
 settled_none g s (Link loader name) p q wants e x has is h first may = h
 settled_none g s (Resolve loader name i) p q wants e x has is h first may =
-    let answered = reference_is_plan g s loader name i p h.0 h.3.0 is h.1 h.2 h.3.1.answered in
+    let answered = reference_is_plan g s loader name i p h.0 h.2.0 is h.1.0 h.1.1 h.2.1.answered in
     let same : wants ≡ to_stand (needs_of p) = wants_same g.world (Resolve loader name i) q p wants (to_stand (needs_of p)) has (resolve_wants loader name i g.world p is) in
     let plan_of : answered.plan ≡ p = one_plan g.world (Resolve loader name i) answered.plan p answered.planned is in
-    answered_none s (needs_of p) p.ends h.3.0 x (subst (λ (y : Plan). Answers s (needs_of y) y.ends h.3.0) plan_of answered.answered) (subst (λ (ws : List Want). IsFirst s ws x) same first) may
+    answered_none s (needs_of p) p.ends h.2.0 x (subst (λ (y : Plan). Answers s (needs_of y) y.ends h.2.0) plan_of answered.answered) (subst (λ (ws : List Want). IsFirst s ws x) same first) may
 
 one_settled : (g : Setting) (s : State) (r : Request) (p q : Plan) (e f : Step) → p ≡ q → Settles g s r p e → Settles g s r q f → e ≡ f
 one_settled g s (Load loader name) p q e f same h k = absurd h
 one_settled g s (Link loader name) p q e f same h k = absurd h
 one_settled g s (Resolve loader name i) p q e f same h k =
-    let d : h.0 ≡ k.0 = some_same h.0 k.0 (sym h.1 ∙ ap (λ (x : Plan). x.reached) same ∙ k.1) in
-    let v : h.3.0 ≡ k.3.0 = one_reference_answer g s k.0 i h.3.0 k.3.0 (subst (λ (c : Class). AnswersReference g s c i h.3.0) d h.3.1.answered) k.3.1.answered in
-    h.3.2 ∙ ap (λ (c : Class). Settle c i h.3.0) d ∙ ap (λ (x : Verdict). Settle k.0 i x) v ∙ sym k.3.2
+    let d : h.0 ≡ k.0 = some_same h.0 k.0 (sym h.1.0 ∙ ap (λ (x : Plan). x.reached) same ∙ k.1.0) in
+    let v : h.2.0 ≡ k.2.0 = one_reference_answer g s k.0 i h.2.0 k.2.0 (subst (λ (c : Class). AnswersReference g s c i h.2.0) d h.2.1.answered) k.2.1.answered in
+    h.2.2 ∙ ap (λ (c : Class). Settle c i h.2.0) d ∙ ap (λ (x : Verdict). Settle k.0 i x) v ∙ sym k.2.2
 
 -- at most one step comes next in a service
 pub one_next_step : (g : Setting) (s : State) (r : Request) (e f : Step) → IsNextStep g s r e → IsNextStep g s r f → e ≡ f
@@ -257,13 +259,13 @@ unsettled_none : (g : Setting) (s : State) (r : Request) (p : Plan) (v : Verdict
 unsettled_none g s (Load loader name) p v e say is h = h
 unsettled_none g s (Link loader name) p v e say is h = h
 unsettled_none g s (Resolve loader name i) p v e say is h =
-    let may = h.3.1 in
-    let same : p ≡ say.plan = one_plan g.world (Resolve loader name i) p say.plan is say.planned in
-    let reach : say.plan.reached ≡ Some h.0 = ap (λ (x : Plan). x.reached) (sym same) ∙ h.1 in
-    let met : AllMet s say.plan.own = subst (λ (x : Plan). AllMet s x.own) same h.2 in
-    let answered = reference_answered g s loader name i say.plan h.0 v say.planned reach met say.answered in
-    let one : v ≡ h.3.0 = one_reference_answer g s h.0 i v h.3.0 answered may.answered in
-    none_some (sym may.unsettled ∙ say.rests h.0 reach met (λ k. may.is_entry (sym one ∙ k)) (λ k. may.is_class_member (sym one ∙ k)))
+    let may = h.2.1 in
+    let a = say.answers in
+    let same : p ≡ a.plan = one_plan g.world (Resolve loader name i) p a.plan is a.planned in
+    let past : IsPastLoad s a.plan h.0 = subst (λ (x : Plan). IsPastLoad s x h.0) same h.1 in
+    let answered = reference_answered g s loader name i a.plan h.0 v a.planned past.0 past.1 a.answered in
+    let one : v ≡ h.2.0 = one_reference_answer g s h.0 i v h.2.0 answered may.answered in
+    none_some (sym may.may_keep.unsettled ∙ say.rests h.0 past (subst (λ (x : Verdict). IsSettling x) (sym one) may.may_keep.settling))
 
 -- what has come to its verdict has no step more
 pub come_to_ends : (g : Setting) (s : State) (r : Request) (v : Verdict) (e : Step) → ComesTo g s r v → IsNextStep g s r e → ⊥
@@ -277,7 +279,7 @@ come_to_ends g s r v e c a =
 -- ---- what comes next of a reference, and of a link
 
 pub settle_next : (g : Setting) (s : State) (loader : ℕ) (name : Name) (i : ℕ) (p : Plan) (d : Class) (v : Verdict) → IsPlan g.world (Resolve loader name i) p → p.reached ≡ Some d → AllMet s p.own → MaySettle g s d i v → IsNextStep g s (Resolve loader name i) (Settle d i v)
-settle_next g s loader name i p d v is reach met may = record { plan = p; wants = to_stand (needs_of p); wanted = resolve_wants loader name i g.world p is; next = inr (d, reach, met, (v, may, refl)) }
+settle_next g s loader name i p d v is reach met may = record { plan = p; wants = to_stand (needs_of p); wanted = resolve_wants loader name i g.world p is; next = inr (d, (reach, met), (v, may, refl)) }
 
 pub first_right : (s : State) (xs ys : List Want) (x : Want) → FulfilsAll s xs → IsFirst s ys x → IsFirst s (xs ++ ys) x
 first_right s [] ys x all h = h

@@ -1,16 +1,15 @@
 -- Each request has one plan, and each reference of a good class one resolution.
-use Rattle.std.proofs.Common.{◌≡◌, inl, inr, ℕ, zero, suc, Bool, true, false, if◌then◌else◌, List, [], ◌∷◌, Option, Some, None, Result, Ok, Err, refl, sym, ap, subst, ◌∙◌}
+use Rattle.std.proofs.Common.{◌≡◌, inl, inr, ℕ, zero, suc, Bool, true, false, if◌then◌else◌, [], Option, Some, None, Result, Ok, Err, refl, sym, ap, subst, ◌∙◌}
 use Rattle.std.specs.Prelude.{option_map, option_and_then}
-use Rattle.cl_descriptors.specs.declared.types.FieldType.{FieldType}
-use Rattle.cl_classfile.specs.Files.{Name, Key, Member, Reference, ToClass, ToField, ToMethod, ToInterfaceMethod, reference, is_interface, element_name, letter}
+use Rattle.cl_classfile.specs.Files.{Name, Key, Member, Reference, ToClass, ToField, ToMethod, ToInterfaceMethod, reference, is_interface}
 use Rattle.cl_model.specs.Homes.{World}
 use Rattle.cl_model.specs.declared.class.Class.{Class}
-use Rattle.cl_model.specs.Classes.{Error, ClassNotFound, NoClassDef, NoSuchField, NoSuchMethod, IncompatibleClassChange, IllegalAccess, class_accessible, Good}
+use Rattle.cl_model.specs.Classes.{Error, ClassNotFound, NoClassDef, NoSuchField, NoSuchMethod, IncompatibleClassChange, IllegalAccess, Good}
 use Rattle.cl_model.specs.Lineages.{Kin, field_of, method_of, lookup_field, lookup_method, lookup_interface_method, member_accessible}
 use Rattle.cl_model.specs.Preparation.{equals_of}
-use Rattle.cl_model.specs.States.{Verdict, IsArrayOfBase, BadEntry, Wrong, IsField, IsMethod}
+use Rattle.cl_model.specs.States.{Verdict, BadEntry, Wrong, IsField, IsMethod}
 use Rattle.cl_model.specs.Works.{Work, Made, done, need, or_fail, unless_wrong, ◌>>=◌}
-use Rattle.cl_model.specs.Plans.{derive, flags_of, load, resolve_class, resolve_found, resolve_field, resolve_method, resolve_member, member_target, resolve_reference, resolve, class_verdict, Request, Load, Resolve, Link, loaded_by, go_on_with, Plan, plan_after, plan_from, plan}
+use Rattle.cl_model.specs.Plans.{derive, flags_of, load, class_named, inaccessible, resolve_found, resolve_field, resolve_method, resolve_in, through, resolve_named, resolve_reference, resolve, Request, Load, Resolve, Link, loaded_by, go_on_with, Plan, plan_after, plan_from, plan}
 use Rattle.cl_model.specs.Machine.{HasLineage, IsPlan, IsResolution}
 use Rattle.cl_model.proofs.Bind.{some_same}
 use Rattle.cl_model.proofs.Heights.{Reaches, first_reaches, load_reaches, derive_reaches}
@@ -33,18 +32,6 @@ one_value f g n h x y p q = elim (upto_total n h) [
 
 -- ---- the pieces of a resolution
 
-abbrev pub accessible : Kin → Kin → Work Kin
-accessible d k = unless_wrong (if class_accessible k.file.flags k.class d.class then None else Some (IllegalAccess k.class)) >>= λ b. done k
-
-abbrev pub class_found : FieldType → Kin → Work Verdict
-class_found t k = done (class_verdict t.dims k.class)
-
-abbrev pub to_class : World → ℕ → Kin → FieldType → List Name → Work Verdict
-to_class w n d t l = elim l [
-  | [] ↦ done (IsArrayOfBase t.dims (letter t.base))
-  | name ∷ more ↦ resolve_class w n d name >>= class_found t
-]
-
 abbrev pub resolved : World → ℕ → Kin → Option Reference → Work Verdict
 resolved w n d o = elim o [
   | None ↦ done BadEntry
@@ -54,26 +41,13 @@ resolved w n d o = elim o [
 load_grows : (w : World) (n : ℕ) (absent : Class → Error) (loader : ℕ) (name : Name) → Reaches (load w n absent loader name) (load w (suc n) absent loader name)
 load_grows w n absent loader name = load_reaches w (derive w n []) (derive w (suc n) []) (derive_reaches w n []) absent loader name
 
-class_grows : (w : World) (n : ℕ) (d : Kin) (name : Name) → Reaches (resolve_class w n d name) (resolve_class w (suc n) d name)
-class_grows w n d name = first_reaches (load w n NoClassDef d.class.loader name) (load w (suc n) NoClassDef d.class.loader name) (accessible d) (load_grows w n NoClassDef d.class.loader name)
-
-to_class_grows : (w : World) (n : ℕ) (d : Kin) (t : FieldType) (l : List Name) → Reaches (to_class w n d t l) (to_class w (suc n) d t l)
-to_class_grows w n d t [] m h = h
-to_class_grows w n d t (name ∷ more) m h = first_reaches (resolve_class w n d name) (resolve_class w (suc n) d name) (class_found t) (class_grows w n d name) m h
-
-member_grows : (w : World) (n : ℕ) (d : Kin) (o : Option Name) (member : Kin → Work Verdict) → Reaches (resolve_member w n d o member) (resolve_member w (suc n) d o member)
-member_grows w n d None member m h = h
-member_grows w n d (Some name) member m h = first_reaches (resolve_class w n d name) (resolve_class w (suc n) d name) member (class_grows w n d name) m h
-
-reference_grows : (w : World) (n : ℕ) (d : Kin) (r : Reference) → Reaches (resolve_reference w n d r) (resolve_reference w (suc n) d r)
-reference_grows w n d (ToClass t) = to_class_grows w n d t (element_name t.base)
-reference_grows w n d (ToField t key) = member_grows w n d (member_target t) (resolve_field d key)
-reference_grows w n d (ToMethod t key) = member_grows w n d (member_target t) (resolve_method false d key)
-reference_grows w n d (ToInterfaceMethod t key) = member_grows w n d (member_target t) (resolve_method true d key)
+named_grows : (w : World) (n : ℕ) (d : Kin) (r : Reference) (o : Option Name) → Reaches (resolve_named w n d r o) (resolve_named w (suc n) d r o)
+named_grows w n d r None m h = h
+named_grows w n d r (Some name) m h = first_reaches (load w n NoClassDef d.class.loader name) (load w (suc n) NoClassDef d.class.loader name) (through d r) (load_grows w n NoClassDef d.class.loader name) m h
 
 resolved_grows : (w : World) (n : ℕ) (d : Kin) (o : Option Reference) → Reaches (resolved w n d o) (resolved w (suc n) d o)
 resolved_grows w n d None m h = h
-resolved_grows w n d (Some r) m h = reference_grows w n d r m h
+resolved_grows w n d (Some r) m h = named_grows w n d r (class_named r) m h
 
 pub resolve_grows : (w : World) (n : ℕ) (d : Kin) (i : ℕ) → Reaches (resolve w n d i) (resolve w (suc n) d i)
 resolve_grows w n d i = resolved_grows w n d (reference d.file i)
@@ -127,14 +101,6 @@ one_resolution w d i m k a b =
 enough_done : (w : World) (absent : Class → Error) (loader : ℕ) (name : Name) → Done (load w (enough w) absent loader name)
 enough_done w absent loader name = load_done w (derive w (enough w) []) (derive_enough w) absent loader name
 
-class_done : (w : World) (d : Kin) (name : Name) → Done (resolve_class w (enough w) d name)
-class_done w d name = done_then (load w (enough w) NoClassDef d.class.loader name) (accessible d) (enough_done w NoClassDef d.class.loader name) (λ k x.
-    done_then (unless_wrong (if class_accessible k.file.flags k.class d.class then None else Some (IllegalAccess k.class))) (λ (b : Unit {0}). done k) (unless_done _) (λ b y. now _))
-
-pub to_class_done : (w : World) (d : Kin) (t : FieldType) (l : List Name) → Done (to_class w (enough w) d t l)
-to_class_done w d t [] = now _
-to_class_done w d t (name ∷ more) = done_then (resolve_class w (enough w) d name) (class_found t) (class_done w d name) (λ k x. now _)
-
 -- what follows in the resolution of a member
 abbrev pub imposed : Kin → Kin → Key → Verdict → Unit {0} → Work Verdict
 imposed d owner key v a = need (equals_of key owner.class.loader d.class.loader) >>= λ b. done v
@@ -166,19 +132,22 @@ pub method_done : (b : Bool) (d : Kin) (key : Key) (c : Kin) → Done (resolve_m
 method_done b d key c = done_then (unless_wrong (wrong_kind b c)) (method_sought b d key c) (unless_done (wrong_kind b c)) (λ a x.
     done_then (or_fail (NoSuchMethod c.class) (looked_up b c key)) (method_found d key c) (or_fail_done (NoSuchMethod c.class) (looked_up b c key)) (λ owner y. found_done d c owner (method_of owner key) key (IsMethod owner.class key)))
 
-member_done : (w : World) (d : Kin) (o : Option Name) (member : Kin → Work Verdict) → ((c : Kin) → Done (member c)) → Done (resolve_member w (enough w) d o member)
-member_done w d None member h = now _
-member_done w d (Some name) member h = done_then (resolve_class w (enough w) d name) member (class_done w d name) (λ c x. h c)
+pub in_done : (d c : Kin) (r : Reference) → Done (resolve_in d r c)
+in_done d c (ToClass t) = now _
+in_done d c (ToField t key) = field_done d key c
+in_done d c (ToMethod t key) = method_done false d key c
+in_done d c (ToInterfaceMethod t key) = method_done true d key c
 
-reference_done : (w : World) (d : Kin) (r : Reference) → Done (resolve_reference w (enough w) d r)
-reference_done w d (ToClass t) = to_class_done w d t (element_name t.base)
-reference_done w d (ToField t key) = member_done w d (member_target t) (resolve_field d key) (field_done d key)
-reference_done w d (ToMethod t key) = member_done w d (member_target t) (resolve_method false d key) (method_done false d key)
-reference_done w d (ToInterfaceMethod t key) = member_done w d (member_target t) (resolve_method true d key) (method_done true d key)
+pub through_done : (d c : Kin) (r : Reference) → Done (through d r c)
+through_done d c r = done_then (unless_wrong (inaccessible d c)) (λ (a : Unit {0}). resolve_in d r c) (unless_done (inaccessible d c)) (λ a x. in_done d c r)
+
+named_done : (w : World) (d : Kin) (r : Reference) (o : Option Name) → Done (resolve_named w (enough w) d r o)
+named_done w d r None = now _
+named_done w d r (Some name) = done_then (load w (enough w) NoClassDef d.class.loader name) (through d r) (enough_done w NoClassDef d.class.loader name) (λ c x. through_done d c r)
 
 resolved_done : (w : World) (d : Kin) (o : Option Reference) → Done (resolved w (enough w) d o)
 resolved_done w d None = now _
-resolved_done w d (Some r) = reference_done w d r
+resolved_done w d (Some r) = named_done w d r (class_named r)
 
 pub resolve_done : (w : World) (d : Kin) (i : ℕ) → Done (resolve w (enough w) d i)
 resolve_done w d i = resolved_done w d (reference d.file i)

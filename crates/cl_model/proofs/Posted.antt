@@ -1,16 +1,16 @@
 -- What may be settled and prepared, and what a posted verdict rests on.
-use Rattle.std.proofs.Common.{◌≡◌, ◌≢◌, ℕ, List, [], ◌∷◌, ◌++◌, Some, None, refl, sym, ap, subst, ◌∙◌, slice_get}
+use Rattle.std.proofs.Common.{◌≡◌, ℕ, List, [], ◌∷◌, ◌++◌, Some, None, refl, sym, subst, ◌∙◌, slice_get}
 use Rattle.std.specs.Prelude.{Contains}
 use Rattle.std.specs.List.{AllByRecursion}
 use Rattle.cl_classfile.specs.Files.{Name, File}
 use Rattle.cl_model.specs.Homes.{World, home}
 use Rattle.cl_model.specs.declared.class.Class.{Class}
-use Rattle.cl_model.specs.Classes.{class, Above, AtHome, HasFile, file_of, superclass_of, superinterfaces_of, supers}
+use Rattle.cl_model.specs.Classes.{class, Above, AtHome, AllAtHome, HasFile, file_of, superclass_of, superinterfaces_of, supers}
 use Rattle.cl_model.specs.Lineages.{Forest, Bare, Tree, Kin, StandsFor, IsLineage, alone, postorder, lineage}
 use Rattle.cl_model.specs.Preparation.{constraints_of}
-use Rattle.cl_model.specs.States.{State, Verdict, IsLinked, BadEntry, ArrayMember, Said, AllMet, IsRecorded, settled_to, answer_to}
+use Rattle.cl_model.specs.States.{State, Verdict, IsSettling, IsLinked, Said, AllMet, IsRecorded, settled_to, answer_to}
 use Rattle.cl_model.specs.Plans.{Request, Resolve, Link, Plan}
-use Rattle.cl_model.specs.Machine.{Setting, Scheduled, Settle, Prepare, HasLineage, IsPlan, AnswersReference, MaySay, May, IsSound}
+use Rattle.cl_model.specs.Machine.{Setting, Scheduled, Settle, Prepare, HasLineage, IsPlan, IsPastLoad, AnswersReference, MaySay, May, IsSound}
 use Rattle.cl_model.proofs.Bind.{some_same, ok_same, value_same}
 use Rattle.cl_model.proofs.Closed.{all_left, all_right}
 use Rattle.cl_model.proofs.Planned.{one_plan, one_lineage}
@@ -20,11 +20,11 @@ use Rattle.cl_model.proofs.Derived.{all_both}
 
 -- ---- what may be settled and prepared
 
-pub may_settle : (g : Setting) (s : State) (d : Class) (i : ℕ) (v : Verdict) → IsRecorded s d → settled_to s.settled d i ≡ None → AnswersReference g s d i v → v ≢ BadEntry → v ≢ ArrayMember → May g s (Settle d i v)
-may_settle g s d i v rec free a entry member = record { recorded = rec; unsettled = free; answered = a; is_entry = entry; is_class_member = member }
+pub may_settle : (g : Setting) (s : State) (d : Class) (i : ℕ) (v : Verdict) → IsRecorded s d → settled_to s.settled d i ≡ None → AnswersReference g s d i v → IsSettling v → May g s (Settle d i v)
+may_settle g s d i v rec free a settling = record { may_keep = record { recorded = rec; unsettled = free; settling = settling }; answered = a }
 
-pub may_prepare : (g : Setting) (s : State) (c : Class) (k : Kin) → IsRecorded s c → (Contains s.prepared c → ⊥) → HasLineage g.world c k → AllByRecursion (λ (a : Above). AtHome g.world c (Contains s.prepared) a.name) (supers k.file) → AllMet s (constraints_of k) → May g s (Prepare c)
-may_prepare g s c k rec free lin above met = record { recorded = rec; unprepared = free; kin = k; lineage = lin; above = above; imposed = met }
+pub may_prepare : (g : Setting) (s : State) (c : Class) (k : Kin) → IsRecorded s c → (Contains s.prepared c → ⊥) → HasLineage g.world c k → AllAtHome g.world c (Contains s.prepared) (supers k.file) → AllMet s (constraints_of k) → May g s (Prepare c)
+may_prepare g s c k rec free lin above met = record { unprepared = free; preparable = record { recorded = rec; kin = k; lineage = lin; above = above; imposed = met } }
 
 -- ---- what a posted verdict rests on
 
@@ -36,11 +36,11 @@ request_said g s q a v sound asked said =
     subst (λ (x : Scheduled). MaySay g s x.request v) one c.may_answer
 
 pub said_is_settled : (g : Setting) (s : State) (q : ℕ) (a : Scheduled) (loader : ℕ) (name : Name) (i : ℕ) (p : Plan) (d : Class) (v : Verdict) → IsSound g s → slice_get g.script q ≡ Some a → a.request ≡ Resolve loader name i
-    → IsPlan g.world (Resolve loader name i) p → p.reached ≡ Some d → AllMet s p.own → v ≢ BadEntry → v ≢ ArrayMember → answer_to s.answers q ≡ Some (Said v) → settled_to s.settled d i ≡ Some v
-said_is_settled g s q a loader name i p d v sound asked is plan reach met entry member said =
+    → IsPlan g.world (Resolve loader name i) p → IsPastLoad s p d → IsSettling v → answer_to s.answers q ≡ Some (Said v) → settled_to s.settled d i ≡ Some v
+said_is_settled g s q a loader name i p d v sound asked is plan past settling said =
     let may : MaySay g s (Resolve loader name i) v = subst (λ (r : Request). MaySay g s r v) is (request_said g s q a v sound asked said) in
-    let same : p ≡ may.plan = one_plan g.world (Resolve loader name i) p may.plan plan may.planned in
-    may.rests d (ap (λ (x : Plan). x.reached) (sym same) ∙ reach) (subst (λ (x : Plan). AllMet s x.own) same met) entry member
+    let same : p ≡ may.answers.plan = one_plan g.world (Resolve loader name i) p may.answers.plan plan may.answers.planned in
+    may.rests d (subst (λ (x : Plan). IsPastLoad s x d) same past) settling
 
 pub linked_is_prepared : (g : Setting) (s : State) (q : ℕ) (a : Scheduled) (loader : ℕ) (name : Name) (c : Class) → IsSound g s → slice_get g.script q ≡ Some a → a.request ≡ Link loader name → answer_to s.answers q ≡ Some (Said (IsLinked c)) → Contains s.prepared c
 linked_is_prepared g s q a loader name c sound asked is said =
@@ -51,7 +51,7 @@ linked_is_prepared g s q a loader name c sound asked is said =
 
 -- the supertypes of a class that is prepared are
 abbrev AbovePrepared : World → State → Class → List Above → Type 0
-AbovePrepared w s c others = AllByRecursion (λ (a : Above). AtHome w c (Contains s.prepared) a.name) others
+AbovePrepared w s c others = AllAtHome w c (Contains s.prepared) others
 
 forest_prepared : (g : Setting) (s : State) (c : Class) (fs : Forest) (others : List Above) → IsSound g s → AbovePrepared g.world s c others → StandsFor g.world c fs others → AllByRecursion (λ (k : Kin). Contains s.prepared k.class) (postorder fs)
 forest_prepared g s c Bare others sound all h = tt

@@ -1,6 +1,6 @@
 -- A home is the first of the loaders that are asked whose own content has the name, and of those that are probed.
 use Rattle.std.proofs.Common.{◌≡◌, ℕ, zero, suc, Bool, true, false, ◌==◌, ◌||◌, if◌then◌else◌, List, [], ◌∷◌, length, Option, Some, None, option_map, refl, sym, ap, subst, ◌∙◌, slice_get}
-use Rattle.std.specs.Prelude.{nat_lt, find, option_and_then, flat_map}
+use Rattle.std.specs.Prelude.{nat_lt, find, option_and_then, flat_map, unwrap_or}
 use Rattle.std.specs.Option.{option_or}
 use Rattle.std.specs.List.{AllByRecursion}
 use Rattle.std.proofs.lemmas.List.Folds.{find-append}
@@ -10,7 +10,7 @@ use Rattle.std.proofs.lemmas.Bool.Decides.{nat_tests}
 use Rattle.std.proofs.Common.{arith}
 use Rattle.cl_classfile.specs.Files.{Name}
 use Rattle.cl_model.specs.Homes.{World, Loader, Order, ParentFirst, ChildFirst, own_home, first_home, in_order, undecided, decisive, home_at, home_below, home, is_java, is_loader}
-use Rattle.cl_model.specs.Probes.{in_turn, route_at, routed, route_below, route_from, route, is_in, first_places, probes, has_own, EachOnce}
+use Rattle.cl_model.specs.Probes.{in_turn, route_at, route_below, route_from, route, is_in, first_places, probes, has_own, EachOnce}
 use Rattle.cl_model.proofs.Homes.{first_is_loader}
 use Rattle.cl_model.proofs.Derived.{all_both}
 
@@ -60,7 +60,7 @@ at_finds w name homes routes n l None same =
     turn_finds (has_own w name) l.order (first_home homes l.parents) (own_home w n name) (flat_map routes l.parents) (n ∷ []) (first_finds (has_own w name) homes routes same l.parents) refl
 
 routed_finds : (w : World) (name : Name) (homes : ℕ → Option ℕ) (routes : ℕ → List ℕ) (n : ℕ) (o : Option Loader) → ((m : ℕ) → homes m ≡ find (has_own w name) (routes m))
-    → option_and_then (home_at w name homes n) o ≡ find (has_own w name) (routed (option_map (route_at name routes n) o))
+    → option_and_then (home_at w name homes n) o ≡ find (has_own w name) (unwrap_or (option_map (route_at name routes n) o) [])
 routed_finds w name homes routes n None same = refl
 routed_finds w name homes routes n (Some l) same = at_finds w name homes routes n l (decisive l.imports name) same
 
@@ -70,7 +70,7 @@ below_finds w name (suc n) loader = at (λ m. below_finds w name n m) (loader ==
   where
     at : ((m : ℕ) → home_below w name n m ≡ find (has_own w name) (route_below w.loaders name n m)) → (b : Bool)
         → (elim b [ true ↦ option_and_then (home_at w name (home_below w name n) n) (slice_get w.loaders n) | false ↦ home_below w name n loader ])
-        ≡ find (has_own w name) (elim b [ true ↦ routed (option_map (route_at name (route_below w.loaders name n) n) (slice_get w.loaders n)) | false ↦ route_below w.loaders name n loader ])
+        ≡ find (has_own w name) (elim b [ true ↦ unwrap_or (option_map (route_at name (route_below w.loaders name n) n) (slice_get w.loaders n)) [] | false ↦ route_below w.loaders name n loader ])
     at same true = routed_finds w name (home_below w name n) (route_below w.loaders name n) n (slice_get w.loaders n) same
     at same false = same loader
 
@@ -146,7 +146,7 @@ at_are : (w : World) (routes : ℕ → List ℕ) (n : ℕ) (l : Loader) (d : Opt
 at_are w routes n l (Some target) are own = are target
 at_are w routes n l None are own = turn_are w l.order (flat_map routes l.parents) (n ∷ []) (flat_are w routes l.parents are) (own, tt)
 
-routed_are : (w : World) (name : Name) (routes : ℕ → List ℕ) (n : ℕ) (o : Option Loader) → slice_get w.loaders n ≡ o → ((m : ℕ) → AreLoaders w (routes m)) → AreLoaders w (routed (option_map (route_at name routes n) o))
+routed_are : (w : World) (name : Name) (routes : ℕ → List ℕ) (n : ℕ) (o : Option Loader) → slice_get w.loaders n ≡ o → ((m : ℕ) → AreLoaders w (routes m)) → AreLoaders w (unwrap_or (option_map (route_at name routes n) o) [])
 routed_are w name routes n None e are = tt
 routed_are w name routes n (Some l) e are = at_are w routes n l (decisive l.imports name) are (loader_is w.loaders n l e)
 
@@ -155,7 +155,7 @@ below_are w name zero loader = tt
 below_are w name (suc n) loader = at (λ m. below_are w name n m) (loader == n)
   where
     at : ((m : ℕ) → AreLoaders w (route_below w.loaders name n m)) → (b : Bool)
-        → AreLoaders w (elim b [ true ↦ routed (option_map (route_at name (route_below w.loaders name n) n) (slice_get w.loaders n)) | false ↦ route_below w.loaders name n loader ])
+        → AreLoaders w (elim b [ true ↦ unwrap_or (option_map (route_at name (route_below w.loaders name n) n) (slice_get w.loaders n)) [] | false ↦ route_below w.loaders name n loader ])
     at are true = routed_are w name (route_below w.loaders name n) n (slice_get w.loaders n) refl are
     at are false = are loader
 

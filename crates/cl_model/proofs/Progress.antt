@@ -4,24 +4,23 @@ use Rattle.std.specs.Prelude.{option_map, flat_map, map, filter, nat_le, is_some
 use Rattle.std.specs.List.{AllByRecursion}
 use Rattle.std.proofs.lemmas.Bool.{eqb-true}
 use Rattle.std.proofs.lemmas.Cmp.{nat_eq_equiv}
-use Rattle.cl_descriptors.specs.declared.types.FieldType.{FieldType}
 use Rattle.cl_descriptors.proofs.Codec.{map_some, then_some}
-use Rattle.cl_classfile.specs.Files.{Name, File, Key, Member, Reference, ToClass, ToField, ToMethod, ToInterfaceMethod, reference, is_interface, element_name}
+use Rattle.cl_classfile.specs.Files.{Name, File, Key, Member, Reference, ToClass, ToField, ToMethod, ToInterfaceMethod, reference, is_interface}
 use Rattle.cl_model.specs.Homes.{World, home}
 use Rattle.cl_model.specs.declared.class.Class.{Class}
-use Rattle.cl_model.specs.Classes.{class, Error, Above, is_among, ClassNotFound, NoClassDef, NoSuchField, NoSuchMethod, IllegalAccess, class_accessible, file_of, misfit, superclass_of, superinterfaces_of, FitsAt, Good}
+use Rattle.cl_model.specs.Classes.{class, Error, Above, is_among, ClassNotFound, NoClassDef, NoSuchField, NoSuchMethod, IllegalAccess, file_of, misfit, superclass_of, superinterfaces_of, FitsAt, Good}
 use Rattle.cl_model.specs.Lineages.{Forest, Bare, Tree, Kin, StandsFor, IsLineage, alone, postorder, once_after, lineage, field_of, method_of, lookup_field, member_accessible, superinterfaces}
 use Rattle.cl_model.specs.Preparation.{equals_of, equals_with, class_names, takes_part, overridden, for_declared, for_inherited, inherited_from, with_inherited, constraints_of}
 use Rattle.cl_model.specs.States.{State, Need, Entry, Equal, Verdict, IsField, IsMethod, Met, AllMet, Wrong, IsNext, MayAdd, recorded, IsRecorded, added}
 use Rattle.cl_model.specs.Works.{Work, Made, done, need, ask, or_fail, unless_wrong, of_result, ◌>>=◌}
-use Rattle.cl_model.specs.Plans.{initiating, load_by, loads_above, derive_new, derive, load, resolve_class, resolve_found, resolve_field, resolve_method, resolve_member, member_target, resolve_reference, resolve, flags_of, Request, Load, Resolve, Link, loaded_by, go_on_with, Plan, plan_after, plan_from, needs_of}
+use Rattle.cl_model.specs.Plans.{initiating, load_by, loads_above, derive_new, derive, load, class_named, inaccessible, resolve_found, resolve_field, resolve_method, resolve_in, through, resolve_named, resolve, flags_of, Request, Load, Resolve, Link, loaded_by, go_on_with, Plan, plan_after, plan_from, needs_of}
 use Rattle.cl_model.specs.Machine.{Setting, Define, Initiate, May, IsClosed, HasLineage, IsPlan, step_for, after}
 use Rattle.cl_model.proofs.Bind.{pieces, some_same, or_fail_ok, result_ok, value_same}
 use Rattle.cl_model.proofs.Heights.{loaded, found, sought, grown, others_after, checked, finished, interfaces_next, superclass_next, circle_or}
 use Rattle.cl_model.proofs.Derived.{above_ok, above_good, derive_ok, derive_yields, load_ok, Yields, IsLoad, all_both}
 use Rattle.cl_model.proofs.Closed.{all_left, all_right, Stands}
 use Rattle.cl_model.proofs.Ending.{good_at_home}
-use Rattle.cl_model.proofs.Planned.{accessible, class_found, to_class, resolved, imposed, field_found, looked_up, method_found, method_sought, wrong_kind}
+use Rattle.cl_model.proofs.Planned.{resolved, imposed, field_found, looked_up, method_found, method_sought, wrong_kind}
 use Rattle.cl_model.proofs.Trees.{derive_gives, lineage_of, lineage_is_derived}
 
 -- ---- lists of needs
@@ -215,19 +214,6 @@ found_makes g s d c owner member key v =
     (λ m h n p next may. absurd (never_both n p (next_is s IsEquality (equals_of key owner.class.loader d.class.loader) n (equals_are (class_names key.descriptor) owner.class.loader d.class.loader) (subst (λ (q : List Need). IsNext s q n) (ap (λ (q : Made (Unit {0})). q.needs) (sym (some_same _ m h))) next))))
     (λ b y hy ey my. none_next g s IsEntry _ refl))
 
-class_makes : (g : Setting) (s : State) (n : ℕ) (d : Kin) (name : Name) → Makes g s IsEntry (resolve_class g.world n d name)
-class_makes g s n d name =
-    makes_then g s IsEntry (load g.world n NoClassDef d.class.loader name) (accessible d) (whole_load_makes g s IsEntry n NoClassDef d.class.loader name) (λ k x hx ex mx.
-    makes_then g s IsEntry (unless_wrong (if class_accessible k.file.flags k.class d.class then None else Some (IllegalAccess k.class))) (λ (b : Unit {0}). done k) (unless_makes g s IsEntry _) (λ b y hy ey my. none_next g s IsEntry _ refl))
-
-to_class_makes : (g : Setting) (s : State) (n : ℕ) (d : Kin) (t : FieldType) (l : List Name) → Makes g s IsEntry (to_class g.world n d t l)
-to_class_makes g s n d t [] = none_next g s IsEntry _ refl
-to_class_makes g s n d t (name ∷ more) = makes_then g s IsEntry (resolve_class g.world n d name) (class_found t) (class_makes g s n d name) (λ k x hx ex mx. none_next g s IsEntry _ refl)
-
-member_makes : (g : Setting) (s : State) (n : ℕ) (d : Kin) (o : Option Name) (member : Kin → Work Verdict) → ((c : Kin) → Makes g s IsEntry (member c)) → Makes g s IsEntry (resolve_member g.world n d o member)
-member_makes g s n d None member h = none_next g s IsEntry _ refl
-member_makes g s n d (Some name) member h = makes_then g s IsEntry (resolve_class g.world n d name) member (class_makes g s n d name) (λ c x hx ex mx. h c)
-
 field_makes : (g : Setting) (s : State) (d : Kin) (key : Key) (c : Kin) → Makes g s IsEntry (resolve_field d key c)
 field_makes g s d key c = makes_then g s IsEntry (or_fail (NoSuchField c.class) (lookup_field c key)) (field_found d key c) (or_fail_makes g s IsEntry (NoSuchField c.class) (lookup_field c key)) (λ owner x hx ex mx. found_makes g s d c owner (field_of owner key) key (IsField owner.class key))
 
@@ -236,15 +222,21 @@ method_makes g s b d key c =
     makes_then g s IsEntry (unless_wrong (wrong_kind b c)) (method_sought b d key c) (unless_makes g s IsEntry (wrong_kind b c)) (λ a x hx ex mx.
     makes_then g s IsEntry (or_fail (NoSuchMethod c.class) (looked_up b c key)) (method_found d key c) (or_fail_makes g s IsEntry (NoSuchMethod c.class) (looked_up b c key)) (λ owner y hy ey my. found_makes g s d c owner (method_of owner key) key (IsMethod owner.class key)))
 
-reference_makes : (g : Setting) (s : State) (n : ℕ) (d : Kin) (r : Reference) → Makes g s IsEntry (resolve_reference g.world n d r)
-reference_makes g s n d (ToClass t) = to_class_makes g s n d t (element_name t.base)
-reference_makes g s n d (ToField t key) = member_makes g s n d (member_target t) (resolve_field d key) (field_makes g s d key)
-reference_makes g s n d (ToMethod t key) = member_makes g s n d (member_target t) (resolve_method false d key) (method_makes g s false d key)
-reference_makes g s n d (ToInterfaceMethod t key) = member_makes g s n d (member_target t) (resolve_method true d key) (method_makes g s true d key)
+in_makes : (g : Setting) (s : State) (d c : Kin) (r : Reference) → Makes g s IsEntry (resolve_in d r c)
+in_makes g s d c (ToClass t) = none_next g s IsEntry _ refl
+in_makes g s d c (ToField t key) = field_makes g s d key c
+in_makes g s d c (ToMethod t key) = method_makes g s false d key c
+in_makes g s d c (ToInterfaceMethod t key) = method_makes g s true d key c
+
+named_makes : (g : Setting) (s : State) (n : ℕ) (d : Kin) (r : Reference) (o : Option Name) → Makes g s IsEntry (resolve_named g.world n d r o)
+named_makes g s n d r None = none_next g s IsEntry _ refl
+named_makes g s n d r (Some name) =
+    makes_then g s IsEntry (load g.world n NoClassDef d.class.loader name) (through d r) (whole_load_makes g s IsEntry n NoClassDef d.class.loader name) (λ c x hx ex mx.
+    makes_then g s IsEntry (unless_wrong (inaccessible d c)) (λ (a : Unit {0}). resolve_in d r c) (unless_makes g s IsEntry _) (λ a y hy ey my. in_makes g s d c r))
 
 resolved_makes : (g : Setting) (s : State) (n : ℕ) (d : Kin) (o : Option Reference) → Makes g s IsEntry (resolved g.world n d o)
 resolved_makes g s n d None = none_next g s IsEntry _ refl
-resolved_makes g s n d (Some r) = reference_makes g s n d r
+resolved_makes g s n d (Some r) = named_makes g s n d r (class_named r)
 
 -- a need of a resolution of a recorded class
 resolution_next : (g : Setting) (s : State) (h i : ℕ) (d : Class) (k : Kin) (m : Made Verdict) (n : Need) → IsRecorded s d → HasLineage g.world d k → resolve g.world h k i ≡ Some m → IsNext s m.needs n → MayAdd s n → May g s (step_for n)

@@ -106,8 +106,7 @@ said_alike g s p q a b v u sound x y same h k =
     let two : d.scheduled ≡ b = some_same d.scheduled b (sym d.asked ∙ y) in
     let equal : c.scheduled.request ≡ d.scheduled.request = ap (λ (z : Scheduled). z.request) one ∙ same ∙ ap (λ (z : Scheduled). z.request) (sym two) in
     one_plan_answer g s d.scheduled.request v u
-    (subst (λ (r : Request). AnswersPlan g s r v) equal (record { plan = c.may_answer.plan; planned = c.may_answer.planned; answered = c.may_answer.answered }))
-    (record { plan = d.may_answer.plan; planned = d.may_answer.planned; answered = d.may_answer.answered })
+    (subst (λ (r : Request). AnswersPlan g s r v) equal c.may_answer.answers) d.may_answer.answers
 
 -- the answer of a request that got past the load of its class is that of the reference
 pub said_reference : (g : Setting) (s : State) (q : ℕ) (a : Scheduled) (loader : ℕ) (name : Name) (i : ℕ) (p : Plan) (d : Class) (v : Verdict) → IsSound g s → slice_get g.script q ≡ Some a → a.request ≡ Resolve loader name i → IsPlan g.world (Resolve loader name i) p → p.reached ≡ Some d → AllMet s p.own → answer_to s.answers q ≡ Some (Said v) → AnswersReference g s d i v
@@ -115,8 +114,9 @@ said_reference g s q a loader name i p d v sound x is planned r met h =
     let c = sound.answered q (Said v) h in
     let one : c.scheduled ≡ a = some_same c.scheduled a (sym c.asked ∙ x) in
     let request : c.scheduled.request ≡ Resolve loader name i = ap (λ (z : Scheduled). z.request) one ∙ is in
-    let same : c.may_answer.plan ≡ p = one_plan g.world (Resolve loader name i) c.may_answer.plan p (subst (λ (y : Request). IsPlan g.world y c.may_answer.plan) request c.may_answer.planned) planned in
-    reference_answered g s loader name i p d v planned r met (subst (λ (y : Plan). Answers s (needs_of y) y.ends v) same c.may_answer.answered)
+    let a = c.may_answer.answers in
+    let same : a.plan ≡ p = one_plan g.world (Resolve loader name i) a.plan p (subst (λ (y : Request). IsPlan g.world y a.plan) request a.planned) planned in
+    reference_answered g s loader name i p d v planned r met (subst (λ (y : Plan). Answers s (needs_of y) y.ends v) same a.answered)
 
 -- ---- what has a file is spelled by its own bytes
 

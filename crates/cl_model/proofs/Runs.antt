@@ -8,7 +8,7 @@ use Rattle.std.proofs.lemmas.Bool.{eqb-true, and_parts}
 use Rattle.std.proofs.Common.{nat_eq, ◌≢◌, ◌<◌, arith, slice_index_or}
 use Rattle.std.proofs.lemmas.Cmp.{nat_eq_equiv, nat_list_eq_equiv}
 use Rattle.cl_classfile.specs.Files.{Name, same_name}
-use Rattle.cl_model.specs.States.{State, start, Record, Equality, Need, Entry, Equal, Verdict, recorded, Linked, IsPath, Joined, Violated, Met, Differs, Divides, Clashes, Refused, added, IsFresh}
+use Rattle.cl_model.specs.States.{State, start, Record, Equality, Need, Entry, Equal, Verdict, recorded, Linked, IsPath, Joined, Violated, Met, Clashes, Refused, added, IsFresh}
 use Rattle.cl_model.specs.Machine.{Setting, Step, Define, Initiate, Constrain, Settle, Prepare, Post, NextRound, Stray, May, after, state_after, Run, Answers}
 
 pub run_goes_on : (g : Setting) (s : State) (es : List Step) (e : Step) → Run g s es → May g (state_after s es) e → Run g s (es ++ e ∷ [])
@@ -77,13 +77,15 @@ violated_as s t r e v =
     record {
       name = v.name;
       one = v.one;
-      other = v.other;
       place = v.place;
-      other_place = v.other_place;
-      joined = subst (λ (x : List Equality). Joined x v.name v.one v.other) (sym e) v.joined;
       first = subst (λ (x : List Record). recorded x v.one v.name ≡ Some v.place) (sym r) v.first;
-      second = subst (λ (x : List Record). recorded x v.other v.name ≡ Some v.other_place) (sym r) v.second;
-      differ = v.differ;
+      differs = record {
+        other = v.differs.other;
+        other_place = v.differs.other_place;
+        joined = subst (λ (x : List Equality). Joined x v.name v.one v.differs.other) (sym e) v.differs.joined;
+        recorded_there = subst (λ (x : List Record). recorded x v.differs.other v.name ≡ Some v.differs.other_place) (sym r) v.differs.recorded_there;
+        differ = v.differs.differ;
+      };
     }
 
 -- ---- paths
@@ -113,7 +115,7 @@ joined_back ks name a b h = path_back ks name a h.path b h.along
 
 -- ---- what is refused stays refused
 
-differs_later : (s t : State) → IsLater s t → (name : Name) (loader place : ℕ) → Differs s name loader place → Differs t name loader place
+differs_later : (s t : State) → IsLater s t → (name : Name) (loader place : ℕ) → Clashes s (Entry loader name place) → Clashes t (Entry loader name place)
 differs_later s t l name loader place h =
     record { other = h.other; other_place = h.other_place; joined = joined_later s t l name loader h.other h.joined; recorded_there = l.records h.other h.other_place name h.recorded_there; differ = h.differ }
 
@@ -125,18 +127,20 @@ clash_later s t l (Equal name a b) h =
 -- a need that is met and clashes violates
 pub met_clash : (s : State) (n : Need) → Met s n → Clashes s n → Violated s
 met_clash s (Entry loader name place) m h =
-    record { name = name; one = loader; other = h.other; place = place; other_place = h.other_place; joined = h.joined; first = m; second = h.recorded_there; differ = h.differ }
+    record { name = name; one = loader; place = place; first = m; differs = h }
 met_clash s (Equal name a b) m h =
     record {
       name = name;
       one = h.one;
-      other = h.differs.other;
       place = h.place;
-      other_place = h.differs.other_place;
-      joined = joined_then s.equalities name h.one a h.differs.other (joined_back s.equalities name a h.one h.joined) (joined_then s.equalities name a b h.differs.other m h.differs.joined);
       first = h.recorded_there;
-      second = h.differs.recorded_there;
-      differ = h.differs.differ;
+      differs = record {
+        other = h.differs.other;
+        other_place = h.differs.other_place;
+        joined = joined_then s.equalities name h.one a h.differs.other (joined_back s.equalities name a h.one h.joined) (joined_then s.equalities name a b h.differs.other m h.differs.joined);
+        recorded_there = h.differs.recorded_there;
+        differ = h.differs.differ;
+      };
     }
 
 pub refused_later : (s t : State) → IsLater s t → (Violated t → ⊥) → (n : Need) → Refused s n → Refused t n
@@ -180,7 +184,7 @@ recorded_added rs r loader place name h =
     or_found r loader place name (find test rs) (rw (find-append test rs (r ∷ [])) at h)
 
 -- the same loader, name and place, in other words
-moved : (s : State) (name m : Name) (x y p q : ℕ) → x ≡ y → name ≡ m → p ≡ q → (other other_place : ℕ) → Joined s.equalities m y other → recorded s.records other m ≡ Some other_place → q ≢ other_place → Differs s name x p
+moved : (s : State) (name m : Name) (x y p q : ℕ) → x ≡ y → name ≡ m → p ≡ q → (other other_place : ℕ) → Joined s.equalities m y other → recorded s.records other m ≡ Some other_place → q ≢ other_place → Clashes s (Entry x name p)
 moved s name m x y p q ex em ep other other_place j r d =
     record {
       other = other;
@@ -190,16 +194,16 @@ moved s name m x y p q ex em ep other other_place j r d =
       differ = λ e. d (sym ep ∙ e);
     }
 
-entry_kept : (s : State) (loader place : ℕ) (name : Name) → Violated (added s (Entry loader name place)) → Violated s ⊎ Differs s name loader place
+entry_kept : (s : State) (loader place : ℕ) (name : Name) → Violated (added s (Entry loader name place)) → Violated s ⊎ Clashes s (Entry loader name place)
 entry_kept s loader place name v =
     elim (recorded_added s.records (record { loader = loader; name = name; place = place }) v.one v.place v.name v.first) [
-      | inl a ↦ elim (recorded_added s.records (record { loader = loader; name = name; place = place }) v.other v.other_place v.name v.second) [
-        | inl b ↦ inl (record { name = v.name; one = v.one; other = v.other; place = v.place; other_place = v.other_place; joined = v.joined; first = a; second = b; differ = v.differ })
-        | inr b ↦ inr (moved s name v.name loader v.other place v.other_place b.0 b.1 b.2 v.one v.place (joined_back s.equalities v.name v.one v.other v.joined) a (λ e. v.differ (sym e)))
+      | inl a ↦ elim (recorded_added s.records (record { loader = loader; name = name; place = place }) v.differs.other v.differs.other_place v.name v.differs.recorded_there) [
+        | inl b ↦ inl (record { name = v.name; one = v.one; place = v.place; first = a; differs = record { other = v.differs.other; other_place = v.differs.other_place; joined = v.differs.joined; recorded_there = b; differ = v.differs.differ } })
+        | inr b ↦ inr (moved s name v.name loader v.differs.other place v.differs.other_place b.0 b.1 b.2 v.one v.place (joined_back s.equalities v.name v.one v.differs.other v.differs.joined) a (λ e. v.differs.differ (sym e)))
       ]
-      | inr a ↦ elim (recorded_added s.records (record { loader = loader; name = name; place = place }) v.other v.other_place v.name v.second) [
-        | inl b ↦ inr (moved s name v.name loader v.one place v.place a.0 a.1 a.2 v.other v.other_place v.joined b v.differ)
-        | inr b ↦ absurd (v.differ (sym a.2 ∙ b.2))
+      | inr a ↦ elim (recorded_added s.records (record { loader = loader; name = name; place = place }) v.differs.other v.differs.other_place v.name v.differs.recorded_there) [
+        | inl b ↦ inr (moved s name v.name loader v.one place v.place a.0 a.1 a.2 v.differs.other v.differs.other_place v.differs.joined b v.differs.differ)
+        | inr b ↦ absurd (v.differs.differ (sym a.2 ∙ b.2))
       ]
     ]
 
@@ -269,7 +273,7 @@ path_added ks e name x (c ∷ cs) y h =
     ]
 
 -- what an equality would join divides two records
-divided : (s : State) (name m : Name) (a b x y p q : ℕ) → name ≡ m → Joined s.equalities m x a → Joined s.equalities m b y → recorded s.records x m ≡ Some p → recorded s.records y m ≡ Some q → p ≢ q → Divides s name a b
+divided : (s : State) (name m : Name) (a b x y p q : ℕ) → name ≡ m → Joined s.equalities m x a → Joined s.equalities m b y → recorded s.records x m ≡ Some p → recorded s.records y m ≡ Some q → p ≢ q → Clashes s (Equal name a b)
 divided s name m a b x y p q e j k r t d =
     record {
       one = x;
@@ -279,21 +283,21 @@ divided s name m a b x y p q e j k r t d =
       differs = moved s name m b b p p refl e refl y q k t d;
     }
 
-equal_kept_at : (s : State) (name : Name) (a b : ℕ) → (v : Violated (added s (Equal name a b))) → Through s.equalities (record { name = name; one = a; other = b }) v.name v.one v.other → Violated s ⊎ Divides s name a b
-equal_kept_at s name a b v (inl j) = inl (record { name = v.name; one = v.one; other = v.other; place = v.place; other_place = v.other_place; joined = j; first = v.first; second = v.second; differ = v.differ })
+equal_kept_at : (s : State) (name : Name) (a b : ℕ) → (v : Violated (added s (Equal name a b))) → Through s.equalities (record { name = name; one = a; other = b }) v.name v.one v.differs.other → Violated s ⊎ Clashes s (Equal name a b)
+equal_kept_at s name a b v (inl j) = inl (record { name = v.name; one = v.one; place = v.place; first = v.first; differs = record { other = v.differs.other; other_place = v.differs.other_place; joined = j; recorded_there = v.differs.recorded_there; differ = v.differs.differ } })
 equal_kept_at s name a b v (inr h) =
     elim (h.1) [
-      | inl j ↦ inl (record { name = v.name; one = v.one; other = v.other; place = v.place; other_place = v.other_place; joined = j; first = v.first; second = v.second; differ = v.differ })
+      | inl j ↦ inl (record { name = v.name; one = v.one; place = v.place; first = v.first; differs = record { other = v.differs.other; other_place = v.differs.other_place; joined = j; recorded_there = v.differs.recorded_there; differ = v.differs.differ } })
       | inr k ↦ elim k [
-        | inl x ↦ inr (divided s name v.name a b v.one v.other v.place v.other_place h.0 x.0 x.1 v.first v.second v.differ)
-        | inr x ↦ inr (divided s name v.name a b v.other v.one v.other_place v.place h.0 (joined_back s.equalities v.name a v.other x.1) (joined_back s.equalities v.name v.one b x.0) v.second v.first (λ e. v.differ (sym e)))
+        | inl x ↦ inr (divided s name v.name a b v.one v.differs.other v.place v.differs.other_place h.0 x.0 x.1 v.first v.differs.recorded_there v.differs.differ)
+        | inr x ↦ inr (divided s name v.name a b v.differs.other v.one v.differs.other_place v.place h.0 (joined_back s.equalities v.name a v.differs.other x.1) (joined_back s.equalities v.name v.one b x.0) v.differs.recorded_there v.first (λ e. v.differs.differ (sym e)))
       ]
     ]
 
 -- where adding a need violates, it clashes, or something was violated before
 pub violation_clashes : (s : State) (n : Need) → Violated (added s n) → Violated s ⊎ Clashes s n
 violation_clashes s (Entry loader name place) v = entry_kept s loader place name v
-violation_clashes s (Equal name a b) v = equal_kept_at s name a b v (path_added s.equalities (record { name = name; one = a; other = b }) v.name v.one v.joined.path v.other v.joined.along)
+violation_clashes s (Equal name a b) v = equal_kept_at s name a b v (path_added s.equalities (record { name = name; one = a; other = b }) v.name v.one v.differs.joined.path v.differs.other v.differs.joined.along)
 
 pub adds : (s : State) (n : Need) → (Clashes s n → ⊥) → (Violated s → ⊥) → Violated (added s n) → ⊥
 adds s n fits u v = elim (violation_clashes s n v) [ inl k ↦ u k | inr k ↦ fits k ]

@@ -146,11 +146,11 @@ past s n ns ends v m (inr r) = absurd (r.0.unmet m)
 
 -- what may be posted for a request may be said of it
 pub said_of : (g : Setting) (s : State) (q : ℕ) (e : Scheduled) (v : Verdict) → slice_get g.script q ≡ Some e → MayPost g s q (Said v) → MaySay g s e.request v
-said_of g s q e v asked h = subst (λ (d : Scheduled). MaySay g s d.request v) (same h.scheduled e (slice_get g.script q) h.asked asked) h.may_answer
+said_of g s q e v asked h = subst (λ (d : Scheduled). MaySay g s d.request v) (same h.scheduled e (slice_get g.script q) h.asked asked) h.fits
   where
     same : (a b : Scheduled) (o : Option Scheduled) → o ≡ Some a → o ≡ Some b → a ≡ b
     same a b o x y = cc
 
 -- and it rests on what that plan says
 pub rests_of : (g : Setting) (s : State) (q : Request) (p : Plan) (v : Verdict) → IsPlan g.world q p → MaySay g s q v → RestsOn s q p v
-rests_of g s q p v planned h = subst (λ (r : Plan). RestsOn s q r v) (one_plan g.world q h.plan p h.planned planned) h.rests
+rests_of g s q p v planned h = subst (λ (r : Plan). RestsOn s q r v) (one_plan g.world q h.answers.plan p h.answers.planned planned) h.rests

@@ -75,16 +75,16 @@ need_next g s r n needs next may = record {
 -- what may be said is what the service comes to
 pub said_comes : (g : Setting) (s : State) (r : Request) (v : Verdict) → WantsNeeds r → MaySay g s r v → ComesTo g s r v
 said_comes g s r v needs may = record {
-  plan = may.plan;
-  wants = to_stand (needs_of may.plan);
-  wanted = needs g.world may.plan may.planned;
-  over = answers_over s (needs_of may.plan) may.plan.ends v may.answered;
+  plan = may.answers.plan;
+  wants = to_stand (needs_of may.answers.plan);
+  wanted = needs g.world may.answers.plan may.answers.planned;
+  over = answers_over s (needs_of may.answers.plan) may.answers.plan.ends v may.answers.answered;
   may_say = may;
 }
 
 -- the answer of a load may be said
 pub load_comes : (g : Setting) (s : State) (loader : ℕ) (name : Name) (v : Verdict) → AnswersPlan g s (Load loader name) v → ComesTo g s (Load loader name) v
-load_comes g s loader name v a = said_comes g s (Load loader name) v (load_wants loader name) (record { plan = a.plan; planned = a.planned; answered = a.answered; rests = tt })
+load_comes g s loader name v a = said_comes g s (Load loader name) v (load_wants loader name) (record { answers = a; rests = tt })
 
 -- ---- a service
 

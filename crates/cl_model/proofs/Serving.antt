@@ -32,7 +32,7 @@ serving_is (ToPrepare c) = tt
 
 settles : (g : Setting) (s : State) (r : Request) (p : Plan) (e : Step) → Settles g s r p e → IsOfService e
 settles g s (Load loader name) p e h = absurd h
-settles g s (Resolve loader name i) p e h = subst (λ (d : Step). IsOfService d) (sym h.3.2) tt
+settles g s (Resolve loader name i) p e h = subst (λ (d : Step). IsOfService d) (sym h.2.2) tt
 settles g s (Link loader name) p e h = absurd h
 
 pub of_service : (g : Setting) (s : State) (r : Request) (e : Step) → IsNextStep g s r e → IsOfService e
@@ -61,4 +61,4 @@ pub root_not_bad : MayEnd (over service) (state_after start (Define the_root ∷
 root_not_bad h =
     not_said
     (subst (λ (p : Plan). Answers (state_after start (Define the_root ∷ [])) (needs_of p) p.ends BadEntry)
-    (one_plan service (load_of boot "java/lang/Object") h.may_say.plan plan_of_root h.may_say.planned (record { height = 3; planned = refl })) h.may_say.answered)
+    (one_plan service (load_of boot "java/lang/Object") h.may_say.answers.plan plan_of_root h.may_say.answers.planned (record { height = 3; planned = refl })) h.may_say.answers.answered)

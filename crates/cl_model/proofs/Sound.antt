@@ -2,18 +2,17 @@
 use Rattle.std.proofs.Common.{◌≡◌, ◌⊎◌, inl, inr, ℕ, ◌<◌, Bool, true, false, ◌==◌, ◌&&◌, if◌then◌else◌, List, [], ◌∷◌, ◌++◌, Option, Some, None, refl, subst, arith}
 use Rattle.std.specs.Prelude.{find, option_map, Contains}
 use Rattle.std.specs.Option.{option_or}
-use Rattle.std.specs.List.{AllByRecursion}
 use Rattle.std.proofs.lemmas.List.Folds.{find-append}
 use Rattle.std.proofs.lemmas.List.Elements.{Contains-append_left, Contains-append_cases}
 use Rattle.std.proofs.lemmas.Bool.{eqb-true, and_parts}
 use Rattle.cl_model.specs.Homes.{World}
 use Rattle.cl_model.specs.declared.class.Class.{Class}
-use Rattle.cl_model.specs.Classes.{same_class, Above, AtHome, supers}
+use Rattle.cl_model.specs.Classes.{same_class, Above, AllAtHome, supers}
 use Rattle.cl_model.specs.Preparation.{constraints_of}
 use Rattle.cl_model.specs.States.{State, start, Need, Verdict, Answer, Said, OutOfMemory, SourceFault, Settled, Posted, settled_to, answer_to, Violated, AllMet}
 use Rattle.cl_model.specs.Plans.{Request, Load, Resolve, Link, Plan, needs_of, ending}
 use Rattle.cl_model.specs.Works.{Made}
-use Rattle.cl_model.specs.Machine.{Setting, Step, Define, Initiate, Constrain, Settle, Prepare, Post, NextRound, Stray, May, after, state_after, Run, Answers, AnswersPlan, AnswersReference, MayAnswer, RestsOn, IsClosed, IsPrepared, IsSettled, IsAnswered, IsSound}
+use Rattle.cl_model.specs.Machine.{Setting, Step, Define, Initiate, Constrain, Settle, Prepare, Post, NextRound, Stray, May, after, state_after, Run, Answers, AnswersPlan, AnswersReference, MayAnswer, RestsOn, IsClosed, IsPreparable, IsSettled, IsAnswered, IsSound}
 use Rattle.cl_model.proofs.Runs.{IsLater, after_later, run_later, met_later, refused_later, answers_later, keeps, start_unviolated, stays_unviolated, one_answer, or_map, contains_one}
 use Rattle.cl_model.proofs.Complete.{is_class}
 use Rattle.cl_model.proofs.Closed.{closed_after, start_closed}
@@ -111,15 +110,14 @@ met_before s t l u (n ∷ own) more ends v (inr h) k = absurd ((refused_later s 
 
 rests_later : (s t : State) → Keeps s t → (Violated t → ⊥) → (q : Request) (p : Plan) (v : Verdict) → Answers s (needs_of p) p.ends v → RestsOn s q p v → RestsOn t q p v
 rests_later s t k u (Load loader name) p v a h = tt
-rests_later s t k u (Resolve loader name i) p v a h = λ d r met x y. k.settled d i v (h d r (met_before s t k.later u p.own p.more p.ends v a met) x y)
+rests_later s t k u (Resolve loader name i) p v a h = λ d past x. k.settled d i v (h d (past.0, met_before s t k.later u p.own p.more p.ends v a past.1) x)
 rests_later s t k u (Link loader name) p v a h = λ c e. k.prepared c (h c e)
 
 may_answer_later : (g : Setting) (s t : State) → Keeps s t → (Violated t → ⊥) → (q : Request) (a : Answer) → MayAnswer g s q a → MayAnswer g t q a
+unfolding plan_answer_later
 may_answer_later g s t k u q (Said v) h = record {
-  plan = h.plan;
-  planned = h.planned;
-  answered = answers_later s t k.later u (needs_of h.plan) h.plan.ends v h.answered;
-  rests = rests_later s t k u q h.plan v h.answered h.rests;
+  answers = plan_answer_later g s t k.later u q v h.answers;
+  rests = rests_later s t k u q h.answers.plan v h.answers.answered h.rests;
 }
 may_answer_later g s t k u q OutOfMemory h = tt
 may_answer_later g s t k u q (SourceFault name loader) h = tt
@@ -130,11 +128,11 @@ all_met_later : (s t : State) → IsLater s t → (ns : List Need) → AllMet s 
 all_met_later s t l [] h = tt
 all_met_later s t l (n ∷ ns) h = (met_later s t l n h.0, all_met_later s t l ns h.1)
 
-all_prepared_later : (w : World) (s t : State) → Keeps s t → (c : Class) (others : List Above) → AllByRecursion (λ (a : Above). AtHome w c (Contains s.prepared) a.name) others → AllByRecursion (λ (a : Above). AtHome w c (Contains t.prepared) a.name) others
+all_prepared_later : (w : World) (s t : State) → Keeps s t → (c : Class) (others : List Above) → AllAtHome w c (Contains s.prepared) others → AllAtHome w c (Contains t.prepared) others
 all_prepared_later w s t k c [] h = tt
 all_prepared_later w s t k c (a ∷ others) h = (record { place = h.0.place; found = h.0.found; holds = k.prepared _ h.0.holds }, all_prepared_later w s t k c others h.1)
 
-prepared_later : (g : Setting) (s t : State) → Keeps s t → (c : Class) → IsPrepared g s c → IsPrepared g t c
+prepared_later : (g : Setting) (s t : State) → Keeps s t → (c : Class) → IsPreparable g s c → IsPreparable g t c
 prepared_later g s t k c h = record {
   recorded = k.later.records c.loader c.loader c.name h.recorded;
   kin = h.kin;
@@ -203,7 +201,7 @@ sound_step g s (Settle d i v) may sound k closed u = record {
   unviolated = u;
   settled = λ c j x h. settled_later g s (after s (Settle d i v)) k u c j x (elim (settled_new s.settled (record { class = d; index = i; verdict = v }) c j x h) [
     | inl old ↦ sound.settled c j x old
-    | inr new ↦ subst (λ (y : Class). IsSettled g s y j x) new.0 (subst (λ (y : ℕ). IsSettled g s d y x) new.1 (subst (λ (y : Verdict). IsSettled g s d i y) new.2 (record { recorded = may.recorded; answered = may.answered })))
+    | inr new ↦ subst (λ (y : Class). IsSettled g s y j x) new.0 (subst (λ (y : ℕ). IsSettled g s d y x) new.1 (subst (λ (y : Verdict). IsSettled g s d i y) new.2 (record { recorded = may.may_keep.recorded; answered = may.answered })))
   ]);
   prepared = λ c h. prepared_later g s (after s (Settle d i v)) k c (sound.prepared c h);
   answered = λ n a h. answered_later g s (after s (Settle d i v)) k u n a (sound.answered n a h);
@@ -214,7 +212,7 @@ sound_step g s (Prepare c) may sound k closed u = record {
   settled = λ d i v h. settled_later g s (after s (Prepare c)) k u d i v (sound.settled d i v h);
   prepared = λ d h. prepared_later g s (after s (Prepare c)) k d (elim (Contains-append_cases s.prepared (c ∷ []) d h) [
     | inl old ↦ sound.prepared d old
-    | inr new ↦ subst (λ (y : Class). IsPrepared g s y) (contains_one c d new) (record { recorded = may.recorded; kin = may.kin; lineage = may.lineage; above = may.above; imposed = may.imposed })
+    | inr new ↦ subst (λ (y : Class). IsPreparable g s y) (contains_one c d new) may.preparable
   ]);
   answered = λ n a h. answered_later g s (after s (Prepare c)) k u n a (sound.answered n a h);
 }
@@ -225,7 +223,7 @@ sound_step g s (Post q a) may sound k closed u = record {
   prepared = λ c h. prepared_later g s (after s (Post q a)) k c (sound.prepared c h);
   answered = λ n b h. answered_later g s (after s (Post q a)) k u n b (elim (answer_new s.answers (record { request = q; answer = a }) n b h) [
     | inl old ↦ sound.answered n b old
-    | inr new ↦ subst (λ (y : ℕ). IsAnswered g s y b) new.0 (subst (λ (y : Answer). IsAnswered g s q y) new.1 (record { scheduled = may.scheduled; asked = may.asked; may_answer = may.may_answer }))
+    | inr new ↦ subst (λ (y : ℕ). IsAnswered g s y b) new.0 (subst (λ (y : Answer). IsAnswered g s q y) new.1 (record { scheduled = may.scheduled; asked = may.asked; may_answer = may.fits }))
   ]);
 }
 sound_step g s NextRound may sound k closed u = sound_same g s (after s NextRound) refl refl refl sound k closed u

@@ -7,13 +7,13 @@ use Rattle.cl_classfile.specs.Files.{Name, File}
 use Rattle.cl_model.specs.Homes.{World, home}
 use Rattle.cl_model.specs.declared.class.Class.{Class}
 use Rattle.cl_model.specs.Classes.{same_class, is_among, Above, AsSuperclass, AsSuperinterface, superclass_of, superinterfaces_of, supers}
-use Rattle.cl_model.specs.States.{State, Need, Entry, Linkage, AllMet, Refused, recorded}
+use Rattle.cl_model.specs.States.{State, Need, entry_for, Linkage, Keeps, AllMet, Refused, recorded}
 use Rattle.cl_model.specs.Plans.{Request, needs_of}
 use Rattle.cl_model.specs.Machine.{Setting, Step, state_after, AnswersPlan}
 use Rattle.cl_model.specs.Service.{IsNextNeed}
 use Rattle.cl_model.proofs.Bind.{some_same}
 use Rattle.cl_model.proofs.Runs.{records_stay}
-use Rattle.cl_model.specs.Frames.{Frame, wanted, Judged, Accepts, NamedAs, Keeps, KeepsAccepted, AllKept, IsFrame, IsFrames, path_of, asking, kept_of, accepting}
+use Rattle.cl_model.specs.Frames.{Frame, wanted, Judged, Accepts, NamedAs, KeepsAccepted, AllKept, IsFrame, IsFrames, path_of, asking, kept_of, accepting}
 use Rattle.cl_model.proofs.Gone.{refused_answer}
 
 -- ---- frames
@@ -87,11 +87,11 @@ path_scanned xs c = scanned xs [] c ∙ or_none (list_any (λ x. same_class c x.
 
 -- ---- what frames rest on
 
-kept_met : (s : State) (loader : ℕ) (ts : List Class) (ns : List Need) → AllMet s (map (λ t. Entry loader t.name t.loader) ts ++ ns) → AllByRecursion (Keeps s loader) ts × AllMet s ns
+kept_met : (s : State) (loader : ℕ) (ts : List Class) (ns : List Need) → AllMet s (map (entry_for loader) ts ++ ns) → AllByRecursion (Keeps s loader) ts × AllMet s ns
 kept_met s loader [] ns h = (tt, h)
 kept_met s loader (t ∷ ts) ns h = let r = kept_met s loader ts ns h.1 in ((h.0, r.0), r.1)
 
-met_kept : (s : State) (loader : ℕ) (ts : List Class) (ns : List Need) → AllByRecursion (Keeps s loader) ts → AllMet s ns → AllMet s (map (λ t. Entry loader t.name t.loader) ts ++ ns)
+met_kept : (s : State) (loader : ℕ) (ts : List Class) (ns : List Need) → AllByRecursion (Keeps s loader) ts → AllMet s ns → AllMet s (map (entry_for loader) ts ++ ns)
 met_kept s loader [] ns h m = m
 met_kept s loader (t ∷ ts) ns h m = (h.0, met_kept s loader ts ns h.1 m)
 

@@ -1,5 +1,5 @@
 -- Tables that can be trusted are consistent, and those of a run can be trusted.
-use Rattle.std.proofs.Common.{◌≡◌, ◌≢◌, ◌⊎◌, inl, inr, ℕ, Bool, true, false, ◌==◌, if◌then◌else◌, List, [], ◌∷◌, ◌++◌, Option, Some, None, Result, Ok, Err, refl, sym, ap, subst, ◌∙◌, append_assoc}
+use Rattle.std.proofs.Common.{◌≡◌, ◌⊎◌, inl, inr, ℕ, Bool, true, false, ◌==◌, if◌then◌else◌, List, [], ◌∷◌, ◌++◌, Option, Some, None, Result, Ok, Err, refl, sym, ap, subst, ◌∙◌, append_assoc}
 use Rattle.std.specs.Prelude.{option_map, find, slice_get, Contains}
 use Rattle.std.proofs.lemmas.Cmp.{nat_eq_equiv}
 use Rattle.std.proofs.lemmas.List.{append-nil}
@@ -9,11 +9,11 @@ use Rattle.cl_model.specs.Homes.{World}
 use Rattle.cl_model.specs.declared.class.Class.{Class}
 use Rattle.cl_model.specs.Classes.{class, Error, ClassNotFound}
 use Rattle.cl_model.specs.Lineages.{Kin}
-use Rattle.cl_model.specs.States.{State, start, Record, Posted, Need, Entry, Equal, Verdict, IsClass, IsArrayOf, IsArrayOfBase, IsField, IsMethod, IsLinked, BadEntry, ArrayMember, Wrong, Linkage, Answer, Said, OutOfMemory, SourceFault, recorded, settled_to, answer_to, AllMet, Clashes, added}
+use Rattle.cl_model.specs.States.{State, start, Record, Posted, Need, Entry, Equal, Verdict, IsClass, IsArrayOf, IsArrayOfBase, IsField, IsMethod, IsLinked, BadEntry, ArrayMember, Wrong, Linkage, IsSettling, Answer, Said, OutOfMemory, SourceFault, recorded, settled_to, answer_to, AllMet, Clashes, added}
 use Rattle.cl_model.specs.Works.{Made}
 use Rattle.cl_model.specs.Plans.{derive, load, Request, Load, Resolve, Link, loaded_by, go_on_with, Plan, ending, plan_after, plan_from, needs_of}
 use Rattle.cl_model.specs.Machine.{Setting, Scheduled, Step, Define, Initiate, Constrain, Settle, Prepare, Post, NextRound, Stray, IsPlan, Answers, MaySay, MayAnswer, May, after, state_after, Run, IsClosed}
-use Rattle.cl_model.specs.Tables.{Records, Bears, BearsAnswer, Allows, Orderly, IsTrusted, NoneTwice, NoneAgain, IsConsistent, Stands}
+use Rattle.cl_model.specs.Tables.{Records, Bears, BearsAnswer, Allows, Orderly, IsTrusted, EachNew, NoneRecordedTwice, NoneAnsweredTwice, IsConsistent, Stands}
 use Rattle.cl_model.proofs.Bind.{some_same, ok_same, ok_not_err, step_is}
 use Rattle.cl_model.proofs.Derived.{load_ok}
 use Rattle.cl_model.proofs.Runs.{IsLater, after_later, run_later, recorded_added, record_found, adds, violated_as, start_unviolated}
@@ -26,18 +26,14 @@ use Rattle.cl_model.proofs.Sound.{posted_stay}
 
 -- ---- steps that are allowed keep tables consistent
 
-none_twice_push : (before rs : List Record) (r : Record) → NoneTwice before rs → recorded (before ++ rs) r.loader r.name ≡ None → NoneTwice before (rs ++ r ∷ [])
-none_twice_push before [] r h fresh = (subst (λ (xs : List Record). recorded xs r.loader r.name ≡ None) (append-nil before) fresh, tt)
-none_twice_push before (x ∷ rs) r h fresh = (h.0, none_twice_push (before ++ x ∷ []) rs r h.1 (subst (λ (xs : List Record). recorded xs r.loader r.name ≡ None) (sym (append_assoc before (x ∷ []) rs)) fresh))
-
-none_again_push : (before ps : List Posted) (p : Posted) → NoneAgain before ps → answer_to (before ++ ps) p.request ≡ None → NoneAgain before (ps ++ p ∷ [])
-none_again_push before [] p h fresh = (subst (λ (xs : List Posted). answer_to xs p.request ≡ None) (append-nil before) fresh, tt)
-none_again_push before (x ∷ ps) p h fresh = (h.0, none_again_push (before ++ x ∷ []) ps p h.1 (subst (λ (xs : List Posted). answer_to xs p.request ≡ None) (sym (append_assoc before (x ∷ []) ps)) fresh))
+new_push : {A : Type 0} (IsNew : List A → A → Type 0) (before xs : List A) (x : A) → EachNew IsNew before xs → IsNew (before ++ xs) x → EachNew IsNew before (xs ++ x ∷ [])
+new_push IsNew before [] x h fresh = (subst (λ ys. IsNew ys x) (append-nil before) fresh, tt)
+new_push IsNew before (y ∷ xs) x h fresh = (h.0, new_push IsNew (before ++ y ∷ []) xs x h.1 (subst (λ ys. IsNew ys x) (sym (append_assoc before (y ∷ []) xs)) fresh))
 
 consistent_added : (s : State) (loader place : ℕ) (name : Name) → IsConsistent s → IsLater s (added s (Entry loader name place)) → (loader ≡ place ⊎ (recorded s.records place name ≡ Some place)) → recorded s.records loader name ≡ None
     → (Clashes s (Entry loader name place) → ⊥) → IsConsistent (added s (Entry loader name place))
 consistent_added s loader place name trusted later own fresh fits = record {
-  recorded_once = none_twice_push [] s.records (record { loader = loader; name = name; place = place }) trusted.recorded_once fresh;
+  recorded_once = new_push (λ front r. recorded front r.loader r.name ≡ None) [] s.records (record { loader = loader; name = name; place = place }) trusted.recorded_once fresh;
   own = λ l p n h. elim (recorded_added s.records (record { loader = loader; name = name; place = place }) l p n h) [
     | inl k ↦ later.records p p n (trusted.own l p n k)
     | inr k ↦ own_moved s (added s (Entry loader name place)) later loader place l p name n own k.0 k.1 k.2 h
@@ -49,10 +45,10 @@ consistent_added s loader place name trusted later own fresh fits = record {
 -- nothing is recorded, imposed or answered
 consistent_same : (s t : State) → t.records ≡ s.records → t.equalities ≡ s.equalities → t.answers ≡ s.answers → IsConsistent s → IsConsistent t
 consistent_same s t r e a trusted = record {
-  recorded_once = subst (λ (xs : List Record). NoneTwice [] xs) (sym r) trusted.recorded_once;
+  recorded_once = subst (λ (xs : List Record). NoneRecordedTwice [] xs) (sym r) trusted.recorded_once;
   own = subst (λ (xs : List Record). (l p : ℕ) (n : Name) → recorded xs l n ≡ Some p → recorded xs p n ≡ Some p) (sym r) trusted.own;
   unviolated = λ x. trusted.unviolated (violated_as s t (sym r) (sym e) x);
-  answered_once = subst (λ (xs : List Posted). NoneAgain [] xs) (sym a) trusted.answered_once;
+  answered_once = subst (λ (xs : List Posted). NoneAnsweredTwice [] xs) (sym a) trusted.answered_once;
 }
 
 pub consistent_after : (script : List Scheduled) (rounds : ℕ) (s : State) (e : Step) → Allows script rounds s e → IsConsistent s → IsConsistent (after s e)
@@ -70,7 +66,7 @@ consistent_after script rounds s (Post q a) may trusted = record {
   recorded_once = trusted.recorded_once;
   own = trusted.own;
   unviolated = λ x. trusted.unviolated (violated_as s (after s (Post q a)) refl refl x);
-  answered_once = none_again_push [] s.answers (record { request = q; answer = a }) trusted.answered_once may.unposted;
+  answered_once = new_push (λ front p. answer_to front p.request ≡ None) [] s.answers (record { request = q; answer = a }) trusted.answered_once may.unposted;
 }
 consistent_after script rounds s NextRound may trusted = consistent_same s (after s NextRound) refl refl refl trusted
 consistent_after script rounds s Stray may trusted = absurd may
@@ -177,32 +173,32 @@ pub one_linked : (c d : Class) → IsLinked d ≡ IsLinked c → d ≡ c
 one_linked c d h = cc
 
 -- what a settled reference would hold, or a verdict that is none
-settled_or_not : (s : State) (d : Class) (i : ℕ) (v : Verdict) → (v ≢ BadEntry → v ≢ ArrayMember → settled_to s.settled d i ≡ Some v) → (v ≡ BadEntry) ⊎ (v ≡ ArrayMember) ⊎ (settled_to s.settled d i ≡ Some v)
+settled_or_not : (s : State) (d : Class) (i : ℕ) (v : Verdict) → (IsSettling v → settled_to s.settled d i ≡ Some v) → (v ≡ BadEntry) ⊎ (v ≡ ArrayMember) ⊎ (settled_to s.settled d i ≡ Some v)
 settled_or_not s d i BadEntry h = inl refl
 settled_or_not s d i ArrayMember h = inr (inl refl)
-settled_or_not s d i (IsClass c) h = inr (inr (h (λ e. cc) (λ e. cc)))
-settled_or_not s d i (IsArrayOf n c) h = inr (inr (h (λ e. cc) (λ e. cc)))
-settled_or_not s d i (IsArrayOfBase n l) h = inr (inr (h (λ e. cc) (λ e. cc)))
-settled_or_not s d i (IsField c k) h = inr (inr (h (λ e. cc) (λ e. cc)))
-settled_or_not s d i (IsMethod c k) h = inr (inr (h (λ e. cc) (λ e. cc)))
-settled_or_not s d i (IsLinked c) h = inr (inr (h (λ e. cc) (λ e. cc)))
-settled_or_not s d i (Wrong x) h = inr (inr (h (λ e. cc) (λ e. cc)))
-settled_or_not s d i (Linkage n) h = inr (inr (h (λ e. cc) (λ e. cc)))
+settled_or_not s d i (IsClass c) h = inr (inr (h (record { is_entry = λ e. cc; is_class_member = λ e. cc })))
+settled_or_not s d i (IsArrayOf n c) h = inr (inr (h (record { is_entry = λ e. cc; is_class_member = λ e. cc })))
+settled_or_not s d i (IsArrayOfBase n l) h = inr (inr (h (record { is_entry = λ e. cc; is_class_member = λ e. cc })))
+settled_or_not s d i (IsField c k) h = inr (inr (h (record { is_entry = λ e. cc; is_class_member = λ e. cc })))
+settled_or_not s d i (IsMethod c k) h = inr (inr (h (record { is_entry = λ e. cc; is_class_member = λ e. cc })))
+settled_or_not s d i (IsLinked c) h = inr (inr (h (record { is_entry = λ e. cc; is_class_member = λ e. cc })))
+settled_or_not s d i (Wrong x) h = inr (inr (h (record { is_entry = λ e. cc; is_class_member = λ e. cc })))
+settled_or_not s d i (Linkage n) h = inr (inr (h (record { is_entry = λ e. cc; is_class_member = λ e. cc })))
 
 class_is : (d : Class) (name : Name) → d.name ≡ name → class name d.loader ≡ d
 class_is d name e = ap (λ (n : Name). class n d.loader) (sym e)
 
 -- the tables bear what may be said
 pub may_bear : (g : Setting) (s : State) (q : Request) (v : Verdict) → IsClosed g.world s → MaySay g s q v → Bears s q v
-may_bear g s (Load loader name) v closed may = λ c e.
-    answered_records g.world s (Load loader name) may.plan (λ (d : Class). IsClass d) v c (refused_no_class c) (wrong_no_class c) (one_class c) may.planned
-    (ends_for g.world (Load loader name) may.plan (λ (d : Class). IsClass d) (λ n k r h. (step_is _ r h).1) may.planned) may.answered e
+may_bear g s (Load loader name) v closed may = λ c e. let a = may.answers in
+    answered_records g.world s (Load loader name) a.plan (λ (d : Class). IsClass d) v c (refused_no_class c) (wrong_no_class c) (one_class c) a.planned
+    (ends_for g.world (Load loader name) a.plan (λ (d : Class). IsClass d) (λ n k r h. (step_is _ r h).1) a.planned) a.answered e
 may_bear g s (Resolve loader name i) v closed may = λ d rec.
-    let at = recorded_reached g.world s (Resolve loader name i) may.plan d.loader closed may.planned rec.1 in
-    settled_or_not s d i v (may.rests d (at.0 ∙ ap (λ (c : Class). Some c) (class_is d name rec.0)) at.1)
-may_bear g s (Link loader name) v closed may = λ c e. (
-  answered_records g.world s (Link loader name) may.plan (λ (d : Class). IsLinked d) v c (refused_not_linked c) (wrong_not_linked c) (one_linked c) may.planned
-      (ends_for g.world (Link loader name) may.plan (λ (d : Class). IsLinked d) (λ n k r h. (step_is _ r h).1) may.planned) may.answered e,
+    let at = recorded_reached g.world s (Resolve loader name i) may.answers.plan d.loader closed may.answers.planned rec.1 in
+    settled_or_not s d i v (may.rests d (at.0 ∙ ap (λ (c : Class). Some c) (class_is d name rec.0), at.1))
+may_bear g s (Link loader name) v closed may = λ c e. let a = may.answers in (
+  answered_records g.world s (Link loader name) a.plan (λ (d : Class). IsLinked d) v c (refused_not_linked c) (wrong_not_linked c) (one_linked c) a.planned
+      (ends_for g.world (Link loader name) a.plan (λ (d : Class). IsLinked d) (λ n k r h. (step_is _ r h).1) a.planned) a.answered e,
   may.rests c e,
 )
 
@@ -215,14 +211,14 @@ pub may_allows : (g : Setting) (s : State) (e : Step) → IsClosed g.world s →
 may_allows g s (Define c) closed may = record { fresh = unmet_is_fresh g.world s c.loader c.loader c.name closed may.at_home may.may_add.unmet; fits = may.may_add.fits }
 may_allows g s (Initiate name place loader) closed may = (may.defined, record { fresh = unmet_is_fresh g.world s loader place name closed may.found may.may_add.unmet; fits = may.may_add.fits })
 may_allows g s (Constrain name a b) closed may = may.may_add
-may_allows g s (Settle d i v) closed may = record { recorded = may.recorded; unsettled = may.unsettled; is_entry = may.is_entry; is_class_member = may.is_class_member }
-may_allows g s (Prepare c) closed may = (may.recorded, may.unprepared)
+may_allows g s (Settle d i v) closed may = may.may_keep
+may_allows g s (Prepare c) closed may = (may.preparable.recorded, may.unprepared)
 may_allows g s (Post q a) closed may = record {
   scheduled = may.scheduled;
   asked = may.asked;
   in_round = may.in_round;
   unposted = may.unposted;
-  bears = answer_borne g s may.scheduled.request a closed may.may_answer;
+  fits = answer_borne g s may.scheduled.request a closed may.fits;
 }
 may_allows g s NextRound closed may = may
 may_allows g s Stray closed may = may
@@ -318,7 +314,7 @@ told_there : (script : List Scheduled) (rounds : ℕ) (es fs : List Step) (q : �
 told_there script rounds es fs q a r trusted asked =
     let may = (trusted_parts script rounds es (Post q a ∷ fs) trusted).1.0 in
     let same : may.scheduled ≡ r = some_same may.scheduled r (sym may.asked ∙ asked) in
-    (subst (λ (x : Scheduled). BearsAnswer (state_after start es) x.request a) same may.bears, ap (λ (x : Scheduled). x.round) (sym same) ∙ may.in_round)
+    (subst (λ (x : Scheduled). BearsAnswer (state_after start es) x.request a) same may.fits, ap (λ (x : Scheduled). x.round) (sym same) ∙ may.in_round)
 
 pub told_in_round : (script : List Scheduled) (rounds : ℕ) (es fs : List Step) (q : ℕ) (a : Answer) (r : Scheduled) → IsTrusted script rounds (es ++ Post q a ∷ fs) → slice_get script q ≡ Some r → r.round ≡ (state_after start es).round
 told_in_round script rounds es fs q a r trusted asked = (told_there script rounds es fs q a r trusted asked).1
@@ -328,11 +324,11 @@ told_is_recorded script rounds es fs q r loader name c trusted asked is =
     subst (λ (x : Request). BearsAnswer (state_after start es) x (Said (IsClass c))) is (told_there script rounds es fs q (Said (IsClass c)) r trusted asked).0 c refl
 
 pub told_is_settled : (script : List Scheduled) (rounds : ℕ) (es fs : List Step) (q : ℕ) (r : Scheduled) (loader : ℕ) (name : Name) (i : ℕ) (d : Class) (v : Verdict) → IsTrusted script rounds (es ++ Post q (Said v) ∷ fs) → slice_get script q ≡ Some r → r.request ≡ Resolve loader name i
-    → Records (state_after start es) loader name d → v ≢ BadEntry → v ≢ ArrayMember → settled_to (state_after start es).settled d i ≡ Some v
-told_is_settled script rounds es fs q r loader name i d v trusted asked is rec entry member =
+    → Records (state_after start es) loader name d → IsSettling v → settled_to (state_after start es).settled d i ≡ Some v
+told_is_settled script rounds es fs q r loader name i d v trusted asked is rec settling =
     elim (subst (λ (x : Request). BearsAnswer (state_after start es) x (Said v)) is (told_there script rounds es fs q (Said v) r trusted asked).0 d rec) [
-      | inl e ↦ absurd (entry e)
-      | inr k ↦ elim k [ inl e ↦ absurd (member e) | inr h ↦ h ]
+      | inl e ↦ absurd (settling.is_entry e)
+      | inr k ↦ elim k [ inl e ↦ absurd (settling.is_class_member e) | inr h ↦ h ]
     ]
 
 pub told_is_prepared : (script : List Scheduled) (rounds : ℕ) (es fs : List Step) (q : ℕ) (r : Scheduled) (loader : ℕ) (name : Name) (c : Class) → IsTrusted script rounds (es ++ Post q (Said (IsLinked c)) ∷ fs) → slice_get script q ≡ Some r → r.request ≡ Link loader name

@@ -118,6 +118,10 @@ pub record AtHome (w : World) (c : Class) (P : Class → Type 0) (name : Name) :
   pub found : home w c.loader name ≡ Some place
   pub holds : P (class name place)
 
+-- each of these supertypes of c has a home, at which P holds of it (5.3.1, 5.3.2)
+abbrev pub AllAtHome : World → Class → (Class → Type 0) → List Above → Type 0
+AllAtHome w c P others = AllByRecursion (λ (a : Above). AtHome w c P a.name) others
+
 -- a class is of file f, and a supertype of c does or does not fit in its role (5.3.5, steps 3 and 4)
 pub record Fitting (w : World) (c : Class) (role : Role) (wrong : Option Error) (s : Class) : Type 0 where
   pub file : File
@@ -177,3 +181,9 @@ IsWalk w path c (s ∷ steps) x = (is_among path c ≡ false) × Next w c s × I
 pub record Returns (w : World) (path : List Class) (c x : Class) : Type 0 where
   pub steps : List Class
   pub along : IsWalk w path c steps x
+
+-- a load ends in a circle of the class x: its home's walk along first supertypes that are not good meets x again (5.3.5, step 3)
+pub record EndsInCircle (w : World) (loader : ℕ) (name : Name) (x : Class) : Type 0 where
+  pub place : ℕ
+  pub found : home w loader name ≡ Some place
+  pub returns : Returns w [] (class name place) x

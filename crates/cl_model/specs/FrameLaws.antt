@@ -5,18 +5,18 @@ use Rattle.cl_classfile.specs.Files.{Name, File}
 use Rattle.cl_model.specs.Homes.{World, home}
 use Rattle.cl_model.specs.declared.class.Class.{Class}
 use Rattle.cl_model.specs.Classes.{class, same_class, is_among, Error, ClassCircularity, file_of, Above, supers}
-use Rattle.cl_model.specs.States.{State, Need, Entry, Verdict, Wrong, Linkage, recorded, AllMet, IsRecorded, Refused}
+use Rattle.cl_model.specs.States.{State, Need, Entry, entry_for, Verdict, Wrong, Linkage, recorded, Keeps, AllMet, IsRecorded, Refused}
 use Rattle.cl_model.specs.Plans.{Request}
 use Rattle.cl_model.specs.Machine.{Setting, Step, state_after, AnswersPlan, IsClosed}
 use Rattle.cl_model.specs.Service.{IsNextNeed}
-use Rattle.cl_model.specs.Frames.{Frame, wanted, Judged, Accepts, NamedAs, Keeps, KeepsAccepted, AllKept, IsFrame, IsFrames, path_of, asking, absent_under, EndsHere, Under, kept_of, accepting}
+use Rattle.cl_model.specs.Frames.{Frame, wanted, Judged, Accepts, NamedAs, KeepsAccepted, AllKept, IsFrame, IsFrames, path_of, asking, absent_under, EndsHere, Under, kept_of, accepting}
 use Rattle.cl_model.specs.Measures.{left_loading, left_ended}
 
 -- where all supertypes of what is loaded now are accepted, its own record is the need that comes next (5.3.5)
 abbrev pub CompleteIsNext : Type 0
 CompleteIsNext =
     (w : World) (s : State) (r : Request) (absent : Class → Error) (xs : List Frame) (x : Frame) (at_loader : ℕ) → IsClosed w s → Under w s r absent xs at_loader x.class.name
-    → IsFrame w (path_of [] xs) at_loader x.class.name x → KeepsAccepted s x → wanted x ≡ None → IsNextNeed w s r (Entry x.class.loader x.class.name x.class.loader)
+    → IsFrame w (path_of [] xs) at_loader x.class.name x → KeepsAccepted s x → wanted x ≡ None → IsNextNeed w s r (entry_for x.class.loader x.class)
 
 -- where what is loaded now is recorded at its home, the record of the loader that asked is the need that comes next (5.3)
 abbrev pub DefinedIsNext : Type 0

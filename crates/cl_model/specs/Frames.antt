@@ -1,13 +1,12 @@
 -- Classes that wait for their direct supertypes, each at its own loader, from a request's class to what is loaded now (JVMS SE 8, 5.3, 5.3.5).
 use Rattle.std.specs.Prelude.{◌≡◌, ◌⊎◌, ℕ, false, List, [], ◌∷◌, ◌++◌, length, map, Option, Some, None, slice_get}
 use Rattle.std.specs.List.{AllByRecursion}
-use Rattle.cl_classfile.specs.Files.{Name, File, element_name, Reference, ToClass, ToField, ToMethod, ToInterfaceMethod, reference}
+use Rattle.cl_classfile.specs.Files.{Name, File}
 use Rattle.cl_model.specs.Homes.{World, home}
 use Rattle.cl_model.specs.declared.class.Class.{Class}
 use Rattle.cl_model.specs.Classes.{class, is_among, Error, ClassNotFound, NoClassDef, IsAtHome, Role, Above, supers, HasFile, Fitting}
-use Rattle.cl_model.specs.Lineages.{first}
-use Rattle.cl_model.specs.States.{State, Need, Entry, Verdict, recorded, Met, AllMet}
-use Rattle.cl_model.specs.Plans.{member_target, Request, Resolve, loaded_by, Plan, needs_of}
+use Rattle.cl_model.specs.States.{State, Need, entry_for, Verdict, recorded, Keeps, AllMet}
+use Rattle.cl_model.specs.Plans.{CitesClass, Request, Resolve, loaded_by, Plan, needs_of}
 use Rattle.cl_model.specs.Machine.{IsPlan}
 
 -- a class that is being derived, its file, and the classes that were accepted as its first direct supertypes (5.3.5, steps 3 and 4)
@@ -35,10 +34,6 @@ abbrev pub NamedAs : List Class → List Above → Type 0
 NamedAs [] others = Unit {0}
 NamedAs (t ∷ ts) [] = ⊥
 NamedAs (t ∷ ts) (a ∷ others) = (t.name ≡ a.name) × NamedAs ts others
-
--- a loader records a class (5.3)
-abbrev pub Keeps : State → ℕ → Class → Type 0
-Keeps s loader t = Met s (Entry loader t.name t.loader)
 
 -- what a frame has accepted is recorded by its class's loader (5.3, 5.3.5)
 abbrev pub KeepsAccepted : State → Frame → Type 0
@@ -85,13 +80,6 @@ pub record EndsHere (w : World) (s : State) (r : Request) (v : Verdict) : Type 0
   pub met : AllMet s (needs_of plan)
   pub ends : plan.ends ≡ v
 
--- the class that a reference names, if it names one (5.4.3.1 to 5.4.3.4)
-abbrev pub class_named : Reference → Option Name
-class_named (ToClass t) = first (element_name t.base)
-class_named (ToField t key) = member_target t
-class_named (ToMethod t key) = member_target t
-class_named (ToInterfaceMethod t key) = member_target t
-
 -- a request resolves a reference that names a class, and the class of the reference is recorded where it asks (5.4.3.1)
 pub record OfReference (w : World) (s : State) (r : Request) (loader : ℕ) (name : Name) : Type 0 where
   pub through : ℕ
@@ -101,9 +89,7 @@ pub record OfReference (w : World) (s : State) (r : Request) (loader : ℕ) (nam
   pub kept : recorded s.records through asked ≡ Some loader
   pub file : File
   pub has_file : HasFile w (class asked loader) file
-  pub cited : Reference
-  pub found : reference file index ≡ Some cited
-  pub names : class_named cited ≡ Some name
+  pub cites : CitesClass file index name
 
 -- a request loads this through this loader: its own class, or that of its reference; what is absent is this error (5.3.1, 5.3.5, 5.4.3.1)
 abbrev pub Starts : World → State → Request → (Class → Error) → ℕ → Name → Type 0
@@ -122,7 +108,7 @@ pub record Under (w : World) (s : State) (r : Request) (absent : Class → Error
 -- the records that frames rest on, as needs (5.3, 5.3.5)
 abbrev pub kept_of : List Frame → List Need
 kept_of [] = []
-kept_of (x ∷ xs) = map (λ t. Entry x.class.loader t.name t.loader) x.accepted ++ kept_of xs
+kept_of (x ∷ xs) = map (entry_for x.class.loader) x.accepted ++ kept_of xs
 
 -- one supertype more is accepted (5.3.5, steps 3 and 4)
 abbrev pub accepting : Frame → Class → Frame

@@ -5,15 +5,15 @@ use Rattle.cl_model.specs.Homes.{World, home, is_loader}
 use Rattle.cl_model.specs.Probes.{probes, route, has_own, EachOnce}
 use Rattle.cl_model.specs.declared.class.Class.{Class}
 use Rattle.cl_model.specs.Preparation.{constraints_of}
-use Rattle.cl_model.specs.Classes.{class, is_among, Above, AtHome, supers, Error, ClassCircularity, HasFile, IsAtHome, Good, IsGood, Fails, Circular, Next, Returns}
+use Rattle.cl_model.specs.Classes.{class, is_among, AllAtHome, supers, Error, ClassCircularity, HasFile, IsAtHome, Good, IsGood, Fails, Circular, Next, Returns, EndsInCircle}
 use Rattle.cl_model.specs.Lineages.{Kin, IsLineage, classes, lineage}
 use Rattle.cl_model.specs.Ancestors.{EachClassOnce, SupersFirst}
 use Rattle.cl_model.specs.Works.{Made}
 use Rattle.cl_model.specs.Plans.{derive, load, Load, Request, Plan, Resolve, Link, loaded_by, needs_of, cost}
-use Rattle.cl_model.specs.States.{State, start, Entry, Equal, IsClass, Answer, settled_to, answer_to, IsFresh, Clashes, added, Need, Verdict, recorded, Violated, Met, AllMet, IsRecorded, IsLinked, BadEntry, ArrayMember, MayAdd, Said, Wrong, Linkage, IsNext}
+use Rattle.cl_model.specs.States.{State, start, Entry, Equal, IsClass, Answer, settled_to, answer_to, IsFresh, Clashes, added, Need, Verdict, IsSettling, IsLinkageError, recorded, Violated, Met, AllMet, IsRecorded, IsLinked, MayAdd, Said, Wrong, IsNext}
 use Rattle.cl_model.specs.Progress.{Takes}
 use Rattle.cl_model.specs.Service.{IsNextNeed, IsNextStep, ComesTo, MayEnd, IsBegun, Serves, PassesRounds, AllServed, IsLinkedIn}
-use Rattle.cl_model.specs.Machine.{Setting, Scheduled, Step, Post, Settle, Prepare, May, state_after, Run, Answers, IsClosed, IsSound, after, AnswersPlan, AnswersReference, MaySay, IsPlan, HasLineage, IsResolution, step_for, MaySettle, MayGoOn, MayConstrain, Imposes}
+use Rattle.cl_model.specs.Machine.{Setting, Scheduled, Step, Post, Settle, Prepare, May, state_after, Run, Answers, IsClosed, IsSound, after, AnswersPlan, AnswersReference, MaySay, IsPlan, IsPastLoad, HasLineage, IsResolution, step_for, MaySettle, MayGoOn, MayConstrain, Imposes}
 use Rattle.std.specs.List.{AllByRecursion}
 use Rattle.cl_model.specs.Content.{content_at}
 use Rattle.cl_model.specs.declared.event.Event as events
@@ -309,19 +309,19 @@ ResolveNeedIsNext = (g : Setting) (s : State) (loader : ℕ) (name : Name) (i : 
 -- past its load a resolution settles its reference next, where that may be settled (5.4.3)
 abbrev pub SettleIsNext : Type 0
 SettleIsNext =
-    (g : Setting) (s : State) (loader : ℕ) (name : Name) (i : ℕ) (p : Plan) (d : Class) (v : Verdict) → IsPlan g.world (Resolve loader name i) p → p.reached ≡ Some d → AllMet s p.own
+    (g : Setting) (s : State) (loader : ℕ) (name : Name) (i : ℕ) (p : Plan) (d : Class) (v : Verdict) → IsPlan g.world (Resolve loader name i) p → IsPastLoad s p d
     → MaySettle g s d i v → IsNextStep g s (Resolve loader name i) (Settle d i v)
 
 -- past its load a link imposes next what comes next of the constraints of a class of the lineage all before which are linked (5.4, 5.4.2)
 abbrev pub LinkNeedIsNext : Type 0
 LinkNeedIsNext =
-    (g : Setting) (s : State) (loader : ℕ) (name : Name) (p : Plan) (c : Class) (l k : Kin) (before behind : List Kin) (n : Need) → IsPlan g.world (Link loader name) p → p.reached ≡ Some c → AllMet s p.own
+    (g : Setting) (s : State) (loader : ℕ) (name : Name) (p : Plan) (c : Class) (l k : Kin) (before behind : List Kin) (n : Need) → IsPlan g.world (Link loader name) p → IsPastLoad s p c
     → HasLineage g.world c l → lineage l ≡ before ++ k ∷ behind → AllByRecursion (IsLinkedIn s) before → IsNext s (constraints_of k) n → MayAdd s n → IsNextStep g s (Link loader name) (step_for n)
 
 -- and prepares that class next once its constraints are imposed, unless it is prepared (5.4, 5.4.2)
 abbrev pub PrepareIsNext : Type 0
 PrepareIsNext =
-    (g : Setting) (s : State) (loader : ℕ) (name : Name) (p : Plan) (c : Class) (l k : Kin) (before behind : List Kin) → IsPlan g.world (Link loader name) p → p.reached ≡ Some c → AllMet s p.own
+    (g : Setting) (s : State) (loader : ℕ) (name : Name) (p : Plan) (c : Class) (l k : Kin) (before behind : List Kin) → IsPlan g.world (Link loader name) p → IsPastLoad s p c
     → HasLineage g.world c l → lineage l ≡ before ++ k ∷ behind → AllByRecursion (IsLinkedIn s) before → AllMet s (constraints_of k) → (Contains s.prepared k.class → ⊥) → IsNextStep g s (Link loader name) (Prepare k.class)
 
 -- a load that has an answer comes to it (5.3, 5.3.5)
@@ -348,11 +348,11 @@ NoRoundLeft = (g : Setting) (q : ℕ) (s : State) (rs : List Scheduled) (es : Li
 
 -- a load is answered a circle only where its home is circular, of the class that its walk meets again (5.3.5, step 3)
 abbrev pub CircleIsAnswered : Type 0
-CircleIsAnswered = (g : Setting) (s : State) (l : ℕ) (name : Name) (x : Class) → AnswersPlan g s (Load l name) (Wrong (ClassCircularity x)) → (place : ℕ) × (home g.world l name ≡ Some place) × Returns g.world [] (class name place) x
+CircleIsAnswered = (g : Setting) (s : State) (l : ℕ) (name : Name) (x : Class) → AnswersPlan g s (Load l name) (Wrong (ClassCircularity x)) → EndsInCircle g.world l name x
 
 -- a load whose home is circular is answered so, unless a need before is refused (5.3.5, step 3)
 abbrev pub CircularIsAnswered : Type 0
-CircularIsAnswered = (g : Setting) (s : State) (l place : ℕ) (name : Name) (x : Class) (v : Verdict) → home g.world l name ≡ Some place → Returns g.world [] (class name place) x → AnswersPlan g s (Load l name) v → (v ≡ Wrong (ClassCircularity x)) ⊎ ((n : Need) × (v ≡ Linkage n))
+CircularIsAnswered = (g : Setting) (s : State) (l : ℕ) (name : Name) (x : Class) (v : Verdict) → EndsInCircle g.world l name x → AnswersPlan g s (Load l name) v → (v ≡ Wrong (ClassCircularity x)) ⊎ IsLinkageError v
 
 -- the first part of a service that was begun is one
 abbrev pub PartBegins : Type 0
@@ -376,45 +376,45 @@ SaidAlike = (g : Setting) (s : State) (p q : ℕ) (a b : Scheduled) (v u : Verdi
 
 -- the answer of a request that got past the load of its class is that of the reference, which has one (5.4.3)
 abbrev pub SaidReference : Type 0
-SaidReference = (g : Setting) (s : State) (q : ℕ) (a : Scheduled) (loader : ℕ) (name : Name) (i : ℕ) (p : Plan) (d : Class) (v : Verdict) → IsSound g s → slice_get g.script q ≡ Some a → a.request ≡ Resolve loader name i → IsPlan g.world (Resolve loader name i) p → p.reached ≡ Some d → AllMet s p.own → answer_to s.answers q ≡ Some (Said v) → AnswersReference g s d i v
+SaidReference = (g : Setting) (s : State) (q : ℕ) (a : Scheduled) (loader : ℕ) (name : Name) (i : ℕ) (p : Plan) (d : Class) (v : Verdict) → IsSound g s → slice_get g.script q ≡ Some a → a.request ≡ Resolve loader name i → IsPlan g.world (Resolve loader name i) p → IsPastLoad s p d → answer_to s.answers q ≡ Some (Said v) → AnswersReference g s d i v
 
 -- past its load the answer of a resolution is that of the reference (5.4.3)
 abbrev pub PlanIsReference : Type 0
 PlanIsReference =
-    (g : Setting) (s : State) (loader : ℕ) (name : Name) (i : ℕ) (p : Plan) (d : Class) (v : Verdict) → IsPlan g.world (Resolve loader name i) p → p.reached ≡ Some d → AllMet s p.own
+    (g : Setting) (s : State) (loader : ℕ) (name : Name) (i : ℕ) (p : Plan) (d : Class) (v : Verdict) → IsPlan g.world (Resolve loader name i) p → IsPastLoad s p d
     → AnswersPlan g s (Resolve loader name i) v → AnswersReference g s d i v
 
 -- past the load of a resolution the answer of the reference is its own (5.4.3)
 abbrev pub ReferenceIsPlan : Type 0
 ReferenceIsPlan =
-    (g : Setting) (s : State) (loader : ℕ) (name : Name) (i : ℕ) (p : Plan) (d : Class) (v : Verdict) → IsPlan g.world (Resolve loader name i) p → p.reached ≡ Some d → AllMet s p.own
+    (g : Setting) (s : State) (loader : ℕ) (name : Name) (i : ℕ) (p : Plan) (d : Class) (v : Verdict) → IsPlan g.world (Resolve loader name i) p → IsPastLoad s p d
     → AnswersReference g s d i v → AnswersPlan g s (Resolve loader name i) v
 
 -- where a loader records the class of a request, its plan reaches that class, past its load (5.3)
 abbrev pub RecordedIsReached : Type 0
 RecordedIsReached =
     (w : World) (s : State) (q : Request) (p : Plan) (place : ℕ) → IsClosed w s → IsPlan w q p → recorded s.records (loaded_by q).loader (loaded_by q).name ≡ Some place
-    → (p.reached ≡ Some (class (loaded_by q).name place)) × AllMet s p.own
+    → IsPastLoad s p (class (loaded_by q).name place)
 
 -- past the load of a request its loader records the class that is reached (5.3)
 abbrev pub ReachedIsRecorded : Type 0
-ReachedIsRecorded = (w : World) (s : State) (q : Request) (p : Plan) (d : Class) → IsPlan w q p → p.reached ≡ Some d → AllMet s p.own → Records s (loaded_by q).loader (loaded_by q).name d
+ReachedIsRecorded = (w : World) (s : State) (q : Request) (p : Plan) (d : Class) → IsPlan w q p → IsPastLoad s p d → Records s (loaded_by q).loader (loaded_by q).name d
 
 -- an answered reference of a recorded class that is not settled may be, unless its verdict is none that is (5.4.3)
 abbrev pub AnsweredMaySettle : Type 0
-AnsweredMaySettle = (g : Setting) (s : State) (d : Class) (i : ℕ) (v : Verdict) → IsRecorded s d → settled_to s.settled d i ≡ None → AnswersReference g s d i v → v ≢ BadEntry → v ≢ ArrayMember → May g s (Settle d i v)
+AnsweredMaySettle = (g : Setting) (s : State) (d : Class) (i : ℕ) (v : Verdict) → IsRecorded s d → settled_to s.settled d i ≡ None → AnswersReference g s d i v → IsSettling v → May g s (Settle d i v)
 
 -- a recorded class that is not prepared may be, once its constraints are imposed and its supertypes are prepared (5.4.2)
 abbrev pub ImposedMayPrepare : Type 0
 ImposedMayPrepare =
-    (g : Setting) (s : State) (c : Class) (k : Kin) → IsRecorded s c → (Contains s.prepared c → ⊥) → HasLineage g.world c k → AllByRecursion (λ (a : Above). AtHome g.world c (Contains s.prepared) a.name) (supers k.file)
+    (g : Setting) (s : State) (c : Class) (k : Kin) → IsRecorded s c → (Contains s.prepared c → ⊥) → HasLineage g.world c k → AllAtHome g.world c (Contains s.prepared) (supers k.file)
     → AllMet s (constraints_of k) → May g s (Prepare c)
 
 -- in a sound state what was said of a resolution past its load is what the reference is settled to (5.4.3)
 abbrev pub SaidIsSettled : Type 0
 SaidIsSettled =
     (g : Setting) (s : State) (q : ℕ) (a : Scheduled) (loader : ℕ) (name : Name) (i : ℕ) (p : Plan) (d : Class) (v : Verdict) → IsSound g s → slice_get g.script q ≡ Some a → a.request ≡ Resolve loader name i
-    → IsPlan g.world (Resolve loader name i) p → p.reached ≡ Some d → AllMet s p.own → v ≢ BadEntry → v ≢ ArrayMember → answer_to s.answers q ≡ Some (Said v) → settled_to s.settled d i ≡ Some v
+    → IsPlan g.world (Resolve loader name i) p → IsPastLoad s p d → IsSettling v → answer_to s.answers q ≡ Some (Said v) → settled_to s.settled d i ≡ Some v
 
 -- in a sound state a class that was said to be linked is prepared (5.4)
 abbrev pub LinkedIsPrepared : Type 0

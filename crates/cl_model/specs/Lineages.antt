@@ -5,6 +5,7 @@ use Rattle.std.specs.List.{list_any}
 use Rattle.cl_classfile.specs.Files.{File, Key, Member, member, is_public, is_private, is_protected, is_static, is_abstract}
 use Rattle.cl_model.specs.declared.class.Class.{Class}
 use Rattle.cl_model.specs.Homes.{World, home}
+use Rattle.cl_model.specs.Once.{firsts}
 use Rattle.cl_model.specs.Classes.{same_class, is_among, same_package, Above, HasFile, misfit, superclass_of, superinterfaces_of}
 
 -- a list of classes, each with its superclass (of one class or none) and its direct superinterfaces (5.3.5)
@@ -66,8 +67,7 @@ preorder (Tree c f sup ints others) wanted =
 
 -- each class at its first place alone, after those that were seen
 abbrev pub once_after : List Class → List Kin → List Kin
-once_after seen [] = []
-once_after seen (k ∷ ks) = if is_among seen k.class then once_after seen ks else k ∷ once_after (k.class ∷ seen) ks
+once_after seen ks = firsts (λ k. k.class) is_among seen ks
 
 -- each class at its first place alone, from the front
 abbrev pub once : List Kin → List Kin

@@ -1,6 +1,8 @@
 -- The printed line of each event and answer, each loader by its name (docs/FORMATS.md; the words of errors are those of JVMS SE 8, 5.3 to 5.4.4).
 use Rattle.std.specs.Prelude.{ℕ, ◌+◌, List, [], ◌∷◌, ◌++◌, codes, Option, Some, None, slice_get, unwrap_or}
 use Rattle.std.specs.Fmt.{decimal}
+use Rattle.std.specs.List.{join_with_byte}
+use Rattle.std.specs.Option.{option_map_or}
 use Rattle.cl_names.specs.Escape.{escaped}
 use Rattle.cl_descriptors.specs.Types.{spelling_of_field, spelling_of_method}
 use Rattle.cl_descriptors.specs.declared.types.Descriptor.{Descriptor}
@@ -17,26 +19,36 @@ Text = List ℕ
 
 -- words, with a space between each two
 abbrev pub words : List Text → Text
-words [] = []
-words (a ∷ []) = a
-words (a ∷ b ∷ more) = a ++ (codes " " ++ words (b ∷ more))
+words texts = join_with_byte 0x20 texts
 
 -- a loader's name, among those of all loaders in order
 abbrev pub loader_text : List Text → ℕ → Text
 loader_text names loader = unwrap_or (slice_get names loader) []
 
--- `N@M`: a class by its binary name and its defining loader (5.3)
+-- `N@M`: a name and a loader's name
+abbrev pub located : Name → Text → Text
+located name loader = escaped name ++ (codes "@" ++ loader)
+
+-- a class by its binary name and its defining loader (5.3)
 abbrev pub class_text : List Text → Class → Text
-class_text names c = escaped c.name ++ (codes "@" ++ loader_text names c.loader)
+class_text names c = located c.name (loader_text names c.loader)
 
 -- the bytes of a descriptor (4.3)
 abbrev pub spelling_of : Descriptor → Name
 spelling_of (descriptors.Field t) = spelling_of_field t
 spelling_of (descriptors.Method t) = spelling_of_method t
 
+-- a member's name and its descriptor (4.5, 4.6)
+abbrev pub key_texts : Key → List Text
+key_texts key = escaped key.name ∷ escaped (spelling_of key.descriptor) ∷ []
+
 -- the class that declares a member, its name and its descriptor (4.5, 4.6)
 abbrev pub member_texts : List Text → Class → Key → List Text
-member_texts names c key = class_text names c ∷ escaped key.name ∷ escaped (spelling_of key.descriptor) ∷ []
+member_texts names c key = class_text names c ∷ key_texts key
+
+-- the name of an equality and its two loaders (5.3.4)
+abbrev pub equality_texts : List Text → Name → ℕ → ℕ → List Text
+equality_texts names name a b = escaped name ∷ loader_text names a ∷ loader_text names b ∷ []
 
 -- the words of an error: its name and its subject (5.3.5, 5.4.3, 5.4.4)
 abbrev pub error_texts : List Text → Error → List Text
@@ -53,7 +65,7 @@ error_texts names (NoSuchMethod c) = codes "NoSuchMethodError" ∷ class_text na
 -- the words of a refused need; a refused record names the loader that was asked (5.3.4)
 abbrev pub need_texts : List Text → Need → List Text
 need_texts names (Entry loader name place) = codes "record" ∷ class_text names (class name loader) ∷ []
-need_texts names (Equal name a b) = codes "equal" ∷ escaped name ∷ loader_text names a ∷ loader_text names b ∷ []
+need_texts names (Equal name a b) = codes "equal" ∷ equality_texts names name a b
 
 -- the words of a verdict (5.4.3)
 abbrev pub verdict_texts : List Text → Verdict → List Text
@@ -90,9 +102,13 @@ ended line = line ++ 0x0a ∷ []
 abbrev pub line : List Text → Step → Option Text
 line names (Define c) = Some (words (codes "define" ∷ class_text names c ∷ []))
 line names (Initiate name place loader) = Some (words (codes "initiate" ∷ escaped name ∷ loader_text names place ∷ codes "by" ∷ loader_text names loader ∷ []))
-line names (Constrain name a b) = Some (words (codes "constrain" ∷ escaped name ∷ loader_text names a ∷ loader_text names b ∷ []))
+line names (Constrain name a b) = Some (words (codes "constrain" ∷ equality_texts names name a b))
 line names (Settle d i v) = None
 line names (Prepare c) = Some (words (codes "prepare" ∷ class_text names c ∷ []))
 line names (Post q a) = None
 line names NextRound = None
 line names Stray = None
+
+-- the line of a step with its line feed, and nothing of a step that has none
+abbrev pub step_line : List Text → Step → Text
+step_line names e = option_map_or ended (line names e) []

@@ -1,13 +1,12 @@
 -- The linkage machine, of one event a step, over a script of requests (JVMS SE 8, 5.3 to 5.4.3).
 use Rattle.std.specs.Prelude.{◌==◌, if◌then◌else◌, ◌≡◌, ◌≢◌, ◌⊎◌, ℕ, ◌+◌, ◌<◌, List, [], ◌∷◌, ◌++◌, Some, None, Ok, slice_get, IsSome, Contains}
-use Rattle.std.specs.List.{AllByRecursion}
 use Rattle.cl_classfile.specs.Files.{Name, File}
 use Rattle.cl_model.specs.Homes.{World, home}
 use Rattle.cl_model.specs.declared.class.Class.{Class}
-use Rattle.cl_model.specs.Classes.{class, IsAtHome, IsGood, HasFile, AtHome, Above, supers}
+use Rattle.cl_model.specs.Classes.{class, IsAtHome, IsGood, HasFile, AllAtHome, supers}
 use Rattle.cl_model.specs.Lineages.{Kin}
 use Rattle.cl_model.specs.Preparation.{constraints_of}
-use Rattle.cl_model.specs.States.{State, Need, Entry, Equal, Verdict, BadEntry, ArrayMember, IsLinked, Linkage, Answer, Said, OutOfMemory, SourceFault, recorded, IsRecorded, settled_to, answer_to, Met, Refused, MayAdd, Violated, AllMet, IsNext, added}
+use Rattle.cl_model.specs.States.{State, Need, Entry, Equal, entry_for, Verdict, IsLinked, Linkage, Answer, IfSaid, IsSettling, recorded, Keeps, IsRecorded, settled_to, answer_to, Met, Refused, MayAdd, Violated, AllMet, IsNext, added}
 use Rattle.cl_model.specs.Works.{Made}
 use Rattle.cl_model.specs.Plans.{Request, Load, Resolve, Link, Plan, plan, derive, resolve, needs_of, ending}
 
@@ -78,8 +77,8 @@ pub record MayDefine (g : Setting) (s : State) (c : Class) : Type 0 where
   pub good : IsGood g.world c
   pub file : File
   pub has_file : HasFile g.world c file
-  pub above : AllByRecursion (λ (a : Above). AtHome g.world c (λ t. Met s (Entry c.loader a.name t.loader)) a.name) (supers file)
-  pub may_add : MayAdd s (Entry c.loader c.name c.loader)
+  pub above : AllAtHome g.world c (Keeps s c.loader) (supers file)
+  pub may_add : MayAdd s (entry_for c.loader c)
 
 -- a loader may be recorded as initiating (5.3)
 pub record MayInitiate (g : Setting) (s : State) (name : Name) (place loader : ℕ) : Type 0 where
@@ -101,50 +100,61 @@ pub record MayConstrain (g : Setting) (s : State) (name : Name) (one other : ℕ
   pub next : IsNext s needs (Equal name one other)
   pub may_add : MayAdd s (Equal name one other)
 
--- a reference may be settled, once (5.4.3)
-pub record MaySettle (g : Setting) (s : State) (d : Class) (i : ℕ) (v : Verdict) : Type 0 where
+-- a reference of a recorded class is not settled, and its verdict is one that settles (5.4.3)
+pub record MayKeep (s : State) (d : Class) (i : ℕ) (v : Verdict) : Type 0 where
   pub recorded : IsRecorded s d
   pub unsettled : settled_to s.settled d i ≡ None
+  pub settling : IsSettling v
+
+-- a reference may be settled to its answer, once (5.4.3)
+pub record MaySettle (g : Setting) (s : State) (d : Class) (i : ℕ) (v : Verdict) : Type 0 where
+  pub may_keep : MayKeep s d i v
   pub answered : AnswersReference g s d i v
-  pub is_entry : v ≢ BadEntry
-  pub is_class_member : v ≢ ArrayMember
+
+-- all that preparation asks of a class but that it is not prepared yet: the class is recorded, its supertypes are prepared,
+-- and all its constraints are imposed (5.4.2)
+pub record IsPreparable (g : Setting) (s : State) (c : Class) : Type 0 where
+  pub recorded : IsRecorded s c
+  pub kin : Kin
+  pub lineage : HasLineage g.world c kin
+  pub above : AllAtHome g.world c (Contains s.prepared) (supers kin.file)
+  pub imposed : AllMet s (constraints_of kin)
 
 -- a class may be prepared after its supertypes, once all its constraints are imposed (5.4.2)
 pub record MayPrepare (g : Setting) (s : State) (c : Class) : Type 0 where
-  pub recorded : IsRecorded s c
   pub unprepared : Contains s.prepared c → ⊥
-  pub kin : Kin
-  pub lineage : HasLineage g.world c kin
-  pub above : AllByRecursion (λ (a : Above). AtHome g.world c (Contains s.prepared) a.name) (supers kin.file)
-  pub imposed : AllMet s (constraints_of kin)
+  pub preparable : IsPreparable g s c
+
+-- a plan is past its load: it reaches this class, and all needs of the load are met (5.3 to 5.4.3)
+abbrev pub IsPastLoad : State → Plan → Class → Type 0
+IsPastLoad s p d = (p.reached ≡ Some d) × AllMet s p.own
 
 -- what a verdict rests on: a reference that was reached is settled to it, what is linked is prepared (5.4.2, 5.4.3)
 abbrev pub RestsOn : State → Request → Plan → Verdict → Type 0
 RestsOn s (Load loader name) p v = Unit {0}
-RestsOn s (Resolve loader name i) p v =
-    (d : Class) → p.reached ≡ Some d → AllMet s p.own → v ≢ BadEntry → v ≢ ArrayMember → settled_to s.settled d i ≡ Some v
+RestsOn s (Resolve loader name i) p v = (d : Class) → IsPastLoad s p d → IsSettling v → settled_to s.settled d i ≡ Some v
 RestsOn s (Link loader name) p v = (c : Class) → v ≡ IsLinked c → Contains s.prepared c
 
 -- a request may be answered with a verdict (5.3 to 5.4.3)
 pub record MaySay (g : Setting) (s : State) (q : Request) (v : Verdict) : Type 0 where
-  pub plan : Plan
-  pub planned : IsPlan g.world q plan
-  pub answered : Answers s (needs_of plan) plan.ends v
-  pub rests : RestsOn s q plan v
+  pub answers : AnswersPlan g s q v
+  pub rests : RestsOn s q answers.plan v
 
--- a request may be answered: memory and the source are answers of their request alone (own choice)
+-- a request may be answered: with a verdict where that may be said
 abbrev pub MayAnswer : Setting → State → Request → Answer → Type 0
-MayAnswer g s q (Said v) = MaySay g s q v
-MayAnswer g s q OutOfMemory = Unit {0}
-MayAnswer g s q (SourceFault name loader) = Unit {0}
+MayAnswer g s q a = IfSaid (MaySay g s q) a
 
--- an answer may be posted, in its round and once
-pub record MayPost (g : Setting) (s : State) (q : ℕ) (a : Answer) : Type 0 where
+-- a request of the script is of the round and has no answer, and P holds of it
+pub record IsPostable (script : List Scheduled) (s : State) (q : ℕ) (P : Request → Type 0) : Type 0 where
   pub scheduled : Scheduled
-  pub asked : slice_get g.script q ≡ Some scheduled
+  pub asked : slice_get script q ≡ Some scheduled
   pub in_round : scheduled.round ≡ s.round
   pub unposted : answer_to s.answers q ≡ None
-  pub may_answer : MayAnswer g s scheduled.request a
+  pub fits : P scheduled.request
+
+-- an answer may be posted, in its round and once
+abbrev pub MayPost : Setting → State → ℕ → Answer → Type 0
+MayPost g s q a = IsPostable g.script s q (λ r. MayAnswer g s r a)
 
 -- all of a script's requests of the round are answered, and there is a later round
 pub record EndsRound (script : List Scheduled) (rounds : ℕ) (s : State) : Type 0 where
@@ -170,7 +180,7 @@ May g s Stray = ⊥
 
 -- the state after a step: one entry more, and nothing else changes (5.3 to 5.4.3)
 abbrev pub after : State → Step → State
-after s (Define c) = added s (Entry c.loader c.name c.loader)
+after s (Define c) = added s (entry_for c.loader c)
 after s (Initiate name place loader) = added s (Entry loader name place)
 after s (Constrain name a b) = added s (Equal name a b)
 after s (Settle d i v) = record s { settled = s.settled ++ record { class = d; index = i; verdict = v } ∷ [] }
@@ -184,10 +194,14 @@ abbrev pub state_after : State → List Step → State
 state_after s [] = s
 state_after s (e ∷ es) = state_after (after s e) es
 
+-- P holds of each of these steps in the state where it is made, one after another
+abbrev pub Along : (State → Step → Type 0) → State → List Step → Type 0
+Along P s [] = Unit {0}
+Along P s (e ∷ es) = P s e × Along P (after s e) es
+
 -- the steps may happen one after another (5.3 to 5.4.3)
 abbrev pub Run : Setting → State → List Step → Type 0
-Run g s [] = Unit {0}
-Run g s (e ∷ es) = May g s e × Run g (after s e) es
+Run g s es = Along (May g) s es
 
 -- the step that makes a need stand (5.3, 5.3.4)
 abbrev pub step_for : Need → Step
@@ -201,15 +215,7 @@ pub record IsClosed (w : World) (s : State) : Type 0 where
   pub homes : (loader place : ℕ) (name : Name) → recorded s.records loader name ≡ Some place → home w loader name ≡ Some place
   pub own : (loader place : ℕ) (name : Name) → recorded s.records loader name ≡ Some place → recorded s.records place name ≡ Some place
   pub good : (c : Class) → IsRecorded s c → IsGood w c
-  pub above : (c : Class) (f : File) → IsRecorded s c → HasFile w c f → AllByRecursion (λ (a : Above). AtHome w c (λ t. Met s (Entry c.loader a.name t.loader)) a.name) (supers f)
-
--- a prepared class is recorded, its supertypes are prepared, and all its constraints are imposed (5.4.2)
-pub record IsPrepared (g : Setting) (s : State) (c : Class) : Type 0 where
-  pub recorded : IsRecorded s c
-  pub kin : Kin
-  pub lineage : HasLineage g.world c kin
-  pub above : AllByRecursion (λ (a : Above). AtHome g.world c (Contains s.prepared) a.name) (supers kin.file)
-  pub imposed : AllMet s (constraints_of kin)
+  pub above : (c : Class) (f : File) → IsRecorded s c → HasFile w c f → AllAtHome w c (Keeps s c.loader) (supers f)
 
 -- a settled reference is one of a recorded class, and is answered so (5.4.3)
 pub record IsSettled (g : Setting) (s : State) (d : Class) (i : ℕ) (v : Verdict) : Type 0 where
@@ -227,5 +233,5 @@ pub record IsSound (g : Setting) (s : State) : Type 0 where
   pub closed : IsClosed g.world s
   pub unviolated : Violated s → ⊥
   pub settled : (d : Class) (i : ℕ) (v : Verdict) → settled_to s.settled d i ≡ Some v → IsSettled g s d i v
-  pub prepared : (c : Class) → Contains s.prepared c → IsPrepared g s c
+  pub prepared : (c : Class) → Contains s.prepared c → IsPreparable g s c
   pub answered : (q : ℕ) (a : Answer) → answer_to s.answers q ≡ Some a → IsAnswered g s q a

@@ -1,14 +1,14 @@
 -- What each request needs in turn, and how it ends, from the loaders and the contents alone (JVMS SE 8, 5.3 to 5.4.3).
-use Rattle.std.specs.Prelude.{ℕ, zero, suc, ◌+◌, ◌*◌, Bool, true, false, ◌&&◌, ◌==◌, if◌then◌else◌, List, [], ◌∷◌, ◌++◌, length, Option, Some, None, Result, Ok, Err, option_map, option_and_then, count_by, flat_map, sum_by}
+use Rattle.std.specs.Prelude.{◌≡◌, ℕ, zero, suc, ◌+◌, ◌*◌, Bool, true, false, ◌&&◌, ◌==◌, if◌then◌else◌, List, [], ◌∷◌, ◌++◌, length, Option, Some, None, Result, Ok, Err, option_map, option_and_then, count_by, flat_map, sum_by}
 use Rattle.std.specs.List.{list_any}
-use Rattle.cl_classfile.specs.Files.{Name, same_name, element_name, letter, Key, Member, Reference, ToClass, ToField, ToMethod, ToInterfaceMethod, reference, is_interface}
+use Rattle.cl_classfile.specs.Files.{Name, File, same_name, element_name, letter, Key, Member, Reference, ToClass, ToField, ToMethod, ToInterfaceMethod, reference, is_interface}
 use Rattle.cl_model.specs.Homes.{World, home}
 use Rattle.cl_descriptors.specs.declared.types.FieldType.{FieldType}
 use Rattle.cl_model.specs.declared.class.Class.{Class}
 use Rattle.cl_model.specs.Classes.{class, is_among, Error, ClassNotFound, NoClassDef, ClassCircularity, IncompatibleClassChange, IllegalAccess, NoSuchField, NoSuchMethod, file_of, Above, supers, superclass_of, superinterfaces_of, misfit, class_accessible}
-use Rattle.cl_model.specs.Lineages.{Forest, Bare, Tree, Kin, lineage, field_of, method_of, member_accessible, lookup_field, lookup_method, lookup_interface_method}
+use Rattle.cl_model.specs.Lineages.{Forest, Bare, Tree, Kin, first, lineage, field_of, method_of, member_accessible, lookup_field, lookup_method, lookup_interface_method}
 use Rattle.cl_model.specs.Preparation.{equals_of, constraints_of}
-use Rattle.cl_model.specs.States.{Need, Entry, Equal, Verdict, IsClass, IsArrayOf, IsArrayOfBase, IsField, IsMethod, IsLinked, BadEntry, ArrayMember, Wrong}
+use Rattle.cl_model.specs.States.{Need, Entry, Equal, entry_for, Verdict, IsClass, IsArrayOf, IsArrayOfBase, IsField, IsMethod, IsLinked, BadEntry, ArrayMember, Wrong}
 use Rattle.cl_model.specs.Works.{Work, Made, Ask, done, fail, need, ask, or_fail, unless_wrong, of_result, ◌>>=◌}
 
 -- the record of a loader that is not the definer (5.3.1, 5.3.2)
@@ -38,7 +38,7 @@ derive_new w derived c =
     of_result (file_of w c)
     >>= λ f. loads_above w derived c (superclass_of f)
     >>= λ sup. loads_above w derived c (superinterfaces_of f)
-    >>= λ ints. need (Entry c.loader c.name c.loader ∷ [])
+    >>= λ ints. need (entry_for c.loader c ∷ [])
     >>= λ b. done (record { class = c; file = f; superclass = sup; interfaces = ints })
 
 -- the derivation of a class within a height, while those of the list are being derived:
@@ -57,13 +57,6 @@ load w n absent loader name = load_by w (derive w n []) absent loader name
 
 -- ---- resolution
 
--- the class that d's reference names, where it is accessible (5.4.3.1)
-abbrev pub resolve_class : World → ℕ → Kin → Name → Work Kin
-resolve_class w n d name =
-    load w n NoClassDef d.class.loader name
-    >>= λ k. unless_wrong (if class_accessible k.file.flags k.class d.class then None else Some (IllegalAccess k.class))
-    >>= λ b. done k
-
 -- a class, or an array of it (5.4.3.1, 5.3.3)
 abbrev pub class_verdict : ℕ → Class → Verdict
 class_verdict zero c = IsClass c
@@ -75,6 +68,23 @@ member_target t = elim (element_name t.base) [
   | [] ↦ None
   | name ∷ more ↦ if t.dims == 0 then Some name else None
 ]
+
+-- the class that a reference names, if it names one (5.4.3.1 to 5.4.3.4)
+abbrev pub class_named : Reference → Option Name
+class_named (ToClass t) = first (element_name t.base)
+class_named (ToField t key) = member_target t
+class_named (ToMethod t key) = member_target t
+class_named (ToInterfaceMethod t key) = member_target t
+
+-- the entry at an index of a class's pool names the class of this name (5.4.3.1 to 5.4.3.4)
+pub record CitesClass (f : File) (index : ℕ) (name : Name) : Type 0 where
+  pub cited : Reference
+  pub found : reference f index ≡ Some cited
+  pub names : class_named cited ≡ Some name
+
+-- the error of a class c that is not accessible to d (5.4.4)
+abbrev pub inaccessible : Kin → Kin → Option Error
+inaccessible d c = if class_accessible c.file.flags c.class d.class then None else Some (IllegalAccess c.class)
 
 -- the flags of a member that was found (4.5, 4.6)
 abbrev pub flags_of : Option Member → ℕ
@@ -102,20 +112,32 @@ resolve_method interface d key c =
     >>= λ a. or_fail (NoSuchMethod c.class) (if interface then lookup_interface_method c key else lookup_method c key)
     >>= λ owner. resolve_found d c owner (method_of owner key) key (IsMethod owner.class key)
 
--- a member reference: its class, and then the member (5.4.3.2 to 5.4.3.4)
-abbrev pub resolve_member : World → ℕ → Kin → Option Name → (Kin → Work Verdict) → Work Verdict
-resolve_member w n d None member = done ArrayMember
-resolve_member w n d (Some name) member = resolve_class w n d name >>= λ c. member c
+-- what d's reference is resolved to where the class that it names is c, and is accessible (5.4.3.1 to 5.4.3.4)
+abbrev pub resolve_in : Kin → Reference → Kin → Work Verdict
+resolve_in d (ToClass t) c = done (class_verdict t.dims c.class)
+resolve_in d (ToField t key) c = resolve_field d key c
+resolve_in d (ToMethod t key) c = resolve_method false d key c
+resolve_in d (ToInterfaceMethod t key) c = resolve_method true d key c
 
--- what a reference of d is resolved to, by its kind (5.4.3.1 to 5.4.3.4)
+-- what follows the load of the class c that d's reference names: access, and then the reference (5.4.3.1 to 5.4.3.4)
+abbrev pub through : Kin → Reference → Kin → Work Verdict
+through d r c = unless_wrong (inaccessible d c) >>= λ a. resolve_in d r c
+
+-- what a reference that names no class is resolved to (5.4.3.1; own choice for members of arrays)
+abbrev pub nameless : Reference → Verdict
+nameless (ToClass t) = IsArrayOfBase t.dims (letter t.base)
+nameless (ToField t key) = ArrayMember
+nameless (ToMethod t key) = ArrayMember
+nameless (ToInterfaceMethod t key) = ArrayMember
+
+-- what a reference of d is resolved to, by the class that it names, if it names one (5.4.3.1 to 5.4.3.4)
+abbrev pub resolve_named : World → ℕ → Kin → Reference → Option Name → Work Verdict
+resolve_named w n d r None = done (nameless r)
+resolve_named w n d r (Some name) = load w n NoClassDef d.class.loader name >>= λ c. through d r c
+
+-- what a reference of d is resolved to (5.4.3.1 to 5.4.3.4)
 abbrev pub resolve_reference : World → ℕ → Kin → Reference → Work Verdict
-resolve_reference w n d (ToClass t) = elim (element_name t.base) [
-  | [] ↦ done (IsArrayOfBase t.dims (letter t.base))
-  | name ∷ more ↦ resolve_class w n d name >>= λ k. done (class_verdict t.dims k.class)
-]
-resolve_reference w n d (ToField t key) = resolve_member w n d (member_target t) (resolve_field d key)
-resolve_reference w n d (ToMethod t key) = resolve_member w n d (member_target t) (resolve_method false d key)
-resolve_reference w n d (ToInterfaceMethod t key) = resolve_member w n d (member_target t) (resolve_method true d key)
+resolve_reference w n d r = resolve_named w n d r (class_named r)
 
 -- the resolution of an entry of d's constant pool (5.4.3)
 abbrev pub resolve : World → ℕ → Kin → ℕ → Work Verdict

@@ -1,8 +1,9 @@
 -- The search for a name as a list of loaders: those that are asked, and each of them once (JVMS SE 8, 5.3.2).
-use Rattle.std.specs.Prelude.{◌≡◌, ℕ, zero, suc, Bool, true, false, ◌==◌, nat_lt, if◌then◌else◌, List, [], ◌∷◌, ◌++◌, length, Option, Some, None, is_some, slice_get, flat_map, option_map}
+use Rattle.std.specs.Prelude.{ℕ, zero, suc, Bool, true, false, ◌==◌, nat_lt, if◌then◌else◌, List, [], ◌∷◌, ◌++◌, length, Some, None, is_some, slice_get, flat_map, option_map, unwrap_or}
 use Rattle.std.specs.List.{list_any}
 use Rattle.cl_classfile.specs.Files.{Name}
 use Rattle.cl_model.specs.Content.{content_at}
+use Rattle.cl_model.specs.Once.{firsts, NoneTwice}
 use Rattle.cl_model.specs.Homes.{World, Loader, Order, ParentFirst, ChildFirst, decisive, is_java}
 
 -- the loaders above and the loader itself, in its order (own choice of delegation, 5.3.2)
@@ -18,16 +19,11 @@ route_at name earlier loader l = elim (decisive l.imports name) [
   | None ↦ in_turn l.order (flat_map earlier l.parents) (loader ∷ [])
 ]
 
--- the loaders that are asked, if there is such a loader (5.3.2)
-abbrev pub routed : Option (List ℕ) → List ℕ
-routed None = []
-routed (Some loaders) = loaders
-
--- the loaders that are asked at one of the first so many (5.3.2)
+-- the loaders that are asked at one of the first so many, none where there is no such loader (5.3.2)
 abbrev pub route_below : List Loader → Name → ℕ → ℕ → List ℕ
 route_below ls name zero loader = []
 route_below ls name (suc n) loader = elim (loader == n) [
-  | true ↦ routed (option_map (route_at name (route_below ls name n) n) (slice_get ls n))
+  | true ↦ unwrap_or (option_map (route_at name (route_below ls name n) n) (slice_get ls n)) []
   | false ↦ route_below ls name n loader
 ]
 
@@ -49,8 +45,7 @@ is_in ns n = list_any (λ m. m == n) ns
 
 -- each number at its first place alone, after those that were seen
 abbrev pub first_places : List ℕ → List ℕ → List ℕ
-first_places seen [] = []
-first_places seen (n ∷ ns) = if is_in seen n then first_places seen ns else n ∷ first_places (n ∷ seen) ns
+first_places seen ns = firsts (λ n. n) is_in seen ns
 
 -- the loaders whose own content is probed where this one is asked for the name, in order and each once (5.3.1, 5.3.2)
 abbrev pub probes : World → ℕ → Name → List ℕ
@@ -62,5 +57,4 @@ has_own w name loader = is_some (content_at w.content loader name)
 
 -- no number stands twice
 abbrev pub EachOnce : List ℕ → Type 0
-EachOnce [] = Unit {0}
-EachOnce (n ∷ ns) = (is_in ns n ≡ false) × EachOnce ns
+EachOnce ns = NoneTwice is_in ns

@@ -9,12 +9,12 @@ use Rattle.cl_model.specs.Lineages.{Kin, lineage}
 use Rattle.cl_model.specs.Preparation.{constraints_of}
 use Rattle.cl_model.specs.States.{State, Need, Entry, Verdict, IsClass, IsLinked, BadEntry, Linkage, recorded, AllMet, MayAdd, IsNext, Refused}
 use Rattle.cl_model.specs.Works.{Made, ◌>>=◌}
-use Rattle.cl_model.specs.Plans.{load, resolve, Request, Load, Resolve, Link, loaded_by, Plan, ending}
+use Rattle.cl_model.specs.Plans.{class_named, through, nameless, load, resolve, Request, Load, Resolve, Link, loaded_by, Plan, ending}
 use Rattle.cl_model.specs.Machine.{Setting, HasLineage, IsPlan, IsClosed, Answers, AnswersPlan, AnswersReference, MaySay, step_for}
 use Rattle.cl_model.specs.Service.{IsNextNeed, IsNextStep, IsLinkedIn, ComesTo}
-use Rattle.cl_model.specs.Frames.{class_named, EndsHere}
+use Rattle.cl_model.specs.Frames.{EndsHere}
 use Rattle.cl_model.specs.Tables.{Bears}
-use Rattle.cl_model.specs.References.{through, nameless, ended, GoesThrough, GoesOn}
+use Rattle.cl_model.specs.References.{ended, GoesThrough, GoesOn}
 
 -- the resolution of a reference that names a class is the load of that class, and what follows it (5.4.3.1)
 abbrev pub ResolvesThrough : Type 0

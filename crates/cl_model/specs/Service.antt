@@ -5,9 +5,9 @@ use Rattle.cl_model.specs.Homes.{World}
 use Rattle.cl_model.specs.declared.class.Class.{Class}
 use Rattle.cl_model.specs.Lineages.{Kin, lineage}
 use Rattle.cl_model.specs.Preparation.{constraints_of}
-use Rattle.cl_model.specs.States.{State, Need, Verdict, Answer, Said, OutOfMemory, SourceFault, Met, AllMet, Refused, MayAdd, IsNext, StandsAfter}
+use Rattle.cl_model.specs.States.{State, Need, Verdict, Answer, IfSaid, Met, AllMet, Refused, MayAdd, IsNext, StandsAfter}
 use Rattle.cl_model.specs.Plans.{Request, Load, Resolve, Link, Plan, needs_of}
-use Rattle.cl_model.specs.Machine.{Setting, Scheduled, Step, Settle, Prepare, Post, NextRound, HasLineage, IsPlan, MaySettle, MaySay, MayGoOn, after, state_after, step_for}
+use Rattle.cl_model.specs.Machine.{Setting, Scheduled, Step, Settle, Prepare, Post, NextRound, HasLineage, IsPlan, IsPastLoad, MaySettle, MaySay, MayGoOn, Along, after, state_after, step_for}
 
 -- ---- wants
 
@@ -72,7 +72,7 @@ pub record HasWants (w : World) (r : Request) (p : Plan) (wants : List Want) : T
 -- the reference that a request reached past its load may be settled, and is: also where one of its own needs is refused (5.4.3)
 abbrev pub Settles : Setting → State → Request → Plan → Step → Type 0
 Settles g s (Load loader name) p e = ⊥
-Settles g s (Resolve loader name i) p e = (d : Class) × (p.reached ≡ Some d) × AllMet s p.own × ((v : Verdict) × MaySettle g s d i v × (e ≡ Settle d i v))
+Settles g s (Resolve loader name i) p e = (d : Class) × IsPastLoad s p d × ((v : Verdict) × MaySettle g s d i v × (e ≡ Settle d i v))
 Settles g s (Link loader name) p e = ⊥
 
 -- the step fulfils the first want that is not fulfilled
@@ -100,9 +100,7 @@ pub record ComesTo (g : Setting) (s : State) (r : Request) (v : Verdict) : Type 
 
 -- a request's service may end with an answer: with its verdict once it has come to it, by a failure at any place
 abbrev pub MayEnd : Setting → State → Request → Answer → Type 0
-MayEnd g s r (Said v) = ComesTo g s r v
-MayEnd g s r OutOfMemory = Unit {0}
-MayEnd g s r (SourceFault name loader) = Unit {0}
+MayEnd g s r a = IfSaid (ComesTo g s r) a
 
 -- one piece of a request's service: its next step, or its post
 abbrev pub IsPiece : Setting → State → ℕ → Request → Step → Type 0
@@ -110,8 +108,7 @@ IsPiece g s q r e = IsNextStep g s r e ⊎ ((a : Answer) × MayEnd g s r a × (e
 
 -- what was done for a request so far: each of these steps was the next one where it was made
 abbrev pub IsBegun : Setting → Request → State → List Step → Type 0
-IsBegun g r s [] = Unit {0}
-IsBegun g r s (e ∷ es) = IsNextStep g s r e × IsBegun g r (after s e) es
+IsBegun g r s es = Along (λ t e. IsNextStep g t r e) s es
 
 -- these steps serve the request of this number: one after another what comes next, and then the post of its answer;
 -- a service that is broken off has a beginning of these, and then the post of the failure

@@ -65,13 +65,24 @@ pub record State : Type 0 where
 abbrev pub start : State
 start = record { records = []; equalities = []; settled = []; prepared = []; answers = []; round = 0 }
 
+-- of an answer with a verdict P holds of that; memory and the source are answers of their request alone (own choice)
+abbrev pub IfSaid : (Verdict → Type 0) → Answer → Type 0
+IfSaid P (Said v) = P v
+IfSaid P OutOfMemory = Unit {0}
+IfSaid P (SourceFault name loader) = Unit {0}
+
+-- a verdict that settles a reference: that of an entry that is no reference, and of a member of an array, does not (5.4.3; own choice for arrays)
+pub record IsSettling (v : Verdict) : Type 0 where
+  pub is_entry : v ≢ BadEntry
+  pub is_class_member : v ≢ ArrayMember
+
+-- a verdict is that a need is refused (5.3.4)
+abbrev pub IsLinkageError : Verdict → Type 0
+IsLinkageError v = (n : Need) × (v ≡ Linkage n)
+
 -- who defined the class that a loader records for a name (5.3)
 abbrev pub recorded : List Record → ℕ → Name → Option ℕ
 recorded rs loader name = option_map (λ r. r.place) (find (λ r. (r.loader == loader) && same_name r.name name) rs)
-
--- a class is recorded by its own loader (5.3)
-abbrev pub IsRecorded : State → Class → Type 0
-IsRecorded s c = recorded s.records c.loader c.name ≡ Some c.loader
 
 -- what a reference is settled to: later attempts give the same (5.4.3)
 abbrev pub settled_to : List Settled → Class → ℕ → Option Verdict
@@ -98,22 +109,22 @@ pub record Joined (ks : List Equality) (name : Name) (a b : ℕ) : Type 0 where
   pub path : List ℕ
   pub along : IsPath ks name a path b
 
--- two joined loaders record different classes for a name (5.3.4)
-pub record Violated (s : State) : Type 0 where
-  pub name : Name
-  pub one : ℕ
-  pub other : ℕ
-  pub place : ℕ
-  pub other_place : ℕ
-  pub joined : Joined s.equalities name one other
-  pub first : recorded s.records one name ≡ Some place
-  pub second : recorded s.records other name ≡ Some other_place
-  pub differ : place ≢ other_place
-
 -- a need stands in a state (5.3, 5.3.4)
 abbrev pub Met : State → Need → Type 0
 Met s (Entry loader name place) = recorded s.records loader name ≡ Some place
 Met s (Equal name a b) = Joined s.equalities name a b
+
+-- the need that a loader records a class (5.3)
+abbrev pub entry_for : ℕ → Class → Need
+entry_for loader c = Entry loader c.name c.loader
+
+-- a loader records a class (5.3)
+abbrev pub Keeps : State → ℕ → Class → Type 0
+Keeps s loader c = Met s (entry_for loader c)
+
+-- a class is recorded by its own loader (5.3)
+abbrev pub IsRecorded : State → Class → Type 0
+IsRecorded s c = Keeps s c.loader c
 
 -- a need is added (5.3, 5.3.4)
 abbrev pub added : State → Need → State
@@ -125,26 +136,34 @@ abbrev pub IsFresh : State → Need → Type 0
 IsFresh s (Entry loader name place) = recorded s.records loader name ≡ None
 IsFresh s (Equal name a b) = Unit {0}
 
--- a loader joined to this one records another class for a name (5.3.4)
-pub record Differs (s : State) (name : Name) (loader place : ℕ) : Type 0 where
+-- of one name, by who defined it for each loader and which loaders are joined: a loader joined to this one records another class (5.3.4)
+pub record Differs (home : ℕ → Option ℕ) (joins : ℕ → ℕ → Type 0) (loader place : ℕ) : Type 0 where
   pub other : ℕ
   pub other_place : ℕ
-  pub joined : Joined s.equalities name loader other
-  pub recorded_there : recorded s.records other name ≡ Some other_place
+  pub joined : joins loader other
+  pub recorded_there : home other ≡ Some other_place
   pub differ : place ≢ other_place
 
--- loaders joined to one and to the other record different classes for a name (5.3.4)
-pub record Divides (s : State) (name : Name) (a b : ℕ) : Type 0 where
+-- of one name: loaders joined to one and to the other record different classes (5.3.4)
+pub record Divides (home : ℕ → Option ℕ) (joins : ℕ → ℕ → Type 0) (a b : ℕ) : Type 0 where
   pub one : ℕ
   pub place : ℕ
-  pub joined : Joined s.equalities name a one
-  pub recorded_there : recorded s.records one name ≡ Some place
-  pub differs : Differs s name b place
+  pub joined : joins a one
+  pub recorded_there : home one ≡ Some place
+  pub differs : Differs home joins b place
 
 -- adding a need would violate an equality (5.3.4)
 abbrev pub Clashes : State → Need → Type 0
-Clashes s (Entry loader name place) = Differs s name loader place
-Clashes s (Equal name a b) = Divides s name a b
+Clashes s (Entry loader name place) = Differs (λ l. recorded s.records l name) (Joined s.equalities name) loader place
+Clashes s (Equal name a b) = Divides (λ l. recorded s.records l name) (Joined s.equalities name) a b
+
+-- a record that stands clashes: two joined loaders record different classes for a name (5.3.4)
+pub record Violated (s : State) : Type 0 where
+  pub name : Name
+  pub one : ℕ
+  pub place : ℕ
+  pub first : recorded s.records one name ≡ Some place
+  pub differs : Clashes s (Entry one name place)
 
 -- a need does not stand, and adding it would violate an equality (5.3.4)
 pub record Refused (s : State) (need : Need) : Type 0 where

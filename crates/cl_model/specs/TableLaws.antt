@@ -1,10 +1,10 @@
 -- Laws of trusted tables, under any source (JVMS SE 8, 5.3 to 5.4.3): each is the contract of a function without a body.
-use Rattle.std.specs.Prelude.{◌≡◌, ℕ, List, [], ◌∷◌, ◌++◌, Some, ◌⊎◌, Contains, slice_get, ◌≢◌, None}
+use Rattle.std.specs.Prelude.{◌≡◌, ℕ, List, [], ◌∷◌, ◌++◌, Some, ◌⊎◌, Contains, slice_get, None}
 use Rattle.cl_classfile.specs.Files.{Name}
 use Rattle.cl_model.specs.declared.class.Class.{Class}
 use Rattle.cl_model.specs.Plans.{Load, Resolve, Link}
-use Rattle.cl_model.specs.States.{State, start, IsClass, Answer, settled_to, Verdict, recorded, IsLinked, BadEntry, ArrayMember, Said, IsRecorded}
-use Rattle.cl_model.specs.Machine.{Setting, Scheduled, Step, Post, May, state_after, Run, IsClosed, after, Define, Initiate, Settle, Prepare, NextRound, Stray, EndsRound}
+use Rattle.cl_model.specs.States.{State, start, IsClass, Answer, settled_to, Verdict, IsSettling, recorded, IsLinked, Said, IsRecorded}
+use Rattle.cl_model.specs.Machine.{Setting, Scheduled, Step, Post, May, state_after, Run, IsClosed, after, Define, Initiate, Settle, Prepare, NextRound, Stray, MayKeep, EndsRound}
 use Rattle.cl_model.specs.Tables.{Records, Allows, Orderly, IsTrusted, IsConsistent, Stands}
 
 -- trusted tables are consistent (5.3, 5.3.4)
@@ -53,7 +53,7 @@ ToldIsRecorded =
 abbrev pub ToldIsSettled : Type 0
 ToldIsSettled =
     (script : List Scheduled) (rounds : ℕ) (es fs : List Step) (q : ℕ) (r : Scheduled) (loader : ℕ) (name : Name) (i : ℕ) (d : Class) (v : Verdict) → IsTrusted script rounds (es ++ Post q (Said v) ∷ fs) → slice_get script q ≡ Some r
-    → r.request ≡ Resolve loader name i → Records (state_after start es) loader name d → v ≢ BadEntry → v ≢ ArrayMember → settled_to (state_after start es).settled d i ≡ Some v
+    → r.request ≡ Resolve loader name i → Records (state_after start es) loader name d → IsSettling v → settled_to (state_after start es).settled d i ≡ Some v
 
 -- a class that was told to be linked was recorded by its loader, and prepared (5.4)
 abbrev pub ToldIsPrepared : Type 0
@@ -71,7 +71,7 @@ InitiatedOverRecord =
 abbrev pub SettledOnTables : Type 0
 SettledOnTables =
     (script : List Scheduled) (rounds : ℕ) (es fs : List Step) (d : Class) (i : ℕ) (v : Verdict) → IsTrusted script rounds (es ++ Settle d i v ∷ fs)
-    → IsRecorded (state_after start es) d × (settled_to (state_after start es).settled d i ≡ None) × (v ≢ BadEntry) × (v ≢ ArrayMember)
+    → MayKeep (state_after start es) d i v
 
 -- what is prepared is a recorded class, once (5.4.2)
 abbrev pub PreparedOnTables : Type 0

@@ -1,6 +1,5 @@
 -- Which loaders needs, verdicts, answers and events name: all of them are below a count.
-use Rattle.std.specs.Prelude.{ℕ, ◌<◌, ⊤, List, [], ◌∷◌}
-use Rattle.cl_names.specs.Escape.{escaped}
+use Rattle.std.specs.Prelude.{ℕ, ◌<◌, ⊤, List}
 use Rattle.cl_model.specs.declared.need.Equality.{Equality}
 use Rattle.cl_model.specs.declared.need.Need.{Need}
 use Rattle.cl_model.specs.declared.need.Need.TheVariants as needs
@@ -10,11 +9,11 @@ use Rattle.cl_model.specs.declared.answer.Answer.{Answer}
 use Rattle.cl_model.specs.declared.answer.Answer.TheVariants as answers
 use Rattle.cl_model.specs.declared.event.Event.{Event}
 use Rattle.cl_model.specs.declared.event.Event.TheVariants as events
-use Rattle.cl_model.specs.Lines.{Text, loader_text, words}
+use Rattle.cl_model.specs.Lines.{Text, equality_texts, words}
 
 -- the name of an equality and its two loaders, as a line has them
 abbrev pub equality_text : List Text → Equality → Text
-equality_text names e = words (escaped e.name ∷ loader_text names e.one ∷ loader_text names e.other ∷ [])
+equality_text names e = words (equality_texts names e.name e.one e.other)
 
 -- each loader of an equality is below a count
 abbrev pub EqualityNames : ℕ → Equality → Type 0

@@ -1,5 +1,6 @@
 -- What the Rust types say, in the words of the linkage machine (JVMS SE 8, 5.3 to 5.4.3).
-use Rattle.std.specs.Prelude.{◌≢◌, ℕ, List, map, Option, Some, None, slice_get, option_map, option_and_then}
+use Rattle.std.specs.Prelude.{◌≢◌, ℕ, List, map, Option, Some, None, slice_get, option_map}
+use Rattle.std.specs.Option.{option_flatten}
 use Rattle.cl_descriptors.specs.declared.types.Base.{Base}
 use Rattle.cl_descriptors.specs.declared.types.Base.TheVariants as bases
 use Rattle.cl_classfile.specs.Files.{letter}
@@ -87,7 +88,7 @@ post_of q (Some a) = Post q a
 
 -- the answer at a request's number
 abbrev pub answer_at : List (Option Answer) → ℕ → Option Answer
-answer_at given q = option_and_then (λ a. a) (slice_get given q)
+answer_at given q = option_flatten (slice_get given q)
 
 -- the step that an event tells (5.3, 5.3.5)
 abbrev pub step_of : List (Option Answer) → events.Event → Step

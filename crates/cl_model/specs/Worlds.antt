@@ -1,5 +1,6 @@
 -- What linking looks at in a file that was read, or its fault (JVMS SE 8, 4.1 to 4.8).
-use Rattle.std.specs.Prelude.{Result, Ok, Err}
+use Rattle.std.specs.Prelude.{Result}
+use Rattle.std.specs.Result.{result_map_both}
 use Rattle.cl_classfile.specs.declared.fault.Fault.{Fault}
 use Rattle.cl_classfile.specs.declared.fault.Fault.TheVariants.{Version}
 use Rattle.cl_classfile.specs.Structure.{Structure}
@@ -12,5 +13,4 @@ file_fault _ = BadFormat
 
 -- what linking looks at in the file that was read (4.1)
 abbrev pub seen : Result Structure Fault → Result File FileFault
-seen (Ok f) = Ok (file_of f)
-seen (Err fault) = Err (file_fault fault)
+seen r = result_map_both file_of file_fault r

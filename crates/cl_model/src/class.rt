@@ -1,4 +1,5 @@
-ghost use Rattle.std.specs.Prelude.{◌≡◌, ◌≢◌, ◌<◌, ◌++◌, length, map, string_bytes, IfOk, OnOk, MatchBool};
+ghost use Rattle.std.specs.Prelude.{◌≡◌, ◌<◌, ◌++◌, length, map, string_bytes, IfOk, OnOk};
+ghost use Rattle.cl_names.specs.Truth.{Decides};
 
 use crate::loader::{LoaderId, put_located};
 use cl_names::Name;
@@ -16,7 +17,7 @@ impl Class {
 
     /// Whether the other is the same.
     pub fn is_same(&self, other: &Class) -> bool
-        ensures { MatchBool result (self.now ≡ other.now) (self.now ≢ other.now) }
+        ensures { Decides result (self.now ≡ other.now) }
     {
         self.loader == other.loader && self.name == other.name
     }

@@ -1,5 +1,4 @@
-ghost use Rattle.std.specs.Prelude.{◌≡◌, ◌++◌, [], List, Option, length, map, string_bytes, OnOk};
-ghost use Rattle.std.specs.Option.{option_map_or};
+ghost use Rattle.std.specs.Prelude.{◌≡◌, ◌++◌, List, Option, length, map, string_bytes, OnOk};
 ghost use Rattle.cl_model.specs.States.{Answer};
 
 use crate::class::Class;
@@ -43,7 +42,7 @@ impl Drop for Event {
 }
 
 impl Event {
-    ghost use Rattle.cl_model.specs.Lines.{ended, line};
+    ghost use Rattle.cl_model.specs.Lines.{step_line};
     ghost use Rattle.cl_model.specs.Texts.{EventNames};
     ghost use Rattle.cl_model.specs.Views.{step_of};
 
@@ -52,7 +51,7 @@ impl Event {
         requires { EventNames (length loaders.now) self.now }
         ensures { (given : List (Option Answer))
             → OnOk result (string_bytes text.new ≡ string_bytes text.old
-            ++ option_map_or ended (line (map string_bytes loaders.now) (step_of given self.now)) []) }
+            ++ step_line (map string_bytes loaders.now) (step_of given self.now)) }
     {
         match self {
             Event::Define(class) => {

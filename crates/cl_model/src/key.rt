@@ -1,9 +1,9 @@
-ghost use Rattle.std.specs.Prelude.{◌≡◌, ◌≢◌, ◌∷◌, ◌++◌, [], string_bytes, IfOk, OnOk, IsSome, MatchBool};
-ghost use Rattle.cl_names.specs.Escape.{escaped};
+ghost use Rattle.std.specs.Prelude.{◌≡◌, ◌++◌, string_bytes, IfOk, OnOk, IsSome};
+ghost use Rattle.cl_names.specs.Truth.{Decides};
 ghost use Rattle.std.specs.Prelude.{nat_eq};
 ghost use Rattle.std.specs.Ordering.{eq_of_both, on};
 ghost use Rattle.std.specs.Cmp.Lexicographic.{pointwise, nat_list_eq_equiv};
-ghost use Rattle.cl_model.specs.Lines.{spelling_of, words};
+ghost use Rattle.cl_model.specs.Lines.{key_texts, spelling_of, words};
 
 use cl_names::Name;
 use std::alloc::{AllocError, Global};
@@ -78,7 +78,7 @@ impl MemberKey {
 
     /// Whether the other is the same.
     pub fn is_same(&self, other: &MemberKey) -> bool
-        ensures { MatchBool result (self.now ≡ other.now) (self.now ≢ other.now) }
+        ensures { Decides result (self.now ≡ other.now) }
     {
         self.name == other.name && self.descriptor == other.descriptor
     }
@@ -86,7 +86,7 @@ impl MemberKey {
     /// Puts its text behind the text: the name and the descriptor.
     pub fn put_text(&self, text: &mut String) -> Result<(), AllocError>
         ensures { OnOk result (string_bytes text.new ≡ string_bytes text.old
-            ++ words (escaped self.now.name ∷ escaped (spelling_of self.now.descriptor) ∷ [])) }
+            ++ words (key_texts self.now)) }
     {
         self.name.put_text(text)?;
         text.push_str(" ")?;

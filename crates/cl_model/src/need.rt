@@ -1,4 +1,5 @@
-ghost use Rattle.std.specs.Prelude.{◌≡◌, ◌≢◌, ◌++◌, length, map, string_bytes, IfOk, OnOk, MatchBool};
+ghost use Rattle.std.specs.Prelude.{◌≡◌, ◌++◌, length, map, string_bytes, IfOk, OnOk};
+ghost use Rattle.cl_names.specs.Truth.{Decides};
 ghost use Rattle.cl_model.specs.Lines.{need_texts, words};
 ghost use Rattle.cl_model.specs.Texts.{EqualityNames, NeedNames, equality_text};
 ghost use Rattle.cl_model.specs.Views.{need_of};
@@ -18,7 +19,7 @@ pub struct Equality {
 impl Equality {
     /// Whether the other is the same: of the same name, with the same loaders in the same order.
     pub fn is_same(&self, other: &Equality) -> bool
-        ensures { MatchBool result (self.now ≡ other.now) (self.now ≢ other.now) }
+        ensures { Decides result (self.now ≡ other.now) }
     {
         self.one == other.one && self.other == other.other && self.name == other.name
     }
@@ -77,7 +78,7 @@ impl Drop for Need {
 impl Need {
     /// Whether the other is the same.
     pub fn is_same(&self, other: &Need) -> bool
-        ensures { MatchBool result (self.now ≡ other.now) (self.now ≢ other.now) }
+        ensures { Decides result (self.now ≡ other.now) }
     {
         match (self, other) {
             (

@@ -1,4 +1,5 @@
-ghost use Rattle.std.specs.Prelude.{◌≡◌, ◌≢◌, IfOk, MatchBool};
+ghost use Rattle.std.specs.Prelude.{◌≡◌, IfOk};
+ghost use Rattle.cl_names.specs.Truth.{Decides};
 ghost use Rattle.cl_model.specs.Plans.{loaded_by};
 ghost use Rattle.cl_model.specs.Views.{request_of};
 
@@ -50,7 +51,7 @@ impl Request {
 
     /// Whether the other is the same.
     pub fn is_same(&self, other: &Request) -> bool
-        ensures { MatchBool result (self.now ≡ other.now) (self.now ≢ other.now) }
+        ensures { Decides result (self.now ≡ other.now) }
     {
         match (self, other) {
             (Request::Load(l, n), Request::Load(loader, name)) => *l == *loader && *n == *name,

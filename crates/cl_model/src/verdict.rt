@@ -1,4 +1,5 @@
-ghost use Rattle.std.specs.Prelude.{◌≡◌, ◌≢◌, ◌∷◌, ◌<◌, ◌++◌, [], ℕ, List, length, map, string_bytes, IfOk, OnOk, MatchBool};
+ghost use Rattle.std.specs.Prelude.{◌≡◌, ◌∷◌, ◌<◌, ◌++◌, [], ℕ, List, length, map, string_bytes, IfOk, OnOk};
+ghost use Rattle.cl_names.specs.Truth.{Decides};
 ghost use Rattle.cl_model.specs.Lines.{class_text, error_texts, member_texts, verdict_text, words};
 ghost use Rattle.cl_model.specs.States.{Wrong};
 ghost use Rattle.cl_model.specs.Views.{error_of, verdict_of};
@@ -90,7 +91,7 @@ impl Verdict {
 
     /// Whether the other is the same.
     pub fn is_same(&self, other: &Verdict) -> bool
-        ensures { MatchBool result (self.now ≡ other.now) (self.now ≢ other.now) }
+        ensures { Decides result (self.now ≡ other.now) }
     {
         match (self, other) {
             (Verdict::Class(class), Verdict::Class(c)) => class.is_same(c),

@@ -24,11 +24,8 @@ returns-clause-constrain c h = h.may_add.fits not_equal.clashes
 
 pub returns-clause-settle : goal.returns-clause-settle
 returns-clause-settle c = record {
-  recorded = refl;
-  unsettled = refl;
+  may_keep = record { recorded = refl; unsettled = refl; settling = record { is_entry = λ e. absurd cc; is_class_member = λ e. absurd cc } };
   answered = record { made = made_of_service; resolved = resolution_of_service; answered = inl (refl, inl (refl, inl (refl, inl (refl, inr (not_equal, refl))))) };
-  is_entry = λ e. absurd cc;
-  is_class_member = λ e. absurd cc;
 }
 
 -- kid is joined with plug through app
@@ -47,10 +44,12 @@ returns-clause-own_load c = record {
   asked = refl;
   in_round = refl;
   unposted = refl;
-  may_answer = record {
-    plan = the (plan three_users 3 (resolve_of kid "p/T" 1));
-    planned = record { height = 3; planned = refl };
-    answered = inl (refl, inl (refl, inr (refused_record (state_after start across) (codes "p/T") kid plug kid plug refl through refl (λ e. absurd cc), refl)));
-    rests = λ d r own a b. absurd (missing own.1.1.0);
+  fits = record {
+    answers = record {
+      plan = the (plan three_users 3 (resolve_of kid "p/T" 1));
+      planned = record { height = 3; planned = refl };
+      answered = inl (refl, inl (refl, inr (refused_record (state_after start across) (codes "p/T") kid plug kid plug refl through refl (λ e. absurd cc), refl)));
+    };
+    rests = λ d past a. absurd (missing past.1.1.1.0);
   };
 }

@@ -67,11 +67,8 @@ constrain = record {
 
 settle : May serving (state_after start (loading ++ Constrain (codes "p/T") app plug ∷ [])) (Settle (in_plug "p/Use") 1 of_svc)
 settle = record {
-  recorded = refl;
-  unsettled = refl;
+  may_keep = record { recorded = refl; unsettled = refl; settling = record { is_entry = λ e. absurd cc; is_class_member = λ e. absurd cc } };
   answered = record { made = made_of_svc; resolved = resolution_of_svc; answered = inl (refl, inl (refl, inl (refl, inl (refl, inl (joined, refl))))) };
-  is_entry = λ e. absurd cc;
-  is_class_member = λ e. absurd cc;
 }
 
 answer : May serving (state_after start (loading ++ Constrain (codes "p/T") app plug ∷ Settle (in_plug "p/Use") 1 of_svc ∷ [])) (Post 0 (Said of_svc))
@@ -80,19 +77,21 @@ answer = record {
   asked = refl;
   in_round = refl;
   unposted = refl;
-  may_answer = record {
-    plan = the (plan overridden_service 3 (resolve_of plug "p/Use" 1));
-    planned = record { height = 3; planned = refl };
-    answered = inl (refl, inl (refl, inl (refl, inl (refl, inl (refl, inl (refl, inl (refl, inl (refl, inl (refl, inl (joined, refl))))))))));
-    rests = λ d r own a b. settled d r;
+  fits = record {
+    answers = record {
+      plan = the (plan overridden_service 3 (resolve_of plug "p/Use" 1));
+      planned = record { height = 3; planned = refl };
+      answered = inl (refl, inl (refl, inl (refl, inl (refl, inl (refl, inl (refl, inl (refl, inl (refl, inl (refl, inl (joined, refl))))))))));
+    };
+    rests = λ d past a. settled d past.0;
   };
 }
 
 prepare_svc : May serving object_prepared (Prepare (in_app "p/Svc"))
-prepare_svc = record { recorded = refl; unprepared = svc_unprepared; kin = kin_of_svc; lineage = lineage_of_svc; above = (record { place = boot; found = refl; holds = (0, omega arith, refl) }, tt); imposed = tt }
+prepare_svc = record { unprepared = svc_unprepared; preparable = record { recorded = refl; kin = kin_of_svc; lineage = lineage_of_svc; above = (record { place = boot; found = refl; holds = (0, omega arith, refl) }, tt); imposed = tt } }
 
 prepare_use : May serving svc_prepared (Prepare (in_plug "p/Use"))
-prepare_use = record { recorded = refl; unprepared = use_unprepared; kin = kin_of_use; lineage = lineage_of_use; above = (record { place = app; found = refl; holds = (1, omega arith, refl) }, tt); imposed = (joined, tt) }
+prepare_use = record { unprepared = use_unprepared; preparable = record { recorded = refl; kin = kin_of_use; lineage = lineage_of_use; above = (record { place = app; found = refl; holds = (1, omega arith, refl) }, tt); imposed = (joined, tt) } }
 
 linked : May serving use_prepared (Post 1 (Said (IsLinked (in_plug "p/Use"))))
 linked = record {
@@ -100,10 +99,12 @@ linked = record {
   asked = refl;
   in_round = refl;
   unposted = refl;
-  may_answer = record {
-    plan = the (plan overridden_service 3 (link_of plug "p/Use"));
-    planned = record { height = 3; planned = refl };
-    answered = inl (refl, inl (refl, inl (refl, inl (refl, inl (refl, inl (joined, refl))))));
+  fits = record {
+    answers = record {
+      plan = the (plan overridden_service 3 (link_of plug "p/Use"));
+      planned = record { height = 3; planned = refl };
+      answered = inl (refl, inl (refl, inl (refl, inl (refl, inl (refl, inl (joined, refl))))));
+    };
     rests = λ c e. subst (λ (d : Class). Contains use_prepared.prepared d) (one_linked _ _ e) (2, omega arith, refl);
   };
 }
@@ -114,11 +115,13 @@ no_reference = record {
   asked = refl;
   in_round = refl;
   unposted = refl;
-  may_answer = record {
-    plan = the (plan overridden_service 3 (resolve_of plug "p/Use" 9));
-    planned = record { height = 3; planned = refl };
-    answered = inl (refl, inl (refl, inl (refl, inl (refl, inl (refl, refl)))));
-    rests = λ d r own a b. absurd (a refl);
+  fits = record {
+    answers = record {
+      plan = the (plan overridden_service 3 (resolve_of plug "p/Use" 9));
+      planned = record { height = 3; planned = refl };
+      answered = inl (refl, inl (refl, inl (refl, inl (refl, inl (refl, refl)))));
+    };
+    rests = λ d past a. absurd (a.is_entry refl);
   };
 }
 
@@ -145,7 +148,7 @@ returns c = (
                 (
                   record { answered = first_round; later = omega arith },
                   (
-                    record { recorded = refl; unprepared = object_unprepared; kin = kin_of_object; lineage = lineage_of_object; above = tt; imposed = tt },
+                    record { unprepared = object_unprepared; preparable = record { recorded = refl; kin = kin_of_object; lineage = lineage_of_object; above = tt; imposed = tt } },
                     (prepare_svc, (prepare_use, (linked, (no_reference, tt)))),
                   ),
                 ),

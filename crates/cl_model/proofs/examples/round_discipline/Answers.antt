@@ -36,7 +36,7 @@ pub returns-clause-unanswered : goal.returns-clause-unanswered
 returns-clause-unanswered c h = absurd (let e : false ≡ true = h.answered 0 _ refl refl in cc)
 
 pub returns-clause-posted : goal.returns-clause-posted
-returns-clause-posted c = record { scheduled = _; asked = refl; in_round = refl; unposted = refl; may_answer = tt }
+returns-clause-posted c = record { scheduled = _; asked = refl; in_round = refl; unposted = refl; fits = tt }
 
 pub returns-clause-again : goal.returns-clause-again
 returns-clause-again c h = there h.unposted

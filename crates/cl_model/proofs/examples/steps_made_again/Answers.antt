@@ -19,7 +19,7 @@ pub returns-clause-constrain : goal.returns-clause-constrain
 returns-clause-constrain c h = h.may_add.unmet (record { path = plug ∷ []; along = (record { equality = record { name = codes "p/T"; one = app; other = plug }; imposed = (0, omega arith, refl); named = refl; ends = inl (refl, refl) }, refl) })
 
 pub returns-clause-settle : goal.returns-clause-settle
-returns-clause-settle c h = settled h.unsettled
+returns-clause-settle c h = settled h.may_keep.unsettled
 
 pub returns-clause-prepare : goal.returns-clause-prepare
 returns-clause-prepare c h = h.unprepared (2, omega arith, refl)

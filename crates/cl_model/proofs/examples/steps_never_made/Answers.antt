@@ -12,10 +12,10 @@ pub returns-clause-initiate_elsewhere : goal.returns-clause-initiate_elsewhere
 returns-clause-initiate_elsewhere c s h = absurd (let e : Some boot ≡ Some app = h.found in cc)
 
 pub returns-clause-bad_entry_settled : goal.returns-clause-bad_entry_settled
-returns-clause-bad_entry_settled c s h = h.is_entry refl
+returns-clause-bad_entry_settled c s h = h.may_keep.settling.is_entry refl
 
 pub returns-clause-member_settled : goal.returns-clause-member_settled
-returns-clause-member_settled c s h = h.is_class_member refl
+returns-clause-member_settled c s h = h.may_keep.settling.is_class_member refl
 
 pub returns-clause-stray : goal.returns-clause-stray
 returns-clause-stray c s h = h

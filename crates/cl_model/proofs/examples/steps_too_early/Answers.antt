@@ -1,12 +1,11 @@
 use Rattle.std.proofs.Common.{◌≡◌, ◌<◌, List, Some, None, [], ◌∷◌, ◌++◌, inl, inr, refl, subst, codes, arith}
 use Rattle.std.specs.Prelude.{Contains}
-use Rattle.std.specs.List.{AllByRecursion}
 use Rattle.cl_classfile.specs.Files.{File}
 use Rattle.cl_model.specs.declared.class.Class.{Class}
-use Rattle.cl_model.specs.Classes.{Above, AtHome, supers, file_of}
+use Rattle.cl_model.specs.Classes.{AllAtHome, supers, file_of}
 use Rattle.cl_model.specs.Lineages.{Kin}
 use Rattle.cl_model.specs.Preparation.{constraints_of}
-use Rattle.cl_model.specs.States.{Verdict, Need, Entry, IsLinked, Linkage, Met, AllMet, start}
+use Rattle.cl_model.specs.States.{Verdict, Need, IsLinked, Linkage, Keeps, AllMet, start}
 use Rattle.cl_model.specs.Works.{Made}
 use Rattle.cl_model.specs.Plans.{plan, ending}
 use Rattle.cl_model.specs.Machine.{Imposes, Answers, Prepare, state_after}
@@ -20,7 +19,7 @@ use Rattle.cl_model.proofs.examples.steps_too_early.Goals as goal
 pub returns-clause-define : goal.returns-clause-define
 returns-clause-define c h =
     missing
-    (subst (λ (f : File). AllByRecursion (λ (a : Above). AtHome overridden_service (in_app "p/Svc") (λ t. Met start (Entry app a.name t.loader)) a.name) (supers f))
+    (subst (λ (f : File). AllAtHome overridden_service (in_app "p/Svc") (Keeps start app) (supers f))
     (same_file (file_of overridden_service (in_app "p/Svc")) h.has_file refl) h.above).0.holds
 
 pub returns-clause-initiate : goal.returns-clause-initiate
@@ -53,7 +52,7 @@ returns-clause-settle c h =
     (one_resolution overridden_service (in_plug "p/Use") 1 h.answered.made made_of_svc h.answered.resolved resolution_of_svc) h.answered.answered)
 
 pub returns-clause-settle_unrecorded : goal.returns-clause-settle_unrecorded
-returns-clause-settle_unrecorded c h = missing h.recorded
+returns-clause-settle_unrecorded c h = missing h.may_keep.recorded
 
 unsettled_yet : {v : Verdict} → None ≡ Some v → ⊥
 unsettled_yet e = cc
@@ -62,10 +61,10 @@ pub returns-clause-resolve : goal.returns-clause-resolve
 returns-clause-resolve c h =
     unsettled_yet
     (rests_of serving unsettled (resolve_of plug "p/Use" 1) (the (plan overridden_service 3 (resolve_of plug "p/Use" 1))) of_svc (record { height = 3; planned = refl })
-    (said_of serving unsettled 0 (record { request = resolve_of plug "p/Use" 1; round = 0 }) of_svc refl h) (in_plug "p/Use") refl (refl, (refl, (refl, (refl, (refl, tt))))) (λ e. absurd cc) (λ e. absurd cc))
+    (said_of serving unsettled 0 (record { request = resolve_of plug "p/Use" 1; round = 0 }) of_svc refl h) (in_plug "p/Use") (refl, (refl, (refl, (refl, (refl, (refl, tt)))))) (record { is_entry = λ e. absurd cc; is_class_member = λ e. absurd cc }))
 
 pub returns-clause-prepare_unrecorded : goal.returns-clause-prepare_unrecorded
-returns-clause-prepare_unrecorded c h = missing h.recorded
+returns-clause-prepare_unrecorded c h = missing h.preparable.recorded
 
 none_of : {d : Class} → Contains [] d → ⊥
 none_of h = absurd (let l : h.0 < 0 = h.1 in omega arith)
@@ -73,11 +72,11 @@ none_of h = absurd (let l : h.0 < 0 = h.1 in omega arith)
 pub returns-clause-prepare_below : goal.returns-clause-prepare_below
 returns-clause-prepare_below c h =
     none_of
-    (subst (λ (k : Kin). AllByRecursion (λ (a : Above). AtHome overridden_service (in_plug "p/Use") (Contains unsettled.prepared) a.name) (supers k.file))
-    (one_lineage overridden_service (in_plug "p/Use") h.kin kin_of_use h.lineage lineage_of_use) h.above).0.holds
+    (subst (λ (k : Kin). AllAtHome overridden_service (in_plug "p/Use") (Contains unsettled.prepared) (supers k.file))
+    (one_lineage overridden_service (in_plug "p/Use") h.preparable.kin kin_of_use h.preparable.lineage lineage_of_use) h.preparable.above).0.holds
 
 pub returns-clause-prepare_unconstrained : goal.returns-clause-prepare_unconstrained
-returns-clause-prepare_unconstrained c h = absurd (let same : app ≡ plug = joined_alone [] (codes "p/T") app plug refl (subst (λ (k : Kin). AllMet (state_after start (loading ++ Prepare (in_boot "java/lang/Object") ∷ Prepare (in_app "p/Svc") ∷ [])) (constraints_of k)) (one_lineage overridden_service (in_plug "p/Use") h.kin kin_of_use h.lineage lineage_of_use) h.imposed).0 in cc)
+returns-clause-prepare_unconstrained c h = absurd (let same : app ≡ plug = joined_alone [] (codes "p/T") app plug refl (subst (λ (k : Kin). AllMet (state_after start (loading ++ Prepare (in_boot "java/lang/Object") ∷ Prepare (in_app "p/Svc") ∷ [])) (constraints_of k)) (one_lineage overridden_service (in_plug "p/Use") h.preparable.kin kin_of_use h.preparable.lineage lineage_of_use) h.preparable.imposed).0 in cc)
 
 pub returns-clause-link : goal.returns-clause-link
 returns-clause-link c h =

@@ -49,11 +49,8 @@ still_not_equal = refused_equal settled_so (codes "p/T") app plug app plug refl 
 
 may_settle : MaySettle (over service) both_stand (in_plug "p/Use") 1 t_refused
 may_settle = record {
-  recorded = refl;
-  unsettled = refl;
+  may_keep = record { recorded = refl; unsettled = refl; settling = record { is_entry = λ e. absurd cc; is_class_member = λ e. absurd cc } };
   answered = record { made = made_of_service; resolved = resolution_of_service; answered = inl (refl, inl (refl, inl (refl, inl (refl, inr (not_equal, refl))))) };
-  is_entry = λ e. absurd cc;
-  is_class_member = λ e. absurd cc;
 }
 
 settle_next : IsNextStep (over service) both_stand (resolve_of plug "p/Use" 1) (Settle (in_plug "p/Use") 1 t_refused)
@@ -61,7 +58,7 @@ settle_next = record {
   plan = plan_of_service;
   wants = wants_of_service;
   wanted = wanted_of_service;
-  next = inr (in_plug "p/Use", refl, (refl, (refl, (refl, tt))), (t_refused, may_settle, refl));
+  next = inr (in_plug "p/Use", (refl, (refl, (refl, (refl, tt)))), (t_refused, may_settle, refl));
 }
 
 same_class : {a b : Class} → Some a ≡ Some b → a ≡ b
@@ -77,10 +74,12 @@ ends_refused = record {
   wanted = wanted_of_service;
   over = inr (same_t app plug, inr (refl, inr (refl, inr (refl, inr (refl, inr (refl, inr (refl, inr (refl, inl refl))))))), still_not_equal);
   may_say = record {
-    plan = plan_of_service;
-    planned = record { height = 3; planned = refl };
-    answered = inl (refl, inl (refl, inl (refl, inl (refl, inl (refl, inl (refl, inl (refl, inr (still_not_equal, refl))))))));
-    rests = λ d r own a b. settled d r;
+    answers = record {
+      plan = plan_of_service;
+      planned = record { height = 3; planned = refl };
+      answered = inl (refl, inl (refl, inl (refl, inl (refl, inl (refl, inl (refl, inl (refl, inr (still_not_equal, refl))))))));
+    };
+    rests = λ d past a. settled d past.0;
   };
 }
 
@@ -101,7 +100,7 @@ not_found = record {
   wants = [];
   wanted = record { planned = record { height = 3; planned = refl }; past = []; follows = refl; whole = refl };
   over = inl tt;
-  may_say = record { plan = plan_of_none; planned = record { height = 3; planned = refl }; answered = refl; rests = λ c e. absurd (not_linked e) };
+  may_say = record { answers = record { plan = plan_of_none; planned = record { height = 3; planned = refl }; answered = refl }; rests = λ c e. absurd (not_linked e) };
 }
 
 pub returns-clause-no_class : goal.returns-clause-no_class

@@ -29,11 +29,8 @@ need_next s n first may = record { plan = plan_of_use; wants = wants_of_use; wan
 
 may_settle : MaySettle serving unsettled (in_plug "p/Use") 1 of_svc
 may_settle = record {
-  recorded = refl;
-  unsettled = refl;
+  may_keep = record { recorded = refl; unsettled = refl; settling = record { is_entry = λ e. absurd cc; is_class_member = λ e. absurd cc } };
   answered = record { made = made_of_svc; resolved = resolution_of_svc; answered = inl (refl, inl (refl, inl (refl, inl (refl, inl (joined, refl))))) };
-  is_entry = λ e. absurd cc;
-  is_class_member = λ e. absurd cc;
 }
 
 settle_next : IsNextStep serving unsettled (resolve_of plug "p/Use" 1) (Settle (in_plug "p/Use") 1 of_svc)
@@ -41,7 +38,7 @@ settle_next = record {
   plan = plan_of_use;
   wants = wants_of_use;
   wanted = wanted_of_use;
-  next = inr (in_plug "p/Use", refl, (refl, (refl, (refl, (refl, (refl, tt))))), (of_svc, may_settle, refl));
+  next = inr (in_plug "p/Use", (refl, (refl, (refl, (refl, (refl, (refl, tt)))))), (of_svc, may_settle, refl));
 }
 
 begun : IsBegun serving (resolve_of plug "p/Use" 1) start (loading ++ Constrain (codes "p/T") app plug ∷ Settle (in_plug "p/Use") 1 of_svc ∷ [])
@@ -72,10 +69,12 @@ resolved = record {
   wanted = wanted_of_use;
   over = inl (refl, (refl, (refl, (refl, (refl, (refl, (refl, (refl, (refl, (joined, tt))))))))));
   may_say = record {
-    plan = plan_of_use;
-    planned = record { height = 3; planned = refl };
-    answered = inl (refl, inl (refl, inl (refl, inl (refl, inl (refl, inl (refl, inl (refl, inl (refl, inl (refl, inl (joined, refl))))))))));
-    rests = λ d r own a b. settled d r;
+    answers = record {
+      plan = plan_of_use;
+      planned = record { height = 3; planned = refl };
+      answered = inl (refl, inl (refl, inl (refl, inl (refl, inl (refl, inl (refl, inl (refl, inl (refl, inl (refl, inl (joined, refl))))))))));
+    };
+    rests = λ d past a. settled d past.0;
   };
 }
 
@@ -109,9 +108,11 @@ linked = record {
   wanted = wanted_of_link;
   over = inl (refl, (refl, (refl, (refl, (refl, ((0, omega arith, refl), ((1, omega arith, refl), (joined, ((2, omega arith, refl), tt)))))))));
   may_say = record {
-    plan = plan_of_link;
-    planned = record { height = 3; planned = refl };
-    answered = inl (refl, inl (refl, inl (refl, inl (refl, inl (refl, inl (joined, refl))))));
+    answers = record {
+      plan = plan_of_link;
+      planned = record { height = 3; planned = refl };
+      answered = inl (refl, inl (refl, inl (refl, inl (refl, inl (refl, inl (joined, refl))))));
+    };
     rests = λ c e. subst (λ (d : Class). Contains use_prepared.prepared d) (one_linked _ _ e) (2, omega arith, refl);
   };
 }
@@ -140,10 +141,12 @@ no_reference = record {
   wanted = record { planned = record { height = 3; planned = refl }; past = to_stand plan_of_none.more; follows = refl; whole = refl };
   over = inl (refl, (refl, (refl, (refl, (refl, tt)))));
   may_say = record {
-    plan = plan_of_none;
-    planned = record { height = 3; planned = refl };
-    answered = inl (refl, inl (refl, inl (refl, inl (refl, inl (refl, refl)))));
-    rests = λ d r own a b. absurd (a refl);
+    answers = record {
+      plan = plan_of_none;
+      planned = record { height = 3; planned = refl };
+      answered = inl (refl, inl (refl, inl (refl, inl (refl, inl (refl, refl)))));
+    };
+    rests = λ d past a. absurd (a.is_entry refl);
   };
 }
 

@@ -8,8 +8,7 @@ returns-clause-initiated c = λ script rounds es fs name place loader trusted.
     let may = (trusted_parts script rounds es (Initiate name place loader ∷ fs) trusted).1.0 in (may.0, may.1.fresh)
 
 pub returns-clause-settled : goal.returns-clause-settled
-returns-clause-settled c = λ script rounds es fs d i v trusted.
-    let may = (trusted_parts script rounds es (Settle d i v ∷ fs) trusted).1.0 in (may.recorded, may.unsettled, may.is_entry, may.is_class_member)
+returns-clause-settled c = λ script rounds es fs d i v trusted. (trusted_parts script rounds es (Settle d i v ∷ fs) trusted).1.0
 
 pub returns-clause-prepared : goal.returns-clause-prepared
 returns-clause-prepared c = λ script rounds es fs t trusted. (trusted_parts script rounds es (Prepare t ∷ fs) trusted).1.0

@@ -4,7 +4,7 @@ use Rattle.std.specs.Prelude.{◌≢◌, codes, string_bytes}
 use Rattle.cl_lines.specs.Lines.{Numbered}
 use Rattle.cl_model.specs.Content.{Content, Stored, content_at}
 use Rattle.cl_classfile.specs.Structure.{Structure, spelling}
-use Rattle.cl_config.specs.Scripts.{loader_named}
+use Rattle.cl_config.specs.Views.{loader_named}
 use Rattle.cl_writer.specs.Assembled.{AssembleOf}
 use Rattle.cl_writer.specs.declared.fault.AssembleFault.{AssembleFault}
 use Rattle.cl_writer.specs.declared.fault.AssembleFault.TheVariants as assembler

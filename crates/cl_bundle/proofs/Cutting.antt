@@ -5,8 +5,8 @@ use Rattle.std.proofs.lemmas.Grind.{common_steps}
 use Rattle.std.proofs.lemmas.List.{append_cancel_right, length-drop}
 use Rattle.std.proofs.lemmas.List.Splits.{length-slice_split, join_with_byte-slice_split}
 use Rattle.cl_lines.proofs.LineCuts.{first_part}
-use Rattle.cl_lines.specs.Lines.{CutsLine, Numbered, is_skipped, words_of}
-use Rattle.cl_bundle.specs.Sections.{Heading, InnerLine, ClassLine, ScriptLine, WrongLine, Cut, Part, Parts, add_class, add_line, behind_line, cut_from, cut_of, heading_of, is_config, lines_in, parts_from, with_config}
+use Rattle.cl_lines.specs.Lines.{CutsLine, Numbered, is_skipped, words_of, lines_in}
+use Rattle.cl_bundle.specs.Sections.{Heading, InnerLine, ClassLine, ScriptLine, WrongLine, Cut, Part, Parts, add_class, add_line, behind_line, cut_from, cut_of, heading_of, is_config, parts_from, with_config}
 use Rattle.cl_bundle.specs.Cuts.{CutOf, HasNumber, IsWrongLine, SectionLineOf, cuts_of, add_front, ended_by, heading_from, parts_of}
 use Rattle.cl_bundle.specs.declared.fault.BundleFault.{BundleFault}
 use Rattle.cl_bundle.specs.declared.fault.BundleFault.TheVariants.{BadLine, Memory}

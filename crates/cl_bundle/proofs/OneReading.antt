@@ -15,6 +15,7 @@ use Rattle.cl_bundle.specs.Faults.{IsReason, SameFault}
 use Rattle.cl_bundle.specs.declared.fault.BundleFault.{BundleFault}
 use Rattle.cl_bundle.specs.declared.fault.BundleFault.TheVariants.{BadLine, Config, Script}
 use Rattle.cl_bundle.proofs.Alone.{one_told, one_wrong, same_faults, told_or_wrong}
+use Rattle.std.proofs.lemmas.Bool.{false≢true}
 
 -- ---- sections and configuration
 
@@ -73,7 +74,7 @@ script_at text a b c d r v w p =
 -- ---- the script's fault
 
 told_fault : (f : BundleFault) (wrong : ScriptFault) → f ≡ Script wrong → IsReason f → wrong ≢ scripts.Memory
-told_fault f wrong e some = λ h. subst IsReason (e ∙ ap (λ (x : ScriptFault). Script x) h) some
+told_fault f wrong e some = λ h. false≢true (sym (subst IsReason (e ∙ ap (λ (x : ScriptFault). Script x) h) some))
 
 -- ---- the whole
 
@@ -81,9 +82,9 @@ pub one_bundle : (text : List ℕ) (c d : Configured) (a b : Content) (s t : Scr
 one_bundle text c d a b s t v w =
     let here : IsCut text v.cut c = record { sections = v.sections; configuration = v.configuration } in
     let there : IsCut text w.cut d = record { sections = w.sections; configuration = w.configuration } in
-    let told = same_told text v.cut w.cut c d v.told w.told here there v.classes w.classes in (
+    let told = same_told text v.cut w.cut c d v.contents.0 w.contents.0 here there v.contents.1 w.contents.1 in (
       (same_config text v.cut w.cut c d here there).1,
-      λ l n. v.content_is l n ∙ ap (λ (x : Content). content_at x l n) told ∙ sym (w.content_is l n),
+      λ l n. v.contents.2 l n ∙ ap (λ (x : Content). content_at x l n) told ∙ sym (w.contents.2 l n),
       one_scripted (names_of d) w.cut.script s t (script_at text v.cut w.cut c d (Ok s) here there v.requests) w.requests,
     )
 
@@ -91,7 +92,7 @@ pub bundle_or_fault : (text : List ℕ) (c : Configured) (a : Content) (s : Scri
 bundle_or_fault text c a s f v (WrongLine n e is) some = cut_or_line text v.cut n v.sections e
 bundle_or_fault text c a s f v (WrongConfig cut bad e wrong is) some = config_or_fault v.cut cut c bad (one_cut text v.cut cut v.sections e) v.configuration wrong
 bundle_or_fault text c a s f v (WrongClass cut config e k wrong) some =
-    tells_or_wrong text v.cut cut c config v.told f (record { sections = v.sections; configuration = v.configuration }) (record { sections = e; configuration = k }) v.classes wrong
+    tells_or_wrong text v.cut cut c config v.contents.0 f (record { sections = v.sections; configuration = v.configuration }) (record { sections = e; configuration = k }) v.contents.1 wrong
 bundle_or_fault text c a s f v (WrongScript cut config told fault e k tell wrong is) some =
     script_or_its_fault (names_of config) cut.script s fault
     (script_at text v.cut cut c config (Ok s) (record { sections = v.sections; configuration = v.configuration }) (record { sections = e; configuration = k }) v.requests)

@@ -5,7 +5,7 @@ use Rattle.cl_model.specs.Content.{Content, Stored, content_at}
 use Rattle.cl_source.specs.Puts.{TellsMore}
 use Rattle.cl_source.specs.Shelves.{Inserts}
 use Rattle.cl_source.proofs.Contents.{tells_more}
-use Rattle.cl_config.specs.Scripts.{loader_named}
+use Rattle.cl_config.specs.Views.{loader_named}
 use Rattle.cl_bundle.specs.Sections.{Part}
 use Rattle.cl_bundle.specs.Faults.{UnlessMemory}
 use Rattle.cl_bundle.specs.Bundles.{AllTell, ContentsOf, FirstWrong, StoredAs, StoredBy, StoredOf, TellsSame}

@@ -19,10 +19,10 @@ use Rattle.std.specs.Prelude.{
   Err,
 }
 use Rattle.cl_model.specs.Content.{Content, Stored, content_at}
-use Rattle.cl_config.specs.Views.{Configured, Scripted, names_of}
+use Rattle.cl_config.specs.Views.{Configured, Scripted, names_of, loader_named}
 use Rattle.cl_config.specs.Configs.{config_of}
 use Rattle.cl_source.specs.Puts.{TellsMore}
-use Rattle.cl_config.specs.Scripts.{loader_named, script_of}
+use Rattle.cl_config.specs.Scripts.{script_of}
 use Rattle.cl_config.specs.declared.fault.ConfigFault.{ConfigFault}
 use Rattle.cl_config.specs.declared.script.ScriptFault.{ScriptFault}
 use Rattle.cl_bundle.specs.Sections.{Cut, Part, cut_of}
@@ -73,15 +73,19 @@ FirstWrong names before (part ∷ parts) fault =
 abbrev pub TellsSame : Content → Content → Type 0
 TellsSame a b = (loader : ℕ) (name : List ℕ) → content_at a loader name ≡ content_at b loader name
 
+-- what the class sections give a source
+abbrev pub ContentsOf : List (List ℕ) → List Part → Result Content BundleFault → Type 0
+ContentsOf names parts (Ok content) =
+    (told : Content) × AllTell names [] parts told × TellsSame content told
+ContentsOf names parts (Err fault) = UnlessMemory fault (FirstWrong names [] parts fault)
+
 -- the text is a bundle: its sections are in order, and each part is well formed
 pub record IsBundle (text : List ℕ) (config : Configured) (content : Content) (script : Scripted)
     : Type 0 where
   pub cut : Cut
-  pub told : Content
   pub sections : cut_of text ≡ Ok cut
   pub configuration : config_of cut.config ≡ Ok config
-  pub classes : AllTell (names_of config) [] cut.classes told
-  pub content_is : TellsSame content told
+  pub contents : ContentsOf (names_of config) cut.classes (Ok content)
   pub requests : script_of (names_of config) cut.script (Ok script)
 
 -- the first thing that is wrong with a text, with the fault that tells of it
@@ -118,9 +122,3 @@ PutOf names part old (Ok x) new =
     (stored : Stored) × StoredOf names old part (Ok stored)
     × TellsMore old new stored.loader stored.name stored.bytes
 PutOf names part old (Err fault) new = UnlessMemory fault (StoredOf names old part (Err fault))
-
--- what the class sections give a source
-abbrev pub ContentsOf : List (List ℕ) → List Part → Result Content BundleFault → Type 0
-ContentsOf names parts (Ok content) =
-    (told : Content) × AllTell names [] parts told × TellsSame content told
-ContentsOf names parts (Err fault) = UnlessMemory fault (FirstWrong names [] parts fault)

@@ -16,7 +16,7 @@ use Rattle.std.specs.Prelude.{
   length,
   codes,
   string_bytes,
-  nat_eq,
+  bytes_eq,
   Option,
   Some,
   None,
@@ -30,14 +30,15 @@ use Rattle.std.specs.Prelude.{
 }
 use Rattle.std.specs.List.{concat}
 use Rattle.std.specs.Result.{result_ok}
-use Rattle.std.specs.Cmp.Lexicographic.{pointwise}
+use Rattle.std.specs.Option.{ok_or}
 use Rattle.hex.specs.Hex.{decode_of}
-use Rattle.cl_names.specs.Escape.{escaped}
 use Rattle.cl_classfile.specs.Structure.{Structure, Spells}
+use Rattle.cl_model.specs.Classes as classes
+use Rattle.cl_model.specs.Lines as reports
 use Rattle.cl_writer.specs.Assembled.{AssembleOf, IsAssembled}
 use Rattle.cl_writer.specs.declared.fault.AssembleFault.{AssembleFault}
 use Rattle.cl_writer.specs.declared.fault.AssembleFault.TheVariants as assembler
-use Rattle.cl_lines.specs.Lines.{Numbered, words_of, stated_from}
+use Rattle.cl_lines.specs.Lines.{Numbered, words_of, stated_lines}
 use Rattle.cl_bundle.specs.Sections.{Part}
 use Rattle.cl_bundle.specs.declared.fault.BundleFault.{BundleFault}
 use Rattle.cl_bundle.specs.declared.fault.BundleFault.TheVariants.{BadLine, Class, Memory}
@@ -45,7 +46,7 @@ use Rattle.cl_source.specs.declared.size.TheConstants.{MOST_CLASS_BYTES}
 
 -- the lines of a class section that are not skipped, counted from the one after `%class`
 abbrev pub stated : Part → List Numbered
-stated part = stated_from 1 part.body
+stated part = stated_lines part.body
 
 -- ---- hexadecimal
 
@@ -53,7 +54,7 @@ stated part = stated_from 1 part.body
 abbrev pub line_digits : List (List ℕ) → Option (List ℕ)
 line_digits [] = None
 line_digits (word ∷ words) =
-    if pointwise nat_eq word (codes "@hex") then Some (concat words) else None
+    if bytes_eq word (codes "@hex") then Some (concat words) else None
 
 -- the same of each line, put together
 abbrev pub all_digits : List Numbered → Option (List ℕ)
@@ -71,14 +72,9 @@ abbrev pub is_hex : List Numbered → Bool
 is_hex [] = false
 is_hex (line ∷ lines) = is_some (line_digits (words_of line.text))
 
--- the bytes, or else the line of `%class` is wrong
-abbrev pub bytes_or : ℕ → Option (List ℕ) → Result (List ℕ) BundleFault
-bytes_or line (Some bytes) = Ok bytes
-bytes_or line None = Err (BadLine line)
-
--- what the `@hex` lines of a class section write
+-- what the `@hex` lines of a class section write, or else the line of `%class` is wrong
 abbrev pub hex_written : Part → Result (List ℕ) BundleFault
-hex_written part = bytes_or part.line (hex_bytes (stated part))
+hex_written part = ok_or (hex_bytes (stated part)) (BadLine part.line)
 
 -- ---- assembler text
 
@@ -93,9 +89,9 @@ abbrev pub IsRefused : List Numbered → AssembleFault → Type 0
 IsRefused lines assembler.Memory = ⊥
 IsRefused lines fault = AssembleOf lines (Err fault)
 
--- `N@L`, the name as escaped text and the loader's name
+-- `N@L`, as a report writes a class: the name as escaped text and the loader's name
 abbrev pub class_text : Part → List ℕ
-class_text part = escaped part.name ++ codes "@" ++ part.loader
+class_text part = reports.class_text (part.loader ∷ []) (classes.class part.name 0)
 
 -- what assembler text gives: bytes, or its fault, with the class that it is a fault of
 abbrev pub TextWritten : Part → Result (List ℕ) BundleFault → Type 0

@@ -1,6 +1,6 @@
 -- What the code that cuts a bundle answers, in the words of its sections.
 use Rattle.std.specs.Prelude.{◌≡◌, ℕ, ⊤, List, [], ◌++◌, map, Option, Some, None, Result, Ok, Err}
-use Rattle.cl_lines.specs.Lines.{Numbered, words_of}
+use Rattle.cl_lines.specs.Lines.{Numbered, words_of, lines_in}
 use Rattle.cl_bundle.specs.Sections.{
   Cut,
   Heading,
@@ -14,7 +14,6 @@ use Rattle.cl_bundle.specs.Sections.{
   cut_from,
   cut_of,
   heading_of,
-  lines_in,
   parts_from,
   with_config,
 }

@@ -1,5 +1,20 @@
 -- What may be wrong with a text that is no bundle, and how it is told.
-use Rattle.std.specs.Prelude.{◌≡◌, ⊤, ℕ, List, ◌++◌, codes, string_bytes, Result, Ok, Err}
+use Rattle.std.specs.Bool.{OnFalse}
+use Rattle.std.specs.Prelude.{
+  ◌≡◌,
+  Bool,
+  true,
+  false,
+  IsFalse,
+  ℕ,
+  List,
+  ◌++◌,
+  codes,
+  string_bytes,
+  Result,
+  Ok,
+  Err,
+}
 use Rattle.std.specs.Fmt.{decimal}
 use Rattle.cl_writer.specs.Faults.{assemble_text}
 use Rattle.cl_writer.specs.declared.fault.AssembleFault.TheVariants as assembler
@@ -15,19 +30,20 @@ use Rattle.cl_bundle.specs.declared.fault.BundleFault.TheVariants.{
   Memory,
 }
 
--- that memory is out is taken at its word, whoever tells of it
+-- the fault is that memory is out, whoever tells of it
+abbrev pub is_memory : BundleFault → Bool
+is_memory Memory = true
+is_memory (Script scripts.Memory) = true
+is_memory (Class class assembler.Memory) = true
+is_memory _ = false
+
+-- that memory is out is taken at its word; of any other fault P holds
 abbrev pub UnlessMemory : BundleFault → Type 0 → Type 0
-UnlessMemory Memory P = ⊤
-UnlessMemory (Script scripts.Memory) P = ⊤
-UnlessMemory (Class class assembler.Memory) P = ⊤
-UnlessMemory _ P = P
+UnlessMemory fault P = OnFalse (is_memory fault) P
 
 -- the fault is not out of memory
 abbrev pub IsReason : BundleFault → Type 0
-IsReason Memory = ⊥
-IsReason (Script scripts.Memory) = ⊥
-IsReason (Class class assembler.Memory) = ⊥
-IsReason _ = ⊤
+IsReason fault = IsFalse (is_memory fault)
 
 -- the text of a fault; of what assembler text, a configuration or a script is refused with, that
 -- fault's own text

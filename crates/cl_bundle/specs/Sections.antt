@@ -3,8 +3,7 @@
 use Rattle.std.specs.Prelude.{
   ℕ,
   ◌+◌,
-  ◌==◌,
-  nat_eq,
+  bytes_eq,
   Bool,
   false,
   List,
@@ -21,11 +20,10 @@ use Rattle.std.specs.Prelude.{
   Err,
   if◌then◌else◌,
 }
-use Rattle.std.specs.List.{slice_split, join_with_byte}
-use Rattle.std.specs.Cmp.Lexicographic.{pointwise}
+use Rattle.std.specs.List.{join_with_byte}
 use Rattle.cl_names.specs.Escape.{unescaped}
 use Rattle.cl_names.specs.Kind.{is_class_name}
-use Rattle.cl_lines.specs.Lines.{words_of, is_skipped}
+use Rattle.cl_lines.specs.Lines.{lines_in, words_of, is_skipped}
 
 -- what a line is to a bundle, up to the line `%script`
 pub data Heading : Type 0 where
@@ -58,11 +56,11 @@ script_heading (word ∷ words) = WrongLine
 abbrev pub heading_of : List (List ℕ) → Heading
 heading_of [] = InnerLine
 heading_of (word ∷ words) =
-    if pointwise nat_eq word (codes "%class")
+    if bytes_eq word (codes "%class")
     then class_heading words
-    else if pointwise nat_eq word (codes "%script")
+    else if bytes_eq word (codes "%script")
     then script_heading words
-    else if pointwise nat_eq word (codes "%config")
+    else if bytes_eq word (codes "%config")
     then WrongLine
     else InnerLine
 
@@ -112,10 +110,6 @@ parts_from n (line ∷ lines) =
     behind_line (heading_of (words_of line)) n line (join_with_byte 0x0a lines)
     (parts_from (n + 1) lines)
 
--- the lines of a text, which U+000A parts
-abbrev pub lines_in : List ℕ → List (List ℕ)
-lines_in text = slice_split (λ b. b == 0x0a) text
-
 -- a bundle: what follows `%config`, the class sections, and the script
 pub record Cut : Type 0 where
   pub config : List ℕ
@@ -129,7 +123,7 @@ with_config (Err m) = Err m
 
 -- the words of the line `%config`
 abbrev pub is_config : List (List ℕ) → Bool
-is_config (word ∷ []) = pointwise nat_eq word (codes "%config")
+is_config (word ∷ []) = bytes_eq word (codes "%config")
 is_config _ = false
 
 -- only skipped lines stand before `%config`

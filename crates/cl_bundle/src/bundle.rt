@@ -1,7 +1,7 @@
 ghost use Rattle.std.specs.Prelude.{◌≡◌, ◌++◌, IfOk, IfErr, OnOk, None, Some, length, map, option_map, string_bytes};
 ghost use Rattle.std.specs.List.{concat};
 ghost use Rattle.cl_config.specs.Views.{names_of};
-ghost use Rattle.cl_lines.specs.Lines.{stated_from, words_of};
+ghost use Rattle.cl_lines.specs.Lines.{words_of, stated_lines};
 ghost use Rattle.cl_config.specs.Scripts.{HasLoaders};
 ghost use Rattle.cl_bundle.specs.Bundles.{BundleOf, ConfigFaultOf, ContentsOf, PutOf};
 ghost use Rattle.cl_bundle.specs.Contents.{FaultOf, TextWritten, Written, all_digits, class_text, hex_bytes, is_hex, line_digits};
@@ -119,7 +119,7 @@ fn class_bytes(
 
 /// Whether the first line that is not skipped begins with `@hex`.
 fn is_hex(body: &str) -> bool
-    ensures { result ≡ is_hex (stated_from 1 body.now) }
+    ensures { result ≡ is_hex (stated_lines body.now) }
 {
     match Stated::new(body).next() {
         Some(line) => Words::new(line.text).next() == Some("@hex"),
@@ -183,8 +183,8 @@ impl From<AllocError> for HexFault {
 
 /// The bytes that the `@hex` lines of a class section write.
 fn hex_bytes(alloc: Global, body: &str) -> Result<Vec<u8>, HexFault>
-    ensures ok { IfOk result (λ bytes. hex_bytes (stated_from 1 body.now) ≡ Some bytes.items) }
-    ensures bad { result ≡ Err HexFault.Bad → hex_bytes (stated_from 1 body.now) ≡ None }
+    ensures ok { IfOk result (λ bytes. hex_bytes (stated_lines body.now) ≡ Some bytes.items) }
+    ensures bad { result ≡ Err HexFault.Bad → hex_bytes (stated_lines body.now) ≡ None }
 {
     let digits = hex_digits(alloc, body)?;
     match hex::decode(alloc, digits.as_str()) {
@@ -196,9 +196,9 @@ fn hex_bytes(alloc: Global, body: &str) -> Result<Vec<u8>, HexFault>
 
 /// The words behind `@hex` of all lines that are not skipped, joined.
 fn hex_digits(alloc: Global, body: &str) -> Result<String, HexFault>
-    ensures ok { IfOk result (λ digits. all_digits (stated_from 1 body.now)
+    ensures ok { IfOk result (λ digits. all_digits (stated_lines body.now)
         ≡ Some (string_bytes digits)) }
-    ensures bad { result ≡ Err HexFault.Bad → all_digits (stated_from 1 body.now) ≡ None }
+    ensures bad { result ≡ Err HexFault.Bad → all_digits (stated_lines body.now) ≡ None }
 {
     let mut digits = String::new(alloc);
     for line in Stated::new(body) {

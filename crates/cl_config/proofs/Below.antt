@@ -8,7 +8,8 @@ use Rattle.cl_config.specs.declared.fault.ConfigFault.TheVariants.{LaterLoader}
 use Rattle.cl_config.specs.Steps.{◌>>=◌}
 use Rattle.cl_config.specs.Fields.{list_from}
 use Rattle.cl_config.specs.Entries.{Entry, EntryImport}
-use Rattle.cl_config.specs.Views.{Loader, Import}
+use Rattle.cl_model.specs.Homes.{Import}
+use Rattle.cl_config.specs.Views.{Loader}
 use Rattle.cl_config.specs.Configs.{place_of, earlier, parent_of, import_of, imports_of, loader_of, loaders_of, LeadsBelow, AllLeadBelow}
 
 -- two steps that succeed

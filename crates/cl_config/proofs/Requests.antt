@@ -15,8 +15,8 @@ use Rattle.cl_config.specs.declared.script.Action.{Action}
 use Rattle.cl_config.specs.declared.script.Action.TheVariants as actions
 use Rattle.cl_config.specs.declared.script.Said.{Said}
 use Rattle.cl_config.specs.declared.script.Said.TheVariants.{Ask, Then}
-use Rattle.cl_config.specs.Views.{Scripted}
-use Rattle.cl_config.specs.Scripts.{loader_named, HasLoader, HasLoaders, HasWords, IsRequest, IsThen, WritesIndex, AsksFor, Asks, Says, AllSay, requests_in, rounds_in, thens_in, Fits, StopsAt, Tells, IsOver, IsScript}
+use Rattle.cl_config.specs.Views.{Scripted, loader_named}
+use Rattle.cl_config.specs.Scripts.{HasLoader, HasLoaders, HasWords, IsRequest, IsThen, WritesIndex, AsksFor, Asks, Says, AllSay, requests_in, rounds_in, thens_in, Fits, StopsAt, Tells, IsOver, IsScript}
 use Rattle.cl_names.specs.Name.{WritesClass}
 use Rattle.cl_config.specs.declared.limits.TheConstants.{MOST_REQUESTS, MOST_THENS}
 

@@ -7,8 +7,8 @@ use Rattle.cl_config.specs.declared.script.Action.{Action}
 use Rattle.cl_config.specs.declared.script.Said.{Said}
 use Rattle.cl_config.specs.declared.script.Said.TheVariants.{Ask, Then}
 use Rattle.cl_config.specs.declared.script.ScriptFault.TheVariants.{Memory, BadLine, UnknownLoader, TooMany}
-use Rattle.cl_config.specs.Views.{Scripted}
-use Rattle.cl_config.specs.Scripts.{loader_named, AsksFor, IsBad, LacksLoader, Asks, Says, AllSay, requests_in, thens_in, Fits, script_from, StopsAt, Tells, IsOver, script_of}
+use Rattle.cl_config.specs.Views.{Scripted, loader_named}
+use Rattle.cl_config.specs.Scripts.{AsksFor, IsBad, LacksLoader, Asks, Says, AllSay, requests_in, thens_in, Fits, script_from, StopsAt, Tells, IsOver, script_of}
 use Rattle.cl_config.specs.ScriptLaws.{ScriptHasOneFault, ScriptOrItsFault}
 use Rattle.cl_config.proofs.Requests.{one_asked, request_is_no_round, one_said, all_one_said}
 

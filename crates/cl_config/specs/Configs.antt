@@ -29,6 +29,7 @@ use Rattle.std.specs.Prelude.{
   All,
 }
 use Rattle.std.specs.Cmp.Lexicographic.{pointwise}
+use Rattle.std.specs.Option.{ok_or}
 use Rattle.toml.specs.Data.{as_array, as_table, Items, no_items, item, Members, get_member}
 use Rattle.toml.specs.Parse.{parse_document}
 use Rattle.cl_config.specs.declared.fault.ConfigFault.{ConfigFault}
@@ -40,9 +41,10 @@ use Rattle.cl_config.specs.declared.fault.ConfigFault.TheVariants.{
   TooMany,
 }
 use Rattle.cl_config.specs.Steps.{◌>>=◌}
-use Rattle.cl_config.specs.Fields.{is_one_of, required, has_only, list_from}
+use Rattle.cl_config.specs.Fields.{is_one_of, has_only, list_from}
 use Rattle.cl_config.specs.Entries.{Entry, EntryImport, entries_of}
-use Rattle.cl_config.specs.Views.{Configured, Loader, Import}
+use Rattle.cl_model.specs.Homes.{Import}
+use Rattle.cl_config.specs.Views.{Configured, Loader}
 use Rattle.cl_config.specs.declared.limits.TheConstants.{MOST_LOADERS}
 
 -- ---- the top of the document
@@ -64,8 +66,8 @@ are_tables (item d ds) = is_some (as_table d) && are_tables ds
 -- the array at the top
 abbrev pub array_at : Members → Result Items ConfigFault
 array_at ms =
-    required (BadLoader 0) (get_member (codes "loader") ms)
-    >>= λ d. required (BadLoader 0) (as_array d)
+    ok_or (get_member (codes "loader") ms) (BadLoader 0)
+    >>= λ d. ok_or (as_array d) (BadLoader 0)
 
 -- some tables, and not too many, where nothing stands beside them
 abbrev pub checked_tables : Bool → Items → Result Items ConfigFault
@@ -129,7 +131,7 @@ config_in ms = do
 
 -- the configuration that a text is, or its first fault
 abbrev pub config_of : List ℕ → Result Configured ConfigFault
-config_of text = required NotToml (parse_document text) >>= config_in
+config_of text = ok_or (parse_document text) NotToml >>= config_in
 
 -- ---- what is so of every configuration
 

@@ -25,6 +25,7 @@ use Rattle.std.specs.Prelude.{
   Err,
 }
 use Rattle.std.specs.List.{list_any, list_all}
+use Rattle.std.specs.Option.{ok_or}
 use Rattle.std.specs.Cmp.Lexicographic.{pointwise}
 use Rattle.toml.specs.Data.{Data, as_array, Items, get_member}
 use Rattle.cl_config.specs.declared.fault.ConfigFault.{ConfigFault}
@@ -33,7 +34,6 @@ use Rattle.cl_config.specs.declared.order.Order.{Order}
 use Rattle.cl_config.specs.Steps.{◌>>=◌}
 use Rattle.cl_config.specs.Fields.{
   is_one_of,
-  required,
   table_of,
   text_of,
   optional_text,
@@ -76,7 +76,7 @@ import_at wrong d = do
 abbrev pub imports_at : ConfigFault → Option Data → Result (List EntryImport) ConfigFault
 imports_at wrong None = Ok []
 imports_at wrong (Some d) =
-    required wrong (as_array d) >>= λ ds. each_from (λ before. import_at wrong) [] ds
+    ok_or (as_array d) wrong >>= λ ds. each_from (λ before. import_at wrong) [] ds
 
 -- a byte of a loader's name
 abbrev pub is_name_byte : ℕ → Bool

@@ -20,6 +20,7 @@ use Rattle.std.specs.Prelude.{
   Err,
 }
 use Rattle.std.specs.List.{list_any}
+use Rattle.std.specs.Option.{ok_or}
 use Rattle.std.specs.Cmp.Lexicographic.{pointwise}
 use Rattle.toml.specs.Data.{
   Data,
@@ -47,33 +48,28 @@ has_only known (member k d ms) = known k && has_only known ms
 abbrev pub is_one_of : List (List ℕ) → List ℕ → Bool
 is_one_of keys key = list_any (λ k. pointwise nat_eq key k) keys
 
--- what has to be there
-abbrev pub required : {A : Type 0} → ConfigFault → Option A → Result A ConfigFault
-required wrong None = Err wrong
-required wrong (Some x) = Ok x
-
 -- the table that a value is, with known keys alone
 abbrev pub table_of : ConfigFault → (List ℕ → Bool) → Data → Result Members ConfigFault
 table_of wrong known d =
-    required wrong (as_table d) >>= λ ms. if has_only known ms then Ok ms else Err wrong
+    ok_or (as_table d) wrong >>= λ ms. if has_only known ms then Ok ms else Err wrong
 
 -- a text that has to be there
 abbrev pub text_of : ConfigFault → Option Data → Result (List ℕ) ConfigFault
-text_of wrong value = required wrong (option_and_then as_str value)
+text_of wrong value = ok_or (option_and_then as_str value) wrong
 
 -- a text that may be left out
 abbrev pub optional_text : ConfigFault → Option Data → Result (Option (List ℕ)) ConfigFault
 optional_text wrong None = Ok None
-optional_text wrong (Some d) = required wrong (as_str d) >>= λ text. Ok (Some text)
+optional_text wrong (Some d) = ok_or (as_str d) wrong >>= λ text. Ok (Some text)
 
 -- a name in escaped text, that has to be there
 abbrev pub name_of : ConfigFault → Option Data → Result (List ℕ) ConfigFault
-name_of wrong value = text_of wrong value >>= λ text. required wrong (unescaped text)
+name_of wrong value = text_of wrong value >>= λ text. ok_or (unescaped text) wrong
 
 -- where a loader looks first; its parent, where it is left out
 abbrev pub order_of : ConfigFault → Option Data → Result Order ConfigFault
 order_of wrong None = Ok ParentFirst
-order_of wrong (Some d) = required wrong (as_str d) >>= λ text.
+order_of wrong (Some d) = ok_or (as_str d) wrong >>= λ text.
     if pointwise nat_eq text (codes "parent")
     then Ok ParentFirst
     else if pointwise nat_eq text (codes "child") then Ok ChildFirst else Err wrong

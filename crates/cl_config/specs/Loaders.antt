@@ -1,6 +1,6 @@
 -- The loaders and the schedule of a configuration and a script, as the linkage machine knows them
 -- (JVMS SE 8, 5.3, 5.3.2).
-use Rattle.std.specs.Prelude.{ℕ, List, [], ◌∷◌, map, Option, Some, None}
+use Rattle.std.specs.Prelude.{ℕ, List, [], ◌∷◌, map, option_to_list}
 use Rattle.cl_model.specs.Homes as homes
 use Rattle.cl_model.specs.Machine.{Scheduled}
 use Rattle.cl_model.specs.Views.{request_of}
@@ -9,24 +9,18 @@ use Rattle.cl_config.specs.declared.order.Order.{Order}
 use Rattle.cl_config.specs.declared.order.Order.TheVariants.{ParentFirst, ChildFirst}
 use Rattle.cl_config.specs.Views.{Configured, Loader, Scripted}
 
--- at which loaders a name is searched that none of the imports decides: the parent, where there is
--- one (5.3.2)
-abbrev pub parents_of : Option ℕ → List ℕ
-parents_of None = []
-parents_of (Some parent) = parent ∷ []
-
 -- whether the parent is asked before the own content (5.3.2)
 abbrev pub order_of : Order → homes.Order
 order_of ParentFirst = homes.ParentFirst
 order_of ChildFirst = homes.ChildFirst
 
--- a loader (5.3, 5.3.2)
+-- a loader, above which its parent stands, where it has one (5.3, 5.3.2)
 abbrev pub loader_of : Loader → homes.Loader
 loader_of l =
     record {
-      parents = parents_of l.parent;
+      parents = option_to_list l.parent;
       order = order_of l.order;
-      imports = map (λ m. record { prefix = m.prefix; target = m.target }) l.imports;
+      imports = l.imports;
     }
 
 -- the loaders, in order (5.3)

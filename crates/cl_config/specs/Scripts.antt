@@ -6,14 +6,12 @@ use Rattle.std.specs.Prelude.{
   ◌+◌,
   ◌<◌,
   ◌≤◌,
-  nat_eq,
   List,
   [],
   ◌∷◌,
   ◌++◌,
   length,
   slice_get,
-  position,
   Option,
   Some,
   None,
@@ -22,13 +20,15 @@ use Rattle.std.specs.Prelude.{
   Err,
   codes,
 }
-use Rattle.std.specs.Cmp.Lexicographic.{pointwise}
+use Rattle.std.specs.List.{AllZip}
 use Rattle.std.specs.Str.Parse.{IsNumeral, digits_value}
 use Rattle.cl_model.specs.declared.request.Request.{Request}
 use Rattle.cl_model.specs.declared.request.Request.TheVariants.{Load, Resolve, Link}
+use Rattle.cl_model.specs.Plans.{loaded_by}
+use Rattle.cl_model.specs.Views.{request_of}
 use Rattle.cl_names.specs.Name.{WritesClass}
 use Rattle.cl_lines.specs.Lines.{Numbered, words_of, stated_from}
-use Rattle.cl_config.specs.Views.{Scripted}
+use Rattle.cl_config.specs.Views.{Scripted, loader_named}
 use Rattle.cl_config.specs.declared.script.Action.{Action}
 use Rattle.cl_config.specs.declared.script.Action.TheVariants as actions
 use Rattle.cl_config.specs.declared.script.Said.{Said}
@@ -43,10 +43,6 @@ use Rattle.cl_config.specs.declared.script.ScriptFault.TheVariants.{
 use Rattle.cl_config.specs.declared.limits.TheConstants.{MOST_INDEX, MOST_REQUESTS, MOST_THENS}
 
 -- ---- one line
-
--- the first loader of this name, counted from 0
-abbrev pub loader_named : List (List ℕ) → List ℕ → Option ℕ
-loader_named names word = position (λ name. pointwise nat_eq name word) names
 
 -- one to five digits write this index of a constant pool (JVMS SE 8, 4.1)
 pub record WritesIndex (text : List ℕ) (index : ℕ) : Type 0 where
@@ -105,14 +101,24 @@ pub record LacksLoader (names : List (List ℕ)) (line : List ℕ) : Type 0 wher
   pub request : IsRequest line action word name
   pub unknown : loader_named names word ≡ None
 
+-- the line alone has this fault: it is none that a script may have, or it is a request whose loader
+-- there is not; memory may run out at each
+abbrev pub HasFault : List (List ℕ) → Numbered → ScriptFault → Type 0
+HasFault names line (BadLine n) = (n ≡ line.number) × IsBad line.text
+HasFault names line (UnknownLoader n) = (n ≡ line.number) × LacksLoader names line.text
+HasFault names line TooMany = ⊥
+HasFault names line Memory = Unit {0}
+
+-- what a line is read as: what it says, or its fault
+abbrev pub line_of : List (List ℕ) → Numbered → Result Said ScriptFault → Type 0
+line_of names line (Ok one) = Says names line.text one
+line_of names line (Err fault) = HasFault names line fault
+
 -- ---- all lines
 
 -- the lines say these, in order
 abbrev pub AllSay : List (List ℕ) → List Numbered → List Said → Type 0
-AllSay names [] [] = Unit {0}
-AllSay names [] (x ∷ xs) = ⊥
-AllSay names (l ∷ ls) [] = ⊥
-AllSay names (l ∷ ls) (x ∷ xs) = Says names l.text x × AllSay names ls xs
+AllSay names lines said = AllZip (λ l x. Says names l.text x) lines said
 
 -- the requests, in order
 abbrev pub requests_in : List Said → List Request
@@ -172,28 +178,17 @@ pub record IsOver (names : List (List ℕ)) (said : List Said) (line : Numbered)
 abbrev pub script_of : List (List ℕ) → List ℕ → Result Scripted ScriptFault → Type 0
 script_of names text (Ok script) = Tells names (stated_from 1 text) script
 script_of names text (Err (BadLine n)) =
-    StopsAt names (stated_from 1 text) (λ said line. (n ≡ line.number) × IsBad line.text)
+    StopsAt names (stated_from 1 text) (λ said line. HasFault names line (BadLine n))
 script_of names text (Err (UnknownLoader n)) =
-    StopsAt names (stated_from 1 text)
-    (λ said line. (n ≡ line.number) × LacksLoader names line.text)
+    StopsAt names (stated_from 1 text) (λ said line. HasFault names line (UnknownLoader n))
 script_of names text (Err TooMany) = StopsAt names (stated_from 1 text) (IsOver names)
 script_of names text (Err Memory) = 0 < length (stated_from 1 text)
-
--- the same of one line
-abbrev pub line_of : List (List ℕ) → Numbered → Result Said ScriptFault → Type 0
-line_of names line (Ok one) = Says names line.text one
-line_of names line (Err (BadLine n)) = (n ≡ line.number) × IsBad line.text
-line_of names line (Err (UnknownLoader n)) = (n ≡ line.number) × LacksLoader names line.text
-line_of names line (Err TooMany) = ⊥
-line_of names line (Err Memory) = Unit {0}
 
 -- ---- what is so of every script
 
 -- the request's loader is one of so many
 abbrev pub HasLoader : ℕ → Request → Type 0
-HasLoader count (Load loader name) = loader < count
-HasLoader count (Resolve loader name index) = loader < count
-HasLoader count (Link loader name) = loader < count
+HasLoader count r = (loaded_by (request_of r)).loader < count
 
 -- each request's loader is one of so many
 abbrev pub HasLoaders : ℕ → List Request → Type 0

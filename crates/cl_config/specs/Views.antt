@@ -1,12 +1,9 @@
 -- What contracts see of a configuration and a script (JVMS SE 8, 5.3).
-use Rattle.std.specs.Prelude.{ℕ, List, Option, map}
+use Rattle.std.specs.Prelude.{ℕ, List, Option, map, nat_eq, position}
+use Rattle.std.specs.Cmp.Lexicographic.{pointwise}
+use Rattle.cl_model.specs.Homes.{Import}
 use Rattle.cl_model.specs.declared.request.Request.{Request}
 use Rattle.cl_config.specs.declared.order.Order.{Order}
-
--- names that begin with this prefix are searched at that loader alone (5.3.2)
-pub record Import : Type 0 where
-  pub prefix : List ℕ
-  pub target : ℕ
 
 -- a loader: its name, the directory of its own content, whom it asks and when, and what it takes
 -- from where (5.3, 5.3.2)
@@ -24,6 +21,10 @@ pub record Configured : Type 0 where
 -- the loaders' names, in order (5.3)
 abbrev pub names_of : Configured → List (List ℕ)
 names_of c = map (λ l. l.name) c.loaders
+
+-- the first loader of this name, among the names of all in order, counted from 0 (5.3)
+abbrev pub loader_named : List (List ℕ) → List ℕ → Option ℕ
+loader_named names word = position (λ name. pointwise nat_eq name word) names
 
 -- the requests in order, the round of each, counted from 0, and how many rounds there are; a round
 -- may be empty

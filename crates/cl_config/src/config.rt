@@ -1,13 +1,14 @@
 //! The configuration that a text is.
 
-ghost use Rattle.std.specs.Prelude.{◌≡◌, ◌≢◌, ◌<◌, ◌≤◌, ◌++◌, [], ◌∷◌, length, map, string_bytes, slice_get, position, nat_eq, is_some, All, IfOk, IfSome, MatchBool};
+ghost use Rattle.std.specs.Prelude.{◌≡◌, ◌<◌, ◌≤◌, ◌++◌, [], ◌∷◌, length, map, string_bytes, slice_get, position, nat_eq, is_some, All, IfOk, IfSome};
 ghost use Rattle.std.specs.List.{list_all};
 ghost use Rattle.std.specs.Cmp.Lexicographic.{pointwise};
 ghost use Rattle.toml.specs.Data.{as_table};
 ghost use Rattle.toml.specs.View.{view, table_view, items_view};
 ghost use Rattle.cl_config.specs.Configs.{top_of, array_at, checked_tables, config_in, config_of, IsConfig, LeadsBelow};
 ghost use Rattle.cl_config.specs.Steps.{Finds, Gives};
-ghost use Rattle.cl_config.specs.Views.{names_of};
+ghost use Rattle.cl_config.specs.Views.{loader_named, names_of};
+ghost use Rattle.cl_names.specs.Truth.{Decides};
 
 use crate::entry::entries_in;
 use crate::fault::{ConfigError, ConfigFault};
@@ -91,15 +92,14 @@ impl Config {
     /// Whether the other has the same loaders: names, directories, parents, orders and imports, all in order. The seeds
     /// take no part.
     pub fn is_same(&self, other: &Config) -> bool
-        ensures { MatchBool result (self.now ≡ other.now) (self.now ≢ other.now) }
+        ensures { Decides result (self.now ≡ other.now) }
     {
         are_same(self.loaders.as_slice(), other.loaders.as_slice())
     }
 
     /// The loader of this name.
     pub fn loader(&self, word: &str) -> Option<LoaderId>
-        ensures found { result ≡ position (λ name. pointwise nat_eq name word.now)
-            (names_of self.now) }
+        ensures found { result ≡ loader_named (names_of self.now) word.now }
         ensures within { IfSome result (λ l. l < length self.now.loaders) }
     {
         let place = place_of(self.loaders.as_slice(), word)?;

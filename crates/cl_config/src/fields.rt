@@ -3,10 +3,10 @@
 ghost use Rattle.std.specs.Prelude.{◌≡◌, ◌<◌, ◌^◌, List, [], length, map, string_bytes, nat_eq, unwrap_or, Ok};
 ghost use Rattle.std.specs.List.{list_any};
 ghost use Rattle.std.specs.Cmp.Lexicographic.{pointwise};
-ghost use Rattle.std.specs.Option.{option_map};
+ghost use Rattle.std.specs.Option.{ok_or, option_map};
 ghost use Rattle.toml.specs.Data.{Data, get_member, as_str};
 ghost use Rattle.toml.specs.View.{view, table_view, array_view};
-ghost use Rattle.cl_config.specs.Fields.{has_only, required, table_of, text_of, optional_text, name_of};
+ghost use Rattle.cl_config.specs.Fields.{has_only, table_of, text_of, optional_text, name_of};
 ghost use Rattle.cl_names.specs.Escape.{unescaped};
 ghost use Rattle.cl_config.specs.Steps.{Finds, Gives};
 
@@ -98,7 +98,7 @@ impl Field for Option<Text> {
 
 /// The text that a value is.
 fn text_in(alloc: Global, wrong: ConfigFault, value: &Value) -> Result<Text, ConfigError>
-    ensures { Gives (λ x. x) result (required wrong (as_str (view value.now))) }
+    ensures { Gives (λ x. x) result (ok_or (as_str (view value.now)) wrong) }
 {
     match value.as_str() {
         Some(text) => Text::new(alloc, text),
@@ -150,7 +150,7 @@ impl Field for Name {
 
 /// The name that escaped text writes.
 fn name_in_text(alloc: Global, wrong: ConfigFault, text: &str) -> Result<Name, ConfigError>
-    ensures { Gives (λ x. x) result (required wrong (unescaped text.now)) }
+    ensures { Gives (λ x. x) result (ok_or (unescaped text.now) wrong) }
 {
     match Name::from_text(alloc, text) {
         Ok(name) => Ok(name),

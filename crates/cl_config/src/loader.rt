@@ -32,7 +32,7 @@ impl Drop for Import {
 }
 
 impl Model for Import {
-    ghost use Rattle.cl_config.specs.Views.{Import as Shown};
+    ghost use Rattle.cl_model.specs.Homes.{Import as Shown};
 
     ghost Value = { Shown };
 
@@ -69,7 +69,7 @@ impl Drop for Imports {
 
 impl Model for Imports {
     ghost use Rattle.std.specs.Prelude.{List};
-    ghost use Rattle.cl_config.specs.Views.{Import as Shown};
+    ghost use Rattle.cl_model.specs.Homes.{Import as Shown};
 
     ghost Value = { List Shown };
 

@@ -1,6 +1,7 @@
 //! Whether two values are the same, where `==` may take two for equal that are not.
 
-ghost use Rattle.std.specs.Prelude.{◌≡◌, ◌≢◌, MatchBool};
+ghost use Rattle.std.specs.Prelude.{◌≡◌};
+ghost use Rattle.cl_names.specs.Truth.{Decides};
 
 use crate::loader::{Import, Loader};
 use cl_model::Request;
@@ -9,7 +10,7 @@ use cl_model::Request;
 pub trait Same {
     /// Whether the other is the same.
     fn is_same(&self, other: &Self) -> bool
-        ensures { MatchBool result (self.now ≡ other.now) (self.now ≢ other.now) };
+        ensures { Decides result (self.now ≡ other.now) };
 }
 
 impl Same for Import {
@@ -36,7 +37,7 @@ impl Same for Request {
 
 /// Whether two lists have the same items in the same order. It stops at the first that differ.
 pub fn are_same<T: Same>(items: &[T], others: &[T]) -> bool
-    ensures { MatchBool result (items.now ≡ others.now) (items.now ≢ others.now) }
+    ensures { Decides result (items.now ≡ others.now) }
 {
     if items.len() != others.len() {
         return false;

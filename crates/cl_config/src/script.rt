@@ -1,9 +1,10 @@
 //! The requests that a text asks for, in rounds.
 
-ghost use Rattle.std.specs.Prelude.{◌≡◌, ◌≢◌, ◌<◌, List, ℕ, [], ◌∷◌, ◌++◌, MatchBool, MatchOption, IfOk, OnOk, codes, length, slice_get};
+ghost use Rattle.std.specs.Prelude.{◌≡◌, ◌<◌, List, ℕ, [], ◌∷◌, ◌++◌, MatchOption, IfOk, OnOk, codes, length, slice_get};
 ghost use Rattle.cl_config.specs.Scripts.{script_of, line_of, HasLoaders, HasWords, IsScript, IsThen, WritesIndex};
 ghost use Rattle.cl_config.specs.declared.script.Action.{Action};
 ghost use Rattle.cl_config.specs.Views.{Scripted, names_of};
+ghost use Rattle.cl_names.specs.Truth.{Decides};
 
 use crate::config::Config;
 use crate::limits::{MOST_REQUESTS, MOST_THENS};
@@ -120,7 +121,7 @@ impl Script {
 
     /// Whether the other has the same requests, in order and in the same rounds, and as many rounds.
     pub fn is_same(&self, other: &Script) -> bool
-        ensures { MatchBool result (self.now ≡ other.now) (self.now ≢ other.now) }
+        ensures { Decides result (self.now ≡ other.now) }
     {
         let same_rounds = self.rounds == other.rounds && self.rounds_of == other.rounds_of;
         same_rounds && are_same(self.requests.as_slice(), other.requests.as_slice())
@@ -200,7 +201,7 @@ fn line_says(alloc: Global, config: &Config, line: Line<'_>) -> Result<Said, Scr
 
 /// Whether a line is the one word `then`.
 fn is_then(line: &str) -> bool
-    ensures { MatchBool result (IsThen line.now) (IsThen line.now → ⊥) }
+    ensures { Decides result (IsThen line.now) }
 {
     let mut words = Words::new(line);
     match (words.next(), words.next()) {

@@ -1,5 +1,6 @@
 -- What the groups of one name say of joined loaders and their homes.
-use Rattle.std.proofs.Common.{◌≡◌, ◌≢◌, ◌⊎◌, inl, inr, ℕ, Bool, true, false, ◌==◌, ◌&&◌, ◌||◌, List, [], ◌∷◌, ◌++◌, Option, Some, None, map, refl, sym, ap, ◌↔◌, MatchBool, ◌∙◌, subst, eq-eqb}
+use Rattle.std.proofs.Common.{◌≡◌, ◌≢◌, ◌⊎◌, inl, inr, ℕ, Bool, true, false, ◌==◌, ◌&&◌, ◌||◌, List, [], ◌∷◌, ◌++◌, Option, Some, None, map, refl, sym, ap, ◌↔◌, ◌∙◌, subst, eq-eqb}
+use Rattle.std.specs.Bool.{FalseIff}
 use Rattle.std.specs.List.{list_any}
 use Rattle.std.proofs.lemmas.Bool.{and_from, eqb-true, or_left, or_right}
 use Rattle.std.specs.Prelude.{if◌then◌else◌}
@@ -7,7 +8,7 @@ use Rattle.cl_constraints.specs.declared.record.Entered.{Entered}
 use Rattle.cl_constraints.specs.Records.{home_in}
 use Rattle.cl_constraints.specs.Groups.{Joint, Grouped, group_of, shared, AreJoined, AreApart, HasItsHome, HaveHomes, IsGrouped, home_or, class_in, IsClassOf, loaders_or, members, with_home}
 use Rattle.cl_model.specs.Probes.{is_in}
-use Rattle.cl_constraints.specs.Singles.{Differs, Divides}
+use Rattle.cl_model.specs.States.{Differs, Divides}
 use Rattle.cl_constraints.proofs.Recording.{home_elsewhere, home_here}
 
 -- a loader that is in no group shares none
@@ -125,7 +126,7 @@ same_class v a b p q ca cb d e =
     d.differs.differ same
 
 -- the comparison of two loaders' classes tells whether they agree
-pub agreeing : (v : Grouped) (a b p q : ℕ) (same : Bool) → same ≡ (p == q) → IsClassOf v a (Some p) → IsClassOf v b (Some q) → MatchBool same (Divides (λ x. home_in v.records x) (λ x y. AreJoined v.groups x y) a b → ⊥) (Divides (λ x. home_in v.records x) (λ x y. AreJoined v.groups x y) a b)
+pub agreeing : (v : Grouped) (a b p q : ℕ) (same : Bool) → same ≡ (p == q) → IsClassOf v a (Some p) → IsClassOf v b (Some q) → FalseIff same (Divides (λ x. home_in v.records x) (λ x y. AreJoined v.groups x y) a b)
 agreeing v a b p q true e ca cb = λ d. same_class v a b p q ca cb d (eqb-true p q (sym e))
 agreeing v a b p q false e ca cb = divides_by v a b p q ca cb (λ k. let t : (p == q) ≡ true = eq-eqb p q k in let z : false ≡ true = e ∙ t in absurd cc)
 

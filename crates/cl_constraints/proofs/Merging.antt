@@ -9,7 +9,8 @@ use Rattle.cl_constraints.specs.declared.record.Entered.{Entered}
 use Rattle.cl_constraints.specs.Records.{home_in}
 use Rattle.cl_constraints.specs.Groups.{Joint, Grouped, group_of, shared, AreJoined, AreApart, HasItsHome, HaveHomes, IsGrouped, class_in, IsClassOf, members, without, joint_of, merged}
 use Rattle.cl_model.specs.Probes.{is_in}
-use Rattle.cl_constraints.specs.Singles.{Divides, Joins}
+use Rattle.cl_model.specs.States.{Divides}
+use Rattle.cl_constraints.specs.Singles.{Joins}
 use Rattle.cl_constraints.proofs.Grouping.{class_shared, divides_by, in_group, joined_member, members_joined, shared_found}
 
 -- a group that neither loader is in

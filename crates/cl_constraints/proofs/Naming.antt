@@ -1,7 +1,8 @@
 -- What a book of names stands for, as one name's constraints change.
-use Rattle.std.proofs.Common.{◌≡◌, ◌≢◌, ◌⊎◌, inl, inr, ◌↔◌, ℕ, Bool, true, false, ◌==◌, ◌&&◌, if◌then◌else◌, List, [], ◌∷◌, ◌++◌, Option, Some, None, refl, sym, ap, subst, ◌∙◌, nat_eq, MatchBool, IsSome, arith, cond}
-use Rattle.std.specs.Prelude.{find, option_map, Contains, not}
+use Rattle.std.proofs.Common.{◌≡◌, ◌≢◌, ◌⊎◌, inl, inr, ◌↔◌, ℕ, Bool, true, false, ◌==◌, ◌&&◌, if◌then◌else◌, List, [], ◌∷◌, ◌++◌, Option, Some, None, refl, sym, ap, subst, ◌∙◌, nat_eq, IsSome, arith, cond}
+use Rattle.std.specs.Prelude.{find, option_map, option_and_then, Contains, MatchOption, not}
 use Rattle.std.specs.Option.{option_or}
+use Rattle.std.specs.Bool.{FalseIff}
 use Rattle.std.specs.HashMap.{UpdatesBy, WritesThrough}
 use Rattle.std.specs.Map.{set_value}
 use Rattle.std.specs.Cmp.Lexicographic.{pointwise, bytes_decides}
@@ -10,14 +11,22 @@ use Rattle.std.proofs.lemmas.Bool.{eqb-true}
 use Rattle.std.proofs.lemmas.Cmp.{nat_eq_equiv, nat_list_eq_equiv}
 use Rattle.indexmap.specs.IndexMap.{IndexMap}
 use Rattle.cl_classfile.specs.Files.{Name, same_name}
-use Rattle.cl_model.specs.States.{State, start, Record, Equality, Need, Entry, Equal, recorded, Joined, Violated, Met, Clashes, Refused, added}
+use Rattle.cl_model.specs.States.{State, start, Record, Equality, Need, Entry, Equal, recorded, Joined, Violated, Met, Clashes, Refused, added, Differs, Divides}
 use Rattle.cl_model.specs.States as States
+use Rattle.cl_names.specs.Truth.{Decides}
 use Rattle.cl_model.proofs.Runs.{added_later, joined_later, joined_then, joined_back, joined_link, last_linked, met_clash, adds, record_found, start_unviolated, names_equal, path_added}
 use Rattle.cl_constraints.specs.Books.{IsBookOf}
-use Rattle.cl_constraints.specs.Singles.{Differs, Divides, Enters, Joins}
-use Rattle.cl_constraints.specs.Named.{found, home_or_none, home_of, joins_or_same, joins_of, Sets, EntersAt, JoinsAt}
+use Rattle.cl_constraints.specs.Singles.{Enters, Joins}
+use Rattle.cl_constraints.specs.Named.{found, home_of, joins_of, Sets, EntersAt, JoinsAt}
 
 -- ---- one name of a book
+
+-- `home_of` and `joins_of`, by what stands of the name
+abbrev home_or_none : {N : Type 0} → (N → ℕ → Option ℕ) → ℕ → Option N → Option ℕ
+home_or_none record_at l o = option_and_then (λ one. record_at one l) o
+
+abbrev joins_or_same : {N : Type 0} → (N → ℕ → ℕ → Type 0) → ℕ → ℕ → Option N → Type 0
+joins_or_same joins a b o = MatchOption o (a ≡ b) (λ one. joins one a b)
 
 other_name : (name m : Name) → m ≢ name → pointwise nat_eq name m ≡ false
 other_name name m differ = by (pointwise nat_eq name m) refl
@@ -96,19 +105,19 @@ module _ {N : Type 0} (record_at : N → ℕ → Option ℕ) (joins : N → ℕ 
 -- ---- what a book stands for
 
 module _ (home : Name → ℕ → Option ℕ) (joins : Name → ℕ → ℕ → Type 0) (s : State) (book : IsBookOf home joins s) where
-  differs_to : (name : Name) (loader place : ℕ) → Differs (home name) (joins name) loader place → States.Differs s name loader place
+  differs_to : (name : Name) (loader place : ℕ) → Differs (home name) (joins name) loader place → Clashes s (Entry loader name place)
   differs_to name loader place d =
       record { other = d.other; other_place = d.other_place; joined = (book.joined name loader d.other).0 d.joined; recorded_there = book.records name d.other ∙ d.recorded_there; differ = d.differ }
 
-  differs_from : (name : Name) (loader place : ℕ) → States.Differs s name loader place → Differs (home name) (joins name) loader place
+  differs_from : (name : Name) (loader place : ℕ) → Clashes s (Entry loader name place) → Differs (home name) (joins name) loader place
   differs_from name loader place d =
       record { other = d.other; other_place = d.other_place; joined = (book.joined name loader d.other).1 d.joined; recorded_there = sym (book.records name d.other) ∙ d.recorded_there; differ = d.differ }
 
-  divides_to : (name : Name) (a b : ℕ) → Divides (home name) (joins name) a b → States.Divides s name a b
+  divides_to : (name : Name) (a b : ℕ) → Divides (home name) (joins name) a b → Clashes s (Equal name a b)
   divides_to name a b d =
       record { one = d.one; place = d.place; joined = (book.joined name a d.one).0 d.joined; recorded_there = book.records name d.one ∙ d.recorded_there; differs = differs_to name b d.place d.differs }
 
-  divides_from : (name : Name) (a b : ℕ) → States.Divides s name a b → Divides (home name) (joins name) a b
+  divides_from : (name : Name) (a b : ℕ) → Clashes s (Equal name a b) → Divides (home name) (joins name) a b
   divides_from name a b d =
       record { one = d.one; place = d.place; joined = (book.joined name a d.one).1 d.joined; recorded_there = sym (book.records name d.one) ∙ d.recorded_there; differs = differs_from name b d.place d.differs }
 
@@ -128,16 +137,16 @@ module _ (home : Name → ℕ → Option ℕ) (joins : Name → ℕ → ℕ → 
   fitting_equal name a b fits r = fits (divides_from name a b r.clashes)
 
   -- a test of one name tells of the state
-  pub admits_so : (answer : Bool) (name : Name) (loader place : ℕ) → MatchBool answer (Differs (home name) (joins name) loader place → ⊥) (Differs (home name) (joins name) loader place) → MatchBool answer (Refused s (Entry loader name place) → ⊥) (Refused s (Entry loader name place))
+  pub admits_so : (answer : Bool) (name : Name) (loader place : ℕ) → FalseIff answer (Differs (home name) (joins name) loader place) → FalseIff answer (Refused s (Entry loader name place))
   admits_so true name loader place fits = fitting_entry name loader place fits
   admits_so false name loader place d = refused_entry name loader place d
 
-  pub refuses_so : (answer : Bool) (name : Name) (a b : ℕ) → MatchBool answer (Divides (home name) (joins name) a b → ⊥) (Divides (home name) (joins name) a b)
-      → MatchBool (not answer) (Refused s (Equal name a b)) (Refused s (Equal name a b) → ⊥)
+  pub refuses_so : (answer : Bool) (name : Name) (a b : ℕ) → FalseIff answer (Divides (home name) (joins name) a b)
+      → Decides (not answer) (Refused s (Equal name a b))
   refuses_so true name a b fits = fitting_equal name a b fits
   refuses_so false name a b d = refused_equal name a b d
 
-  pub joined_so : (answer : Bool) (name : Name) (a b : ℕ) → MatchBool answer (joins name a b) (joins name a b → ⊥) → MatchBool answer (Met s (Equal name a b)) (Met s (Equal name a b) → ⊥)
+  pub joined_so : (answer : Bool) (name : Name) (a b : ℕ) → Decides answer (joins name a b) → Decides answer (Met s (Equal name a b))
   joined_so true name a b j = (book.joined name a b).0 j
   joined_so false name a b apart = λ j. apart ((book.joined name a b).1 j)
 
@@ -263,8 +272,8 @@ start_book {N} record_at joins book e = subst (λ (z : List (Name × N)). IsBook
 -- ---- what is asked of one name
 
 module _ {N : Type 0} (record_at : N → ℕ → Option ℕ) (joins : N → ℕ → ℕ → Type 0) (book : List (Name × N)) (name : Name) (one : N) (there : found book name ≡ Some one) (a b : ℕ) where
-  pub agrees_so : (answer : Bool) → MatchBool answer (Divides (record_at one) (joins one) a b → ⊥) (Divides (record_at one) (joins one) a b) → MatchBool answer (Divides (home_of record_at book name) (joins_of joins book name) a b → ⊥) (Divides (home_of record_at book name) (joins_of joins book name) a b)
-  agrees_so answer h = subst (λ o. MatchBool answer (Divides (λ l. home_or_none record_at l o) (λ x y. joins_or_same joins x y o) a b → ⊥) (Divides (λ l. home_or_none record_at l o) (λ x y. joins_or_same joins x y o) a b)) (sym there) h
+  pub agrees_so : (answer : Bool) → FalseIff answer (Divides (record_at one) (joins one) a b) → FalseIff answer (Divides (home_of record_at book name) (joins_of joins book name) a b)
+  agrees_so answer h = subst (λ o. FalseIff answer (Divides (λ l. home_or_none record_at l o) (λ x y. joins_or_same joins x y o) a b)) (sym there) h
 
   pub agrees_here : (Divides (home_of record_at book name) (joins_of joins book name) a b → ⊥) → Divides (record_at one) (joins one) a b → ⊥
   agrees_here h = subst (λ o. Divides (λ l. home_or_none record_at l o) (λ x y. joins_or_same joins x y o) a b → ⊥) there h

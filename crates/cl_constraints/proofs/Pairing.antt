@@ -7,7 +7,8 @@ use Rattle.std.proofs.lemmas.List.Sums.{fold-append}
 use Rattle.cl_constraints.specs.declared.plain.Pair.{Pair}
 use Rattle.cl_constraints.specs.declared.plain.Placed.{Placed}
 use Rattle.cl_constraints.specs.Pairs.{Paired, home_at, next_by, end_in, ArePaired, IsPlaced, ArePlaced, differs_at, divides_at, moved}
-use Rattle.cl_constraints.specs.Singles.{Differs, Divides, Joins, TellsFit, TellsAgreement}
+use Rattle.cl_model.specs.States.{Differs, Divides}
+use Rattle.cl_constraints.specs.Singles.{Joins, TellsFit, TellsAgreement}
 use Rattle.cl_constraints.proofs.Recording.{home_elsewhere, home_here}
 
 -- ---- what one of the records passes

@@ -1,7 +1,9 @@
 -- What a book of loading constraints stands for (JVMS SE 8, 5.3.4).
-use Rattle.std.specs.Prelude.{◌≡◌, ℕ, ◌↔◌, Option, Bool, true, false, MatchBool}
+use Rattle.std.specs.Prelude.{◌≡◌, ℕ, ◌↔◌, Option, Bool, true, false}
+use Rattle.std.specs.Bool.{FalseIff}
 use Rattle.cl_classfile.specs.Files.{Name}
 use Rattle.cl_model.specs.States.{State, Need, recorded, Joined, Violated, Met, Refused, added}
+use Rattle.cl_names.specs.Truth.{Decides}
 use Rattle.cl_constraints.specs.declared.fault.BookFault.{BookFault}
 use Rattle.cl_constraints.specs.declared.fault.BookFault.TheVariants.{Memory, Violates}
 
@@ -20,19 +22,21 @@ Wherever stands holds = (s : State) → stands s → holds s
 abbrev pub Tells : (State → Type 0) → ℕ → Name → Option ℕ → Type 0
 Tells stands loader name answer = Wherever stands (λ s. recorded s.records loader name ≡ answer)
 
+-- the answer tells whether this holds in each state that a book stands for
+abbrev pub TellsOf : (State → Type 0) → Bool → (State → Type 0) → Type 0
+TellsOf stands answer holds = Wherever stands (λ s. Decides answer (holds s))
+
 -- the answer tells whether a need is not refused (5.3.4)
 abbrev pub Admits : (State → Type 0) → Need → Bool → Type 0
-Admits stands need answer =
-    Wherever stands (λ s. MatchBool answer (Refused s need → ⊥) (Refused s need))
+Admits stands need answer = Wherever stands (λ s. FalseIff answer (Refused s need))
 
 -- the answer tells whether a need is refused (5.3.4)
 abbrev pub Refuses : (State → Type 0) → Need → Bool → Type 0
-Refuses stands need answer =
-    Wherever stands (λ s. MatchBool answer (Refused s need) (Refused s need → ⊥))
+Refuses stands need answer = TellsOf stands answer (λ s. Refused s need)
 
 -- the answer tells whether a need is met (5.3.4)
 abbrev pub Meets : (State → Type 0) → Need → Bool → Type 0
-Meets stands need answer = Wherever stands (λ s. MatchBool answer (Met s need) (Met s need → ⊥))
+Meets stands need answer = TellsOf stands answer (λ s. Met s need)
 
 -- a need is not refused, and is added (5.3.4)
 abbrev pub Adds : {B : Type 0} → (B → State → Type 0) → B → B → Need → Type 0

@@ -37,12 +37,16 @@ AreApart (g ∷ gs) =
     → list_any (λ other. is_in other.loaders loader) gs ≡ false)
     × AreApart gs
 
--- a group's home is that of each record of its loaders, and one of them has it (5.3.4)
-pub record HasItsHome (records : List Entered) (g : Joint) : Type 0 where
-  pub every : (loader place : ℕ) → is_in g.loaders loader ≡ true → home_in records loader ≡ Some place
-      → g.home ≡ Some place
-  pub some : (place : ℕ) → g.home ≡ Some place
-      → (loader : ℕ) × (is_in g.loaders loader ≡ true) × (home_in records loader ≡ Some place)
+-- the class is recorded by one of these loaders, and by all of them that record the name (5.3.4)
+pub record IsClassAmong (records : List Entered) (among : ℕ → Type 0) (class : Option ℕ) : Type 0 where
+  pub every : (loader place : ℕ) → among loader → home_in records loader ≡ Some place
+      → class ≡ Some place
+  pub some : (place : ℕ) → class ≡ Some place
+      → (loader : ℕ) × among loader × (home_in records loader ≡ Some place)
+
+-- a group's home is the class that is recorded by its loaders (5.3.4)
+abbrev pub HasItsHome : List Entered → Joint → Type 0
+HasItsHome records g = IsClassAmong records (λ loader. is_in g.loaders loader ≡ true) g.home
 
 -- each of these groups has
 abbrev pub HaveHomes : List Entered → List Joint → Type 0
@@ -62,13 +66,9 @@ home_or alone (Some g) = g.home
 abbrev pub class_in : Grouped → ℕ → Option ℕ
 class_in v loader = home_or (home_in v.records loader) (group_of v.groups loader)
 
--- the class is recorded by something joined to the loader, and by all of it that records the name
--- (5.3.4)
-pub record IsClassOf (v : Grouped) (loader : ℕ) (class : Option ℕ) : Type 0 where
-  pub every : (other place : ℕ) → AreJoined v.groups loader other
-      → home_in v.records other ≡ Some place → class ≡ Some place
-  pub some : (place : ℕ) → class ≡ Some place
-      → (other : ℕ) × AreJoined v.groups loader other × (home_in v.records other ≡ Some place)
+-- the class is recorded by what is joined to the loader (5.3.4)
+abbrev pub IsClassOf : Grouped → ℕ → Option ℕ → Type 0
+IsClassOf v loader class = IsClassAmong v.records (AreJoined v.groups loader) class
 
 -- the loaders of a group, else one alone (5.3.4)
 abbrev pub loaders_or : ℕ → Option Joint → List ℕ

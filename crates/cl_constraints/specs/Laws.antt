@@ -1,7 +1,7 @@
 -- What a book stands for along a history of the linkage machine (JVMS SE 8, 5.3, 5.3.4): laws, each
 -- the contract of a function without a body.
 use Rattle.std.specs.Prelude.{◌≡◌, List, [], ◌∷◌, ◌++◌, Option, Some, None}
-use Rattle.cl_model.specs.States.{State, start, Need, Entry, Equal, Met, Refused, MayAdd}
+use Rattle.cl_model.specs.States.{State, start, Need, Entry, Equal, entry_for, Met, Refused, MayAdd}
 use Rattle.cl_model.specs.Machine.{
   Step,
   Define,
@@ -18,7 +18,7 @@ use Rattle.cl_constraints.specs.Books.{Adds}
 
 -- the need that a step makes stand, if it is one that adds a record or an equality (5.3, 5.3.4)
 abbrev pub made_by : Step → Option Need
-made_by (Define c) = Some (Entry c.loader c.name c.loader)
+made_by (Define c) = Some (entry_for c.loader c)
 made_by (Initiate name place loader) = Some (Entry loader name place)
 made_by (Constrain name a b) = Some (Equal name a b)
 made_by (Settle d i v) = None

@@ -1,5 +1,5 @@
 -- Constraints, name by name; what they mean is of JVMS SE 8, 5.3.4.
-use Rattle.std.specs.Prelude.{◌≡◌, ◌≢◌, ◌↔◌, ℕ, Bool, List, Option, Some, None, nat_eq}
+use Rattle.std.specs.Prelude.{◌≡◌, ◌≢◌, ◌↔◌, ℕ, Bool, List, Option, Some, MatchOption, nat_eq, option_and_then}
 use Rattle.std.specs.Map.{lookup}
 use Rattle.std.specs.Cmp.Lexicographic.{pointwise}
 use Rattle.cl_classfile.specs.Files.{Name}
@@ -9,23 +9,13 @@ use Rattle.cl_constraints.specs.Singles.{TellsFit, TellsAgreement, Enters, Joins
 abbrev pub found : {N : Type 0} → List (Name × N) → Name → Option N
 found book name = lookup (pointwise nat_eq name) book
 
--- who defined the class that a loader records for the name, if anything stands of it (5.3)
-abbrev pub home_or_none : {N : Type 0} → (N → ℕ → Option ℕ) → ℕ → Option N → Option ℕ
-home_or_none record_at loader None = None
-home_or_none record_at loader (Some one) = record_at one loader
-
--- who defined the class that a loader records for a name (5.3)
+-- who defined the class that a loader records for a name, if anything stands of it (5.3)
 abbrev pub home_of : {N : Type 0} → (N → ℕ → Option ℕ) → List (Name × N) → Name → ℕ → Option ℕ
-home_of record_at book name loader = home_or_none record_at loader (found book name)
+home_of record_at book name loader = option_and_then (λ one. record_at one loader) (found book name)
 
--- two loaders are joined for the name; where nothing stands of it, they are one (5.3.4)
-abbrev pub joins_or_same : {N : Type 0} → (N → ℕ → ℕ → Type 0) → ℕ → ℕ → Option N → Type 0
-joins_or_same joins a b None = a ≡ b
-joins_or_same joins a b (Some one) = joins one a b
-
--- two loaders are joined for a name (5.3.4)
+-- two loaders are joined for a name; where nothing stands of it, they are one (5.3.4)
 abbrev pub joins_of : {N : Type 0} → (N → ℕ → ℕ → Type 0) → List (Name × N) → Name → ℕ → ℕ → Type 0
-joins_of joins book name a b = joins_or_same joins a b (found book name)
+joins_of joins book name a b = MatchOption (found book name) (a ≡ b) (λ one. joins one a b)
 
 -- the answer tells whether no loader joined to this one for a name records another class (5.3.4)
 abbrev pub FitsAt : {N : Type 0} → (N → ℕ → Option ℕ) → (N → ℕ → ℕ → Type 0) → List (Name × N)
@@ -40,21 +30,25 @@ abbrev pub AgreesAt : {N : Type 0} → (N → ℕ → Option ℕ) → (N → ℕ
 AgreesAt record_at joins book name a b answer =
     TellsAgreement (home_of record_at book name) (joins_of joins book name) a b answer
 
+-- of each name but this one stands what stood
+abbrev pub OthersStay : {N : Type 0} → List (Name × N) → List (Name × N) → Name → Type 0
+OthersStay old new name = (m : Name) → m ≢ name → found new m ≡ found old m
+
 -- this stands of a name, and of each other what stood
 pub record Sets {N : Type 0} (old new : List (Name × N)) (name : Name) (one : N) : Type 0 where
   pub here : found new name ≡ Some one
-  pub others : (m : Name) → m ≢ name → found new m ≡ found old m
+  pub others : OthersStay old new name
 
 -- one record more, for a name (5.3)
 pub record EntersAt {N : Type 0} (record_at : N → ℕ → Option ℕ) (joins : N → ℕ → ℕ → Type 0)
     (old new : List (Name × N)) (name : Name) (loader place : ℕ) : Type 0 where
   pub records : Enters (home_of record_at old name) (home_of record_at new name) loader place
   pub joined : (a b : ℕ) → joins_of joins new name a b ↔ joins_of joins old name a b
-  pub others : (m : Name) → m ≢ name → found new m ≡ found old m
+  pub others : OthersStay old new name
 
 -- two loaders more are joined, for a name (5.3.4)
 pub record JoinsAt {N : Type 0} (record_at : N → ℕ → Option ℕ) (joins : N → ℕ → ℕ → Type 0)
     (old new : List (Name × N)) (name : Name) (a b : ℕ) : Type 0 where
   pub records : (loader : ℕ) → home_of record_at new name loader ≡ home_of record_at old name loader
   pub joined : (x y : ℕ) → joins_of joins new name x y ↔ Joins (joins_of joins old name) a b x y
-  pub others : (m : Name) → m ≢ name → found new m ≡ found old m
+  pub others : OthersStay old new name

@@ -1,32 +1,16 @@
 -- The constraints of one name: who defined it for a loader, and which loaders are joined
 -- (JVMS SE 8, 5.3.4).
-use Rattle.std.specs.Prelude.{◌≡◌, ◌≢◌, ◌⊎◌, ℕ, Bool, Option, Some, MatchBool}
-
--- a loader joined to this one records another class (5.3.4)
-pub record Differs (home : ℕ → Option ℕ) (joins : ℕ → ℕ → Type 0) (loader place : ℕ) : Type 0 where
-  pub other : ℕ
-  pub other_place : ℕ
-  pub joined : joins loader other
-  pub recorded_there : home other ≡ Some other_place
-  pub differ : place ≢ other_place
-
--- loaders joined to one and to the other record different classes (5.3.4)
-pub record Divides (home : ℕ → Option ℕ) (joins : ℕ → ℕ → Type 0) (a b : ℕ) : Type 0 where
-  pub one : ℕ
-  pub place : ℕ
-  pub joined : joins a one
-  pub recorded_there : home one ≡ Some place
-  pub differs : Differs home joins b place
+use Rattle.std.specs.Prelude.{◌≡◌, ◌≢◌, ◌⊎◌, ℕ, Bool, Option, Some}
+use Rattle.std.specs.Bool.{FalseIff}
+use Rattle.cl_model.specs.States.{Differs, Divides}
 
 -- the answer tells whether no loader joined to this one records another class (5.3.4)
 abbrev pub TellsFit : (ℕ → Option ℕ) → (ℕ → ℕ → Type 0) → ℕ → ℕ → Bool → Type 0
-TellsFit home joins loader place answer =
-    MatchBool answer (Differs home joins loader place → ⊥) (Differs home joins loader place)
+TellsFit home joins loader place answer = FalseIff answer (Differs home joins loader place)
 
 -- the answer tells whether what is joined to one loader and to the other records one class (5.3.4)
 abbrev pub TellsAgreement : (ℕ → Option ℕ) → (ℕ → ℕ → Type 0) → ℕ → ℕ → Bool → Type 0
-TellsAgreement home joins a b answer =
-    MatchBool answer (Divides home joins a b → ⊥) (Divides home joins a b)
+TellsAgreement home joins a b answer = FalseIff answer (Divides home joins a b)
 
 -- one record more (5.3)
 pub record Enters (old new : ℕ → Option ℕ) (loader place : ℕ) : Type 0 where

@@ -1,5 +1,7 @@
-ghost use Rattle.std.specs.Prelude.{◌≡◌, [], ◌++◌, ◌∷◌, map, ℕ, Option, None, MatchBool, IfOk, OnErr, OnOk, option_map};
-ghost use Rattle.cl_constraints.specs.Singles.{Differs, Divides, Enters, Joins};
+ghost use Rattle.std.specs.Prelude.{◌≡◌, [], ◌++◌, ◌∷◌, map, ℕ, Option, None, IfOk, OnErr, OnOk, option_map};
+ghost use Rattle.cl_model.specs.States.{Differs, Divides};
+ghost use Rattle.cl_names.specs.Truth.{Decides};
+ghost use Rattle.cl_constraints.specs.Singles.{Enters, Joins};
 ghost use Rattle.cl_constraints.specs.Groups.{class_in, members, with_home, AreJoined, joint_of, without, shared, group_of, IsClassOf};
 ghost use Rattle.cl_model.specs.Probes.{is_in};
 

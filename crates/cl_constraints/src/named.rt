@@ -1,5 +1,6 @@
-ghost use Rattle.std.specs.Prelude.{◌≡◌, true, None, MatchBool, IfErr, OnOk};
+ghost use Rattle.std.specs.Prelude.{◌≡◌, true, None, IfErr, OnOk};
 ghost use Rattle.cl_model.specs.States.{start};
+ghost use Rattle.cl_names.specs.Truth.{Decides};
 ghost use Rattle.cl_constraints.specs.Named.{found, home_of, joins_of, AgreesAt, EntersAt, FitsAt, JoinsAt, Sets};
 
 use crate::book::{ConstraintBook, Refusal};
@@ -59,8 +60,7 @@ impl<N: NameBook + Drop> Book<N> {
 
     /// Whether two loaders are joined for the name.
     fn links(&self, name: &Name, a: LoaderId, b: LoaderId) -> bool
-        ensures { MatchBool result (joins_of N.joins self.now name.now a b)
-            (joins_of N.joins self.now name.now a b → ⊥) }
+        ensures { Decides result (joins_of N.joins self.now name.now a b) }
     {
         match self.names.get(name) {
             Some(one) => one.joined(a, b),

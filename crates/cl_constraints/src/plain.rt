@@ -1,5 +1,7 @@
-ghost use Rattle.std.specs.Prelude.{◌≡◌, ◌==◌, [], ◌++◌, ◌∷◌, map, ℕ, Option, None, MatchBool, OnErr, OnOk};
-ghost use Rattle.cl_constraints.specs.Singles.{Differs, Divides, Enters, Joins, TellsAgreement, TellsFit};
+ghost use Rattle.std.specs.Prelude.{◌≡◌, ◌==◌, [], ◌++◌, ◌∷◌, map, ℕ, Option, None, OnErr, OnOk};
+ghost use Rattle.cl_model.specs.States.{Differs, Divides};
+ghost use Rattle.cl_names.specs.Truth.{Decides};
+ghost use Rattle.cl_constraints.specs.Singles.{Enters, Joins, TellsAgreement, TellsFit};
 ghost use Rattle.cl_constraints.specs.Pairs.{differs_at, divides_at, end_in, home_at, moved, next_by};
 
 use crate::single::NameBook;

@@ -1,5 +1,7 @@
-ghost use Rattle.std.specs.Prelude.{◌≡◌, ◌↔◌, ℕ, Option, None, MatchBool, OnErr, OnOk};
-ghost use Rattle.cl_constraints.specs.Singles.{Differs, Divides, Enters, Joins, TellsAgreement, TellsFit};
+ghost use Rattle.std.specs.Prelude.{◌≡◌, ◌↔◌, ℕ, Option, None, OnErr, OnOk};
+ghost use Rattle.cl_model.specs.States.{Differs, Divides};
+ghost use Rattle.cl_names.specs.Truth.{Decides};
+ghost use Rattle.cl_constraints.specs.Singles.{Enters, Joins, TellsAgreement, TellsFit};
 
 use cl_model::LoaderId;
 use std::alloc::{AllocError, Global};
@@ -21,7 +23,7 @@ pub trait NameBook {
 
     /// Whether two loaders are joined.
     fn joined(&self, a: LoaderId, b: LoaderId) -> bool
-        ensures { MatchBool result (joins self.now a b) (joins self.now a b → ⊥) };
+        ensures { Decides result (joins self.now a b) };
 
     /// Whether no loader that is joined to this one records another class.
     fn admits(&self, loader: LoaderId, home: LoaderId) -> bool

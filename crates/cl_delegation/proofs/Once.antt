@@ -4,11 +4,11 @@ use Rattle.std.specs.Prelude.{find, slice_get, IfSome, if◌then◌else◌}
 use Rattle.std.specs.List.{AllByRecursion, starts_with}
 use Rattle.std.proofs.lemmas.Bool.{ne_eqb, or_from, or_parts}
 use Rattle.cl_classfile.specs.Files.{Name}
-use Rattle.cl_model.specs.Homes.{is_java}
+use Rattle.cl_model.specs.Homes.{is_java, Import}
 use Rattle.cl_model.specs.Probes.{EachOnce, is_in, route, route_from}
 use Rattle.cl_config.specs.declared.order.Order.{Order}
 use Rattle.cl_config.specs.declared.order.Order.TheVariants.{ParentFirst, ChildFirst}
-use Rattle.cl_config.specs.Views.{Configured, Loader, Import}
+use Rattle.cl_config.specs.Views.{Configured, Loader}
 use Rattle.cl_config.specs.Configs.{IsConfig, LeadsBelow}
 use Rattle.cl_config.specs.Loaders.{loaders_of}
 use Rattle.cl_config.proofs.Below.{below_at}

@@ -1,42 +1,42 @@
 -- One step of the route that a configuration gives.
 use Rattle.std.proofs.Common.{◌≡◌, ℕ, zero, suc, ◌<◌, ◌==◌, nat_eq, Bool, true, false, cond, List, [], ◌∷◌, ◌++◌, map, length, Option, Some, None, option_map, refl, sym, ap, subst, ◌∙◌, arith, append-nil}
-use Rattle.std.specs.Prelude.{find, flat_map, slice_get, All, IfSome}
+use Rattle.std.specs.Prelude.{find, flat_map, option_to_list, slice_get, All, IfSome, unwrap_or}
 use Rattle.std.specs.List.{AllByRecursion}
 use Rattle.std.proofs.lemmas.List.Elements.{recursion_from_All}
 use Rattle.std.specs.List.{starts_with}
 use Rattle.std.proofs.lemmas.Bool.Decides.{nat_tests}
 use Rattle.std.proofs.lemmas.Option.{slice_get-map}
 use Rattle.cl_classfile.specs.Files.{Name}
-use Rattle.cl_model.specs.Homes.{decisive}
+use Rattle.cl_model.specs.Homes.{decisive, Import}
 use Rattle.cl_model.specs.Homes as homes
 use Rattle.cl_config.specs.declared.order.Order.{Order}
 use Rattle.cl_config.specs.declared.order.Order.TheVariants.{ParentFirst, ChildFirst}
-use Rattle.cl_config.specs.Views.{Configured, Loader, Import}
-use Rattle.cl_config.specs.Loaders.{parents_of, order_of, loader_of, loaders_of}
-use Rattle.cl_model.specs.Probes.{in_turn, route_at, routed, route_below, route_from}
+use Rattle.cl_config.specs.Views.{Configured, Loader}
+use Rattle.cl_config.specs.Loaders.{order_of, loader_of, loaders_of}
+use Rattle.cl_model.specs.Probes.{in_turn, route_at, route_below, route_from}
 
 here : (n : ℕ) → (n == n) ≡ true
 here n = grind (arith, nat_tests)
 
 at_case : (ls : List homes.Loader) (name : Name) (n : ℕ) (b : Bool) → b ≡ true
-    → (elim b [ true ↦ routed (option_map (route_at name (route_below ls name n) n) (slice_get ls n)) | false ↦ route_below ls name n n ]) ≡ routed (option_map (route_at name (route_below ls name n) n) (slice_get ls n))
+    → (elim b [ true ↦ unwrap_or (option_map (route_at name (route_below ls name n) n) (slice_get ls n)) [] | false ↦ route_below ls name n n ]) ≡ unwrap_or (option_map (route_at name (route_below ls name n) n) (slice_get ls n)) []
 at_case ls name n true e = refl
 at_case ls name n false e = absurd cc
 
 -- the route at a place
-at_place : (ls : List homes.Loader) (name : Name) (n : ℕ) → route_from ls name n ≡ routed (option_map (route_at name (route_below ls name n) n) (slice_get ls n))
+at_place : (ls : List homes.Loader) (name : Name) (n : ℕ) → route_from ls name n ≡ unwrap_or (option_map (route_at name (route_below ls name n) n) (slice_get ls n)) []
 at_place ls name n = at_case ls name n (n == n) (here n)
 
 -- the route at a loader
 at_loader : (ls : List homes.Loader) (name : Name) (n : ℕ) (l : homes.Loader) → slice_get ls n ≡ Some l → route_from ls name n ≡ route_at name (route_below ls name n) n l
-at_loader ls name n l is = at_place ls name n ∙ ap (λ o. routed (option_map (route_at name (route_below ls name n) n) o)) is
+at_loader ls name n l is = at_place ls name n ∙ ap (λ o. unwrap_or (option_map (route_at name (route_below ls name n) n) o) []) is
 
 -- the routes at earlier loaders do not depend on the later ones
 settle : (ls : List homes.Loader) (name : Name) (n p : ℕ) (b : Bool) → p < suc n → (p == n) ≡ b → (p < n → route_below ls name n p ≡ route_from ls name p)
-    → (elim b [ true ↦ routed (option_map (route_at name (route_below ls name n) n) (slice_get ls n)) | false ↦ route_below ls name n p ]) ≡ route_from ls name p
+    → (elim b [ true ↦ unwrap_or (option_map (route_at name (route_below ls name n) n) (slice_get ls n)) [] | false ↦ route_below ls name n p ]) ≡ route_from ls name p
 settle ls name n p true lt e earlier =
     let same : n ≡ p = grind (arith, nat_tests) in
-    subst (λ (k : ℕ). routed (option_map (route_at name (route_below ls name k) k) (slice_get ls k)) ≡ route_from ls name p) (sym same) (sym (at_place ls name p))
+    subst (λ (k : ℕ). unwrap_or (option_map (route_at name (route_below ls name k) k) (slice_get ls k)) [] ≡ route_from ls name p) (sym same) (sym (at_place ls name p))
 settle ls name n p false lt e earlier = let less : p < n = grind (arith, nat_tests) in earlier less
 
 settled : (ls : List homes.Loader) (name : Name) (n p : ℕ) → p < n → route_below ls name n p ≡ route_from ls name p
@@ -45,17 +45,6 @@ settled ls name (suc n) p lt = settle ls name n p (p == n) lt refl (λ less. set
 
 placed : (f : Loader → homes.Loader) (ls : List Loader) (n : ℕ) (l : Loader) → slice_get ls n ≡ Some l → slice_get (map f ls) n ≡ Some (f l)
 placed f ls n l is = slice_get-map f ls n ∙ ap (option_map f) is
-
-abbrev model_import : Import → homes.Import
-model_import m = record { prefix = m.prefix; target = m.target }
-
-decisive_is : (name : Name) (ms : List Import) → decisive (map model_import ms) name ≡ option_map (λ m. m.target) (find (λ m. starts_with nat_eq name m.prefix) ms)
-decisive_is name [] = refl
-decisive_is name (m ∷ ms) =
-    elim (starts_with nat_eq name m.prefix) as (λ b. option_map (λ i. i.target) (cond b (Some (model_import m)) (find (λ i. starts_with nat_eq name i.prefix) (map model_import ms))) ≡ option_map (λ i. i.target) (cond b (Some m) (find (λ i. starts_with nat_eq name i.prefix) ms))) [
-      | true ↦ refl
-      | false ↦ decisive_is name ms
-    ]
 
 decided : (routes : ℕ → List ℕ) (rest : List ℕ) (d : Option ℕ) (t : ℕ) → d ≡ Some t → elim d [ Some target ↦ routes target | None ↦ rest ] ≡ routes t
 decided routes rest None t e = absurd cc
@@ -69,27 +58,27 @@ not_decided routes rest (Some u) e = absurd cc
 pub by_import : (c : Configured) (name : Name) (n : ℕ) (l : Loader) (m : Import) → slice_get c.loaders n ≡ Some l → find (λ m. starts_with nat_eq name m.prefix) l.imports ≡ Some m → m.target < n
     → route_from (loaders_of c) name n ≡ route_from (loaders_of c) name m.target
 by_import c name n l m is found lt =
-    let e : decisive (loader_of l).imports name ≡ Some m.target = decisive_is name l.imports ∙ ap (option_map (λ (m : Import). m.target)) found in
+    let e : decisive (loader_of l).imports name ≡ Some m.target = ap (option_map (λ (m : Import). m.target)) found in
     at_loader (loaders_of c) name n (loader_of l) (placed loader_of c.loaders n l is) ∙ decided (route_below (loaders_of c) name n) _ (decisive (loader_of l).imports name) m.target e ∙ settled (loaders_of c) name n m.target lt
 
 -- no import decides
 undecided : (c : Configured) (name : Name) (n : ℕ) (l : Loader) → slice_get c.loaders n ≡ Some l → find (λ m. starts_with nat_eq name m.prefix) l.imports ≡ None
-    → route_from (loaders_of c) name n ≡ in_turn (order_of l.order) (flat_map (route_below (loaders_of c) name n) (parents_of l.parent)) (n ∷ [])
+    → route_from (loaders_of c) name n ≡ in_turn (order_of l.order) (flat_map (route_below (loaders_of c) name n) (option_to_list l.parent)) (n ∷ [])
 undecided c name n l is none =
-    let e : decisive (loader_of l).imports name ≡ None = decisive_is name l.imports ∙ ap (option_map (λ (m : Import). m.target)) none in
+    let e : decisive (loader_of l).imports name ≡ None = ap (option_map (λ (m : Import). m.target)) none in
     at_loader (loaders_of c) name n (loader_of l) (placed loader_of c.loaders n l is) ∙ not_decided (route_below (loaders_of c) name n) _ (decisive (loader_of l).imports name) e
 
-alone_turn : (routes : ℕ → List ℕ) (n : ℕ) (o : Order) (p : Option ℕ) → p ≡ None → in_turn (order_of o) (flat_map routes (parents_of p)) (n ∷ []) ≡ n ∷ []
+alone_turn : (routes : ℕ → List ℕ) (n : ℕ) (o : Order) (p : Option ℕ) → p ≡ None → in_turn (order_of o) (flat_map routes (option_to_list p)) (n ∷ []) ≡ n ∷ []
 alone_turn routes n ParentFirst None e = refl
 alone_turn routes n ChildFirst None e = refl
 alone_turn routes n o (Some q) e = absurd cc
 
-parent_turn : (routes : ℕ → List ℕ) (n q : ℕ) (o : Order) (p : Option ℕ) → p ≡ Some q → o ≡ ParentFirst → in_turn (order_of o) (flat_map routes (parents_of p)) (n ∷ []) ≡ routes q ++ n ∷ []
+parent_turn : (routes : ℕ → List ℕ) (n q : ℕ) (o : Order) (p : Option ℕ) → p ≡ Some q → o ≡ ParentFirst → in_turn (order_of o) (flat_map routes (option_to_list p)) (n ∷ []) ≡ routes q ++ n ∷ []
 parent_turn routes n q o None e f = absurd cc
 parent_turn routes n q ChildFirst (Some r) e f = absurd cc
 parent_turn routes n q ParentFirst (Some r) e f = let same : r ≡ q = cc in rw (append-nil (routes r), same) refl
 
-child_turn : (routes : ℕ → List ℕ) (n q : ℕ) (o : Order) (p : Option ℕ) → p ≡ Some q → o ≡ ChildFirst → in_turn (order_of o) (flat_map routes (parents_of p)) (n ∷ []) ≡ n ∷ routes q
+child_turn : (routes : ℕ → List ℕ) (n q : ℕ) (o : Order) (p : Option ℕ) → p ≡ Some q → o ≡ ChildFirst → in_turn (order_of o) (flat_map routes (option_to_list p)) (n ∷ []) ≡ n ∷ routes q
 child_turn routes n q o None e f = absurd cc
 child_turn routes n q ParentFirst (Some r) e f = absurd cc
 child_turn routes n q ChildFirst (Some r) e f = let same : r ≡ q = cc in rw (append-nil (routes r), same) refl

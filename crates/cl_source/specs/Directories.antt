@@ -22,9 +22,9 @@ use Rattle.std.specs.Prelude.{
 use Rattle.std.specs.List.{AllByRecursion, slice_split}
 use Rattle.cl_names.specs.Plain.{plain_of}
 use Rattle.cl_source.specs.declared.source.Outcome.{Outcome}
-use Rattle.cl_source.specs.declared.source.Outcome.TheVariants.{Found, Absent}
 use Rattle.cl_source.specs.declared.source.SourceFault.{SourceFault}
 use Rattle.cl_source.specs.declared.source.SourceFault.TheVariants.{Memory, Device, TooLarge, Twice}
+use Rattle.cl_source.specs.Outcomes.{bytes_of}
 use Rattle.cl_source.specs.Views.{Found as Probed}
 use Rattle.cl_source.specs.Seen.{Seen, Missing, Refused, IsWithin, IsTooLarge}
 use Rattle.cl_source.specs.declared.size.TheConstants.{MOST_CLASS_BYTES}
@@ -60,12 +60,15 @@ abbrev pub IsAbsent : (List ℕ → Seen → Type 0) → Option (List ℕ) → T
 IsAbsent gives None = ⊤
 IsAbsent gives (Some path) = gives path Missing
 
+-- bytes that stand there, or nothing
+abbrev pub FoundAs : (List ℕ → Seen → Type 0) → Option (List ℕ) → Option (List ℕ) → Type 0
+FoundAs gives path (Some bytes) = At (λ p. IsWithin (gives p) MOST_CLASS_BYTES bytes) path
+FoundAs gives path None = IsAbsent gives path
+
 -- what a directory answers for a path, or for a name that has none: only what is missing is absent
 abbrev pub AnswerOf : (List ℕ → Seen → Type 0) → Option (List ℕ) → Result Outcome SourceFault
     → Type 0
-AnswerOf gives path (Ok (Found bytes)) =
-    At (λ p. IsWithin (gives p) MOST_CLASS_BYTES bytes.value) path
-AnswerOf gives path (Ok Absent) = IsAbsent gives path
+AnswerOf gives path (Ok outcome) = FoundAs gives path (bytes_of outcome)
 AnswerOf gives path (Err TooLarge) = At (λ p. IsTooLarge (gives p) MOST_CLASS_BYTES) path
 AnswerOf gives path (Err Device) = At (λ p. gives p Refused) path
 AnswerOf gives path (Err Memory) = ⊤
@@ -75,11 +78,6 @@ AnswerOf gives path (Err Twice) = ⊥
 abbrev pub path_in : Option (List ℕ) → List ℕ → Option (List ℕ)
 path_in None name = None
 path_in (Some dir) name = path_of dir name
-
--- bytes that stand there, or nothing
-abbrev pub FoundAs : (List ℕ → Seen → Type 0) → Option (List ℕ) → Option (List ℕ) → Type 0
-FoundAs gives path (Some bytes) = At (λ p. IsWithin (gives p) MOST_CLASS_BYTES bytes) path
-FoundAs gives path None = IsAbsent gives path
 
 -- what the source answers for it: a probe with these bytes, or the fault
 abbrev pub ReadsAs : (List ℕ → Seen → Type 0) → Option (List ℕ) → Result Probed SourceFault → Type 0

@@ -11,10 +11,9 @@ use Rattle.std.specs.Prelude.{
   IsSome,
   ◌==◌,
   ◌&&◌,
-  nat_eq,
+  bytes_eq,
   if◌then◌else◌,
 }
-use Rattle.std.specs.Cmp.Lexicographic.{pointwise}
 use Rattle.cl_model.specs.Content.{Content, content_at}
 use Rattle.cl_source.specs.declared.source.SourceFault.{SourceFault}
 use Rattle.cl_source.specs.declared.source.SourceFault.TheVariants.{Memory, Device, TooLarge, Twice}
@@ -36,4 +35,4 @@ abbrev pub TellsMore : Content → Content → ℕ → List ℕ → List ℕ →
 TellsMore old new loader name bytes =
     (l : ℕ) (n : List ℕ)
     → content_at new l n
-    ≡ (if (loader == l) && pointwise nat_eq name n then Some bytes else content_at old l n)
+    ≡ (if (loader == l) && bytes_eq name n then Some bytes else content_at old l n)

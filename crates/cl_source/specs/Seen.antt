@@ -14,6 +14,8 @@ use Rattle.std.specs.Prelude.{
   Err,
   Vec,
 }
+use Rattle.std.specs.Option.{option_map}
+use Rattle.std.specs.Result.{result_map_both}
 use Rattle.std.specs.declared.alloc.Global.{Global}
 use Rattle.cl_streams.specs.declared.input.InputFault.{InputFault}
 use Rattle.cl_streams.specs.declared.input.InputFault.TheVariants.{Unread, TooLarge, Memory}
@@ -47,6 +49,4 @@ FileOf gives most (Err Memory) = ⊤
 -- a file's bytes, without where they lie
 abbrev pub file_seen : Result (Option (Vec ℕ Global)) InputFault
     → Result (Option (List ℕ)) InputFault
-file_seen (Ok (Some v)) = Ok (Some v.items)
-file_seen (Ok None) = Ok None
-file_seen (Err e) = Err e
+file_seen = result_map_both (option_map (λ v. v.items)) (λ e. e)

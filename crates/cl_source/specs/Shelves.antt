@@ -4,18 +4,15 @@ use Rattle.std.specs.Prelude.{
   ◌≡◌,
   ℕ,
   ◌+◌,
-  nat_eq,
+  bytes_eq,
   List,
   [],
   ◌∷◌,
   ◌++◌,
   map,
   Option,
-  Some,
-  None,
-  if◌then◌else◌,
 }
-use Rattle.std.specs.Cmp.Lexicographic.{pointwise}
+use Rattle.std.specs.Map.{lookup}
 use Rattle.cl_model.specs.Content.{Stored, Content}
 
 -- names with their bytes (5.3)
@@ -24,8 +21,7 @@ Shelved = List (List ℕ × List ℕ)
 
 -- the bytes of a name on one shelf (5.3)
 abbrev pub bytes_in : Shelved → List ℕ → Option (List ℕ)
-bytes_in [] name = None
-bytes_in (e ∷ es) name = if pointwise nat_eq e.0 name then Some e.1 else bytes_in es name
+bytes_in shelf name = lookup (λ key. bytes_eq key name) shelf
 
 -- what a shelf of this loader tells (5.3)
 abbrev pub content_of_shelf : ℕ → Shelved → Content

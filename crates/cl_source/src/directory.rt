@@ -1,6 +1,6 @@
 //! A source of class files in directories.
 
-ghost use Rattle.std.specs.Prelude.{◌≡◌, ◌<◌, ◌+◌, ◌^◌, ℕ, List, map, slice_get, IfOk, IfErr, IsErrOf, string_bytes};
+ghost use Rattle.std.specs.Prelude.{◌≡◌, ◌<◌, ◌+◌, ◌^◌, ℕ, List, map, slice_get, IfOk, IsOkUnless, IsErrOf, string_bytes};
 ghost use Rattle.std.specs.Option.{option_map};
 ghost use Rattle.cl_source.specs.Counts.{Counts};
 ghost use Rattle.cl_source.specs.Directories.{path_of, path_in, AnswerOf, ReadsAs};
@@ -43,7 +43,7 @@ impl<F: ReadFile> DirSource<F> {
         files: F,
         config: &D,
     ) -> Result<DirSource<F>, SourceFault>
-        ensures fault { IfErr result (λ e. e ≡ SourceFault.Memory) }
+        ensures fault { IsOkUnless result SourceFault.Memory }
         ensures files { IfOk result (λ s. s.files ≡ files) }
         ensures dirs { IfOk result (λ s. map string_bytes s.dirs.items ≡ D.texts config.now) }
         ensures own { IfOk result (λ s. s.failures ≡ 0) }
@@ -117,7 +117,7 @@ impl<F: ReadFile> Source<Untold> for DirSource<F> {
     }
 
     fn another(&self, alloc: Global) -> Result<Self, SourceFault>
-        ensures fault { IfErr result (λ e. e ≡ SourceFault.Memory) }
+        ensures fault { IsOkUnless result SourceFault.Memory }
         ensures own { IfOk result (λ s. s.failures ≡ 0) }
         ensures same { IfOk result (λ s. map string_bytes s.dirs.items
             ≡ map string_bytes self.now.dirs.items) }

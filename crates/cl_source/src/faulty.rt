@@ -1,4 +1,4 @@
-ghost use Rattle.std.specs.Prelude.{◌≡◌, ◌≢◌, ◌<◌, ◌+◌, ◌-◌, ◌^◌, IfOk, IfErr, IsErrOf};
+ghost use Rattle.std.specs.Prelude.{◌≡◌, ◌≢◌, ◌<◌, ◌+◌, ◌-◌, ◌^◌, IfOk, IsOkUnless, IsErrOf};
 ghost use Rattle.cl_source.specs.Counts.{Counts, PassesOn};
 
 use crate::source::{Probe, Source, SourceFault};
@@ -100,7 +100,7 @@ impl<T: Told, S: Source<T>> Source<T> for FaultySource<T, S> {
     }
 
     fn another(&self, alloc: Global) -> Result<Self, SourceFault>
-        ensures fault { IfErr result (λ e. e ≡ SourceFault.Memory) }
+        ensures fault { IsOkUnless result SourceFault.Memory }
         ensures begins { IfOk result (λ s. (s.at ≡ self.now.at) × (s.until ≡ self.now.at)
             × (s.refused ≡ 0)) }
         ensures inner { IfOk result (λ s. S.refused s.inner ≡ 0) }

@@ -1,6 +1,7 @@
 //! What has files, and gives their bytes.
 
-ghost use Rattle.std.specs.Prelude.{◌≡◌, ◌<◌, ◌≤◌, ◌^◌, ℕ, List, Option, Err, IfOk, IfSome, length, ⊤};
+ghost use Rattle.std.specs.Prelude.{◌≡◌, ◌<◌, ◌≤◌, ◌^◌, ℕ, List, Option, Err, IfOk, length, ⊤};
+ghost use Rattle.cl_streams.specs.Reading.{AreAllOf, GivesOver};
 ghost use Rattle.cl_source.specs.Seen.{Seen, FileOf, file_seen};
 
 use cl_streams::InputFault;
@@ -81,10 +82,10 @@ pub fn read_limited<I: Read + Drop>(
     expected: u64,
 ) -> Result<Vec<u8>, InputFault>
     requires { most < 2 ^ 32 }
-    ensures ok { IfOk result (λ v. IfSome (I.remaining input) (λ bytes. v.items ≡ bytes)) }
+    ensures ok { IfOk result (λ v. AreAllOf (I.remaining input) v.items) }
     ensures small { IfOk result (λ v. length v.items ≤ most) }
     ensures large { result ≡ Err InputFault.TooLarge
-        → IfSome (I.remaining input) (λ bytes. most < length bytes) }
+        → GivesOver (I.remaining input) most }
 {
     let limit = most as u64 + 1;
     let room = expected.min(limit);

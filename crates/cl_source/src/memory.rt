@@ -1,4 +1,4 @@
-ghost use Rattle.std.specs.Prelude.{◌≡◌, ◌+◌, ◌<◌, ◌≤◌, ◌^◌, [], None, is_some, length, OnOk, OnErr, IfOk, IfErr, IsErrOf};
+ghost use Rattle.std.specs.Prelude.{◌≡◌, ◌+◌, ◌<◌, ◌≤◌, ◌^◌, [], None, is_some, length, OnOk, OnErr, IfOk, IfErr, IsErrOf, IsOkUnless};
 ghost use Rattle.std.specs.Option.{option_map};
 ghost use Rattle.cl_model.specs.Content.{Content, content_at, Tells};
 ghost use Rattle.cl_source.specs.Counts.{Counts};
@@ -165,7 +165,7 @@ impl<T: Told> Source<T> for Telling<T> {
         ensures asked { IfOk result (λ p. (p.loader ≡ loader) × (p.name ≡ name.now)) }
         ensures counts { Counts 0 0 result }
         ensures told { IfOk result (λ p. p.bytes ≡ content_at self.old loader name.now) }
-        ensures refused { IfErr result (λ e. e ≡ SourceFault.Memory) }
+        ensures refused { IsOkUnless result SourceFault.Memory }
         ensures unchanged { self.new ≡ self.old }
     {
         let outcome = match find(self.shelves.as_slice(), loader, name) {
@@ -180,7 +180,7 @@ impl<T: Told> Source<T> for Telling<T> {
     }
 
     fn another(&self, alloc: Global) -> Result<Self, SourceFault>
-        ensures refused { IfErr result (λ e. e ≡ SourceFault.Memory) }
+        ensures refused { IsOkUnless result SourceFault.Memory }
         ensures same { IfOk result (λ s. s ≡ self.now) }
     {
         Ok(Telling {

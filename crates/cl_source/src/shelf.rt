@@ -1,6 +1,5 @@
-ghost use Rattle.std.specs.Prelude.{◌≡◌, [], ◌∷◌, ◌++◌, None, Some, OnOk, IfErr, OnErr, IfOk, nat_eq};
+ghost use Rattle.std.specs.Prelude.{◌≡◌, [], ◌∷◌, ◌++◌, None, Some, OnOk, IfErr, OnErr, IfOk, bytes_eq};
 ghost use Rattle.std.specs.Option.{option_map};
-ghost use Rattle.std.specs.Cmp.Lexicographic.{pointwise};
 ghost use Rattle.indexmap.specs.IndexMap.{insert_entry};
 ghost use Rattle.cl_source.specs.Shelves.{bytes_in};
 
@@ -97,7 +96,7 @@ fn store(
     name: Name,
     bytes: Arc<ClassBytes>,
 ) -> Result<(), AllocError>
-    ensures { OnOk result (entries.new.entries ≡ insert_entry (pointwise nat_eq) entries.old.entries
+    ensures { OnOk result (entries.new.entries ≡ insert_entry bytes_eq entries.old.entries
         name bytes) }
 {
     entries.insert(name, bytes)?;

@@ -1,4 +1,4 @@
-ghost use Rattle.std.specs.Prelude.{◌≡◌, ◌+◌, ◌^◌, ℕ, List, Result, IfOk, IfErr, IsErrOf, ⊤};
+ghost use Rattle.std.specs.Prelude.{◌≡◌, ◌+◌, ◌^◌, ℕ, List, Result, IfOk, IsOkUnless, IsErrOf, ⊤};
 ghost use Rattle.cl_source.specs.Views.{Found};
 ghost use Rattle.cl_source.specs.Told.{IsTold};
 
@@ -184,6 +184,6 @@ pub trait Source<T: Told>: Drop {
     /// A further source of the same content, with a count of its own. Only memory refuses it. Where `T` tells a content,
     /// both give just that; what a further source gives where nothing is told, each source says for itself.
     fn another(&self, alloc: Global) -> Result<Self, SourceFault>
-        ensures fault { IfErr result (λ e. e ≡ SourceFault.Memory) }
+        ensures fault { IsOkUnless result SourceFault.Memory }
         ensures own { IfOk result (λ s. refused s ≡ 0) };
 }

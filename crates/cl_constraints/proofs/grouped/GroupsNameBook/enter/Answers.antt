@@ -1,7 +1,7 @@
 use Rattle.std.proofs.Common.{◌≡◌, subst, sym, None}
 use Rattle.cl_constraints.specs.Groups.{Grouped, AreJoined}
 use Rattle.cl_constraints.specs.Records.{home_in}
-use Rattle.cl_constraints.specs.Singles.{Differs}
+use Rattle.cl_model.specs.States.{Differs}
 use Rattle.cl_constraints.proofs.Recording.{enters}
 use Rattle.cl_constraints.proofs.Grouping.{by_loader, entered_grouped, entry, homed_joined, its_home}
 use Rattle.cl_constraints.proofs.grouped.GroupsNameBook.enter.Goals as goal

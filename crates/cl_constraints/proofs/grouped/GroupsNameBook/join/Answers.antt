@@ -1,7 +1,7 @@
 use Rattle.std.proofs.Common.{◌≡◌, subst, sym}
 use Rattle.cl_constraints.specs.Groups.{Grouped, AreJoined, joint_of}
 use Rattle.cl_constraints.specs.Records.{home_in}
-use Rattle.cl_constraints.specs.Singles.{Divides}
+use Rattle.cl_model.specs.States.{Divides}
 use Rattle.cl_constraints.proofs.Merging.{joined_grouped, joined_joins}
 use Rattle.cl_constraints.proofs.grouped.GroupsNameBook.join.Goals as goal
 

@@ -10,8 +10,8 @@ use Rattle.cl_model.specs.Content.{Content}
 use Rattle.cl_model.specs.Lineages.{Kin}
 use Rattle.cl_config.specs.Views.{Configured}
 use Rattle.cl_hierarchy.specs.Above.{AreOnly, AreOvers}
-use Rattle.cl_hierarchy.specs.Ladders.{HasRung, IsFar, IsBefore, IsEarlier, IsFilled, IsLadder, IsMadeOf, IsNextUp, IsPassed, IsPushed, IsRung, IsRungAt, IsRungOf, IsUp, IsWay, Laddered, LeadUp, above_in, begins, others_of}
-use Rattle.cl_hierarchy.specs.Lineages.{IsLined}
+use Rattle.cl_hierarchy.specs.Ladders.{HasRung, IsBefore, IsEarlier, IsFilled, IsLadder, IsMadeOf, IsNearest, IsNextUp, IsPassed, IsPushed, IsRung, IsRungAt, IsRungOf, IsWay, Laddered, LeadUp, begins}
+use Rattle.cl_hierarchy.specs.Lineages.{IsLined, above_in, others_of}
 use Rattle.cl_hierarchy.specs.Rows.{Rowed}
 use Rattle.cl_hierarchy.specs.Trees.{SupersBefore, interface_places, kin_under, kins, superclass_in}
 use Rattle.cl_hierarchy.specs.declared.over.Overs.{Overs}
@@ -40,7 +40,7 @@ pub record IsLonger (old new : Laddered) : Type 0 where
 
 pub has_more : (marks more : List Mark) (bound : ℕ) (o : Option ℕ) → HasRung marks bound o → HasRung (marks ++ more) bound o
 has_more marks more bound None h = tt
-has_more marks more bound (Some place) h = (h.0, (h.1.0, get_more marks more place h.1.0 h.1.1, h.1.2))
+has_more marks more bound (Some place) h = (h.0, (h.1.0, (h.1.1.0, get_more marks more place h.1.1.0 h.1.1.1, h.1.1.2)))
 
 pub has_wider : (marks : List Mark) (bound wider : ℕ) (o : Option ℕ) → bound ≤ wider → HasRung marks bound o → HasRung marks wider o
 has_wider marks bound wider None le h = tt
@@ -59,7 +59,7 @@ read_at {A} v (y ∷ xs) rows (suc i) x same lt e =
 pub rung_fact : (told : Option Content) (x : Laddered) (place : ℕ) (r : Rowed) (g : Rung) → IsLadder told x → slice_get x.rows place ≡ Some r → IsRungAt x.marks place g → IsRung told x place r g
 rung_fact told x place r g h at is = h.marks.rungs place r is.0 g at is.1 is.2
 
-far_same : (rows : List Rowed) (own : Option ℕ) (ks ls : List Kin) (o : Option ℕ) → others_of own ks ≡ others_of own ls → IsFar rows own ls o → IsFar rows own ks o
+far_same : (rows : List Rowed) (own : Option ℕ) (ks ls : List Kin) (o : Option ℕ) → others_of own ks ≡ others_of own ls → IsNearest rows own ls o → IsNearest rows own ks o
 far_same rows own ks ls None e h = e ∙ h
 far_same rows own ks ls (Some place) e h = (h.0, h.1, e ∙ h.2)
 
@@ -67,32 +67,28 @@ far_same rows own ks ls (Some place) e h = (h.0, h.1, e ∙ h.2)
 pass_own : (own : ℕ) (k : Kin) (ks : List Kin) → own ≡ k.class.loader → others_of (Some own) (k ∷ ks) ≡ others_of (Some own) ks
 pass_own own k ks e = rw (ap (λ (n : ℕ). own == n) (sym e) ∙ nat_eq_equiv.refl own) refl
 
-up_is : (rows : List Rowed) (ks ls : List Kin) (o : Option ℕ) → ks ≡ ls → IsUp rows ls o → IsUp rows ks o
-up_is rows ks ls None e h = e ∙ h
-up_is rows ks ls (Some place) e h = (h.0, h.1, e ∙ h.2)
-
 module _ (told : Option Content) (x : Laddered) (h : IsLadder told x) where
   pub far_on : (own : ℕ) (up : Option ℕ) (place : ℕ) (row : Rowed) (g : Rung) (ks : List Kin) (bound : ℕ) → up ≡ Some place → slice_get x.rows place ≡ Some row → own ≡ row.class.loader → IsRungAt x.marks place g
-      → IsUp x.rows ks up → HasRung x.marks bound up → IsFar x.rows (Some own) ks g.far × HasRung x.marks bound g.far
+      → IsNearest x.rows None ks up → HasRung x.marks bound up → IsNearest x.rows (Some own) ks g.far × HasRung x.marks bound g.far
   far_on own up place row g ks bound here at mine is isup has =
-      let u : IsUp x.rows ks (Some place) = subst (λ (o : Option ℕ). IsUp x.rows ks o) here isup in
+      let u : IsNearest x.rows None ks (Some place) = subst (λ (o : Option ℕ). IsNearest x.rows None ks o) here isup in
       let k : HasRung x.marks bound (Some place) = subst (λ (o : Option ℕ). HasRung x.marks bound o) here has in
       let fact = rung_fact told x place row g h at is in
       let same : u.0 ≡ row = same_Some u.0 row (sym u.1 ∙ at) in
       let over : ks ≡ kin_under (kins x.rows) row ∷ above_in x.rows row = u.2 ∙ ap (λ (r : Rowed). kin_under (kins x.rows) r ∷ above_in x.rows r) same in (
         far_same x.rows (Some own) ks (above_in x.rows row) g.far
             (ap (λ (ls : List Kin). others_of (Some own) ls) over ∙ pass_own own (kin_under (kins x.rows) row) (above_in x.rows row) mine)
-            (subst (λ (n : ℕ). IsFar x.rows (Some n) (above_in x.rows row) g.far) (sym mine) fact.far),
-        has_wider x.marks place bound g.far (let lt = k.0 in omega (arith, lt)) fact.far_has,
+            (subst (λ (n : ℕ). IsNearest x.rows (Some n) (above_in x.rows row) g.far) (sym mine) fact.supers.far),
+        has_wider x.marks place bound g.far (let lt = k.0 in omega (arith, lt)) fact.supers.far_has,
       )
 
   pub up_on : (is_over : Bool) (next : Option ℕ) (place : ℕ) (g : Rung) (ks : List Kin) (bound : ℕ) → is_over ≡ true → next ≡ Some place → IsRungAt x.marks place g
-      → IsNextUp x.rows is_over ks next → HasRung x.marks bound next → IsUp x.rows ks g.up × HasRung x.marks bound g.up
+      → IsNextUp x.rows is_over ks next → HasRung x.marks bound next → IsNearest x.rows None ks g.up × HasRung x.marks bound g.up
   up_on is_over next place g ks bound over here is isnext has =
       let u : IsNextUp x.rows true ks (Some place) = subst (λ (o : Option ℕ). IsNextUp x.rows true ks o) here (subst (λ (b : Bool). IsNextUp x.rows b ks next) over isnext) in
       let k : HasRung x.marks bound (Some place) = subst (λ (o : Option ℕ). HasRung x.marks bound o) here has in
       let fact = rung_fact told x place u.0 g h u.1 is in
-      (up_is x.rows ks (above_in x.rows u.0) g.up u.2 fact.up, has_wider x.marks place bound g.up (let lt = k.0 in omega (arith, lt)) fact.up_has)
+      (far_same x.rows None ks (above_in x.rows u.0) g.up u.2 fact.supers.up, has_wider x.marks place bound g.up (let lt = k.0 in omega (arith, lt)) fact.supers.up_has)
 
 -- ---- one mark more
 
@@ -100,10 +96,12 @@ rung_more : (told : Option Content) (config : Configured) (rows : List Rowed) (m
     → IsRung told (record { config = config; rows = rows; marks = marks ++ more }) place r g
 rung_more told config rows marks more place r g h = record {
   lined = h.lined;
-  up = h.up;
-  far = h.far;
-  up_has = has_more marks more place g.up h.up_has;
-  far_has = has_more marks more place g.far h.far_has;
+  supers = record {
+    up = h.supers.up;
+    far = h.supers.far;
+    up_has = has_more marks more place g.up h.supers.up_has;
+    far_has = has_more marks more place g.far h.supers.far_has;
+  };
   next = λ before s n e up. has_more marks more place (Some before) (h.next before s n e up);
 }
 
@@ -212,7 +210,7 @@ far_left (Some place) = place + 1
 -- those that were found, and where the next stands
 pub record Climbed (x : Laddered) (place : ℕ) (own : Option ℕ) (found : List Rowed) (far : Option ℕ) : Type 0 where
   pub others :
-      (r : Rowed) → slice_get x.rows place ≡ Some r → (ks : List Kin) × (IsFar x.rows own ks far) × (map (kin_under (kins x.rows)) found ++ others_of own ks ≡ others_of own (above_in x.rows r))
+      (r : Rowed) → slice_get x.rows place ≡ Some r → (ks : List Kin) × (IsNearest x.rows own ks far) × (map (kin_under (kins x.rows)) found ++ others_of own ks ≡ others_of own (above_in x.rows r))
   pub rows_are : AllByRecursion (IsEarlier x.rows place) found
   pub has : HasRung x.marks place far
 
@@ -224,7 +222,7 @@ before_last (y ∷ xs) x e = omega arith
 pub place_within : {A : Type 0} (v : A → Rowed) (told : Option Content) (x : Laddered) (rows : List A) (far : Option ℕ) (place bound : ℕ) → IsLadder told x → map v rows ≡ x.rows → far ≡ Some place → HasRung x.marks bound far → place < length rows
 place_within v told x rows far place bound h same is has =
     let k : HasRung x.marks bound (Some place) = subst (λ (o : Option ℕ). HasRung x.marks bound o) is has in
-    let within = slice_get_within x.marks place k.1.0 k.1.1 in
+    let within = slice_get_within x.marks place k.1.1.0 k.1.1.1 in
     let few = h.few in
     let n = length-map rows v in
     let m = ap (λ (rs : List Rowed). length rs) same in
@@ -238,7 +236,7 @@ row_there (r ∷ rows) (suc place) h = row_there rows place (let k : place < len
 -- where the next above the class at a place stands
 abbrev pub GoesOn : Laddered → Option ℕ → ℕ → Option ℕ → Type 0
 GoesOn x own at next =
-    (s : Rowed) (bound : ℕ) → slice_get x.rows at ≡ Some s → HasRung x.marks bound (Some at) → IsFar x.rows own (above_in x.rows s) next × HasRung x.marks at next
+    (s : Rowed) (bound : ℕ) → slice_get x.rows at ≡ Some s → HasRung x.marks bound (Some at) → IsNearest x.rows own (above_in x.rows s) next × HasRung x.marks at next
 
 pub climbed_first : {A : Type 0} (v : A → Rowed) (told : Option Content) (x : Laddered) (place : ℕ) (own : Option ℕ) (found : List A) (next : Option ℕ) → found ≡ [] → IsLadder told x → HasRung x.marks (place + 1) (Some place)
     → GoesOn x own place next → Climbed x place own (map v found) next
@@ -251,7 +249,7 @@ climbed_first {A} v told x place own found next none h has goes =
     subst (λ (xs : List A). Climbed x place own (map v xs) next) (sym none) start
   where
     there : (r : Rowed) × (slice_get x.rows place ≡ Some r)
-    there = row_there x.rows place (let within = slice_get_within x.marks place has.1.0 has.1.1 in let few = h.few in omega (arith, within, few))
+    there = row_there x.rows place (let within = slice_get_within x.marks place has.1.1.0 has.1.1.1 in let few = h.few in omega (arith, within, few))
 
 module _ {A B : Type 0} (w : B → Rowed) (v : A → Rowed) (x : Laddered) (place : ℕ) (own : Option ℕ) (found : List B) (rows : List A) (far next : Option ℕ) (at : ℕ) (row : A) (h : Climbed x place own (map w found) far) (is : far ≡ Some at) (same : map v rows ≡ x.rows) (within : at < length rows) (read : row ≡ get_or rows at row)
     (goes : GoesOn x own at next) where
@@ -264,7 +262,7 @@ module _ {A B : Type 0} (w : B → Rowed) (v : A → Rowed) (x : Laddered) (plac
   here : HasRung x.marks place (Some at)
   here = subst (λ (o : Option ℕ). HasRung x.marks place o) is h.has
 
-  on : IsFar x.rows own (above_in x.rows (v row)) next × HasRung x.marks at next
+  on : IsNearest x.rows own (above_in x.rows (v row)) next × HasRung x.marks at next
   on = goes (v row) place there here
 
   pub climbed_less : far_left next < far_left far
@@ -278,7 +276,7 @@ module _ {A B : Type 0} (w : B → Rowed) (v : A → Rowed) (x : Laddered) (plac
   more = record {
     others = λ s below.
         let so = h.others s below in
-        let now : IsFar x.rows own so.0 (Some at) = subst (λ (o : Option ℕ). IsFar x.rows own so.0 o) is so.1 in
+        let now : IsNearest x.rows own so.0 (Some at) = subst (λ (o : Option ℕ). IsNearest x.rows own so.0 o) is so.1 in
         let is_row : now.0 ≡ v row = same_Some now.0 (v row) (sym now.1 ∙ there) in (
           above_in x.rows (v row),
           on.0,
@@ -321,10 +319,7 @@ pass_rung told x w next own g many h has told_of mine r at =
     here : IsRung told x w.place r g
     here = record {
       lined = subst (λ (y : Rowed). IsLined told (record { config = x.config; above = take w.place x.rows; own = y })) same h.here.lined;
-      up = rung.up;
-      far = subst (λ (n : ℕ). IsFar x.rows (Some n) (above_in x.rows r) g.far) (mine r there) rung.far;
-      up_has = rung.up_has;
-      far_has = rung.far_has;
+      supers = subst (λ (n : ℕ). IsRungOf x n (above_in x.rows r) w.place g) (mine r there) rung;
       next = λ before s n e up.
           subst (λ (o : Option ℕ). HasRung x.marks w.place o)
           (h.nearest before s n e (ap (λ (y : Rowed). superclass_in y) same ∙ up)) has;
@@ -335,17 +330,22 @@ pushed_on (Err e) old filled new place g f p = tt
 pushed_on (Ok a) old filled new place g f p =
     let n : length new.marks ≡ length filled.marks + 1 = ap (λ (ms : List Mark). length ms) p.marks ∙ length-append filled.marks (p.mark ∷ []) in
     record {
-      config = p.config ∙ f.config;
-      rows = p.rows ∙ f.rows;
-      more = f.more ++ p.mark ∷ [];
-      marks = p.marks ∙ ap (λ (ms : List Mark). ms ++ p.mark ∷ []) f.marks ∙ append_assoc old.marks f.more (p.mark ∷ []);
-      many = n ∙ ap (λ (m : ℕ). m + 1) f.many;
+      filled = record {
+        config = p.config ∙ f.config;
+        rows = p.rows ∙ f.rows;
+        more = f.more ++ p.mark ∷ [];
+        marks = p.marks ∙ ap (λ (ms : List Mark). ms ++ p.mark ∷ []) f.marks ∙ append_assoc old.marks f.more (p.mark ∷ []);
+        many = n ∙ ap (λ (m : ℕ). m + 1) f.many;
+      };
       rung = (
         omega arith,
         (
-          p.mark,
-          ap (λ (ms : List Mark). slice_get ms place) p.marks ∙ ap (λ (m : ℕ). slice_get (filled.marks ++ p.mark ∷ []) m) (sym f.many) ∙ at_length filled.marks [] p.mark,
-          (g, p.rung_is),
+          g,
+          (
+            p.mark,
+            ap (λ (ms : List Mark). slice_get ms place) p.marks ∙ ap (λ (m : ℕ). slice_get (filled.marks ++ p.mark ∷ []) m) (sym f.many) ∙ at_length filled.marks [] p.mark,
+            p.rung_is,
+          ),
         ),
       );
     }
@@ -372,15 +372,15 @@ module _ (told : Option Content) (old new : Laddered) (ways left : List Way) (w 
   pub climb_on : (after : Laddered) → IsPassed new w.place after → IsClimbing told old after left (Some w.place)
   climb_on after p = record {
     longer = record {
-      config = p.config ∙ h.longer.config;
-      rows = p.rows ∙ h.longer.rows;
-      more = h.longer.more ++ p.more;
-      marks = p.marks ∙ ap (λ (ms : List Mark). ms ++ p.more) h.longer.marks ∙ append_assoc old.marks h.longer.more p.more;
+      config = p.filled.config ∙ h.longer.config;
+      rows = p.filled.rows ∙ h.longer.rows;
+      more = h.longer.more ++ p.filled.more;
+      marks = p.filled.marks ∙ ap (λ (ms : List Mark). ms ++ p.filled.more) h.longer.marks ∙ append_assoc old.marks h.longer.more p.filled.more;
     };
     ups = parts.0;
     begins_at = sym (begins_push left w next) ∙ ap (λ (ws : List Way). begins ws next) (sym popped) ∙ h.begins_at;
-    has = subst (λ (n : ℕ). HasRung after.marks n (Some w.place)) (sym p.many) p.rung;
-    many = p.many;
+    has = subst (λ (n : ℕ). HasRung after.marks n (Some w.place)) (sym p.filled.many) p.rung;
+    many = p.filled.many;
   }
 
 -- ---- the first, without marks, and the last
@@ -405,8 +405,8 @@ made_of {A} v config above rows own clone x new pushed cloned config_is rows_are
     let many : length x.rows - 1 ≡ length (map v above) =
     (let n = ap (λ (rs : List Rowed). length rs) split ∙ length-append (map v above) (own ∷ []) in omega (arith, n)) in
     record {
-      config_is = p.config ∙ config_is;
-      rows = p.rows ∙ split;
+      config_is = p.filled.config ∙ config_is;
+      rows = p.filled.rows ∙ split;
       rung = subst (λ (n : ℕ). HasRung new.marks (n + 1) (Some n)) many p.rung;
     }
 

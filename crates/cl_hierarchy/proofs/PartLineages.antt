@@ -1,7 +1,7 @@
 -- The lineages of the classes of a lineage, as a tour through its rows tells them.
 use Rattle.std.proofs.Common.{◌≡◌, ◌∙◌, ◌<◌, ◌≤◌, ◌+◌, ◌-◌, ℕ, zero, suc, Bool, true, false, if◌then◌else◌, arith, List, [], ◌∷◌, ◌++◌, Option, Some, None, append_assoc, length, length-append, map, reverse, take, refl, sym, ap, subst}
-use Rattle.std.specs.Prelude.{IfSome, option_to_list, slice_get}
-use Rattle.std.specs.List.{AllByRecursion}
+use Rattle.std.specs.Prelude.{IfSome, slice_get}
+use Rattle.std.specs.List.{AllByRecursion, cons_option}
 use Rattle.std.proofs.lemmas.Grind.{reverse_onto}
 use Rattle.std.proofs.lemmas.List.{map_push}
 use Rattle.cl_config.specs.Views.{Configured}
@@ -13,10 +13,10 @@ use Rattle.cl_model.specs.Classes.{Above, same_class, superclass_of, superinterf
 use Rattle.cl_model.specs.Lineages.{Forest, Bare, Tree, IsLineage, Kin, StandsFor, alone, lineage, postorder}
 use Rattle.cl_model.proofs.Derived.{all_both}
 use Rattle.cl_model.proofs.Progress.{once_kept}
-use Rattle.cl_hierarchy.specs.Fronts.{IsFront, IsLineageAt}
+use Rattle.cl_hierarchy.specs.Fronts.{IsFront, IsLineageAt, IsLineageIn}
 use Rattle.cl_hierarchy.specs.Ladders.{HasRung, IsMadeOf}
 use Rattle.cl_hierarchy.specs.Lineages.{IsInOrder, IsLined, IsLineageOf, IsRowIn, IsWithin, Lined, kin_of, row_of, rows_in}
-use Rattle.cl_hierarchy.specs.Parts.{AreParts, AreRowsOfLineage, EndsAt, IsCut, IsLineageIn, IsPartOf}
+use Rattle.cl_hierarchy.specs.Parts.{AreParts, AreRowsOfLineage, EndsAt, IsCut, IsPartOf}
 use Rattle.cl_hierarchy.specs.PlaceTours.{AreLineageAt, rows_at}
 use Rattle.cl_hierarchy.specs.Rows.{Rowed}
 use Rattle.cl_hierarchy.specs.Supers.{AreAllSupers, HasRow}
@@ -30,6 +30,7 @@ use Rattle.cl_hierarchy.proofs.Ends.{all_pop}
 use Rattle.cl_hierarchy.proofs.Inside.{whole}
 use Rattle.cl_hierarchy.proofs.PlaceTours.{row_in}
 use Rattle.cl_hierarchy.proofs.RowTables.{lineage_found}
+use Rattle.cl_hierarchy.proofs.Rungs.{place_of}
 use Rattle.cl_hierarchy.proofs.Told.{AreTold, nothing_told, told_order}
 use Rattle.cl_hierarchy.proofs.Ways.{at_length}
 use Rattle.std.proofs.lemmas.Option.{same_Some}
@@ -107,7 +108,7 @@ part_own l start above own h i t =
 rows_in_all : (rows : List Rowed) (ps : List ℕ) → SupersBefore [] rows → AllByRecursion (HasRow rows) ps → AllByRecursion (IsRowIn rows) (rows_at rows ps)
 rows_in_all rows [] ordered h = tt
 rows_in_all rows (p ∷ ps) ordered h =
-    subst (λ (o : Option Rowed). AllByRecursion (IsRowIn rows) (option_to_list o ++ rows_at rows ps)) (sym h.0.1) (row_in rows p h.0.0 ordered h.0.1, rows_in_all rows ps ordered h.1)
+    subst (λ (o : Option Rowed). AllByRecursion (IsRowIn rows) (cons_option o (rows_at rows ps))) (sym h.0.1) (row_in rows p h.0.0 ordered h.0.1, rows_in_all rows ps ordered h.1)
 
 told_of : (rows : List Rowed) (start : Rowed) (ps : List ℕ) → SupersBefore [] rows → AreLineageAt rows start ps → AreTold rows start (rows_at rows ps)
 told_of rows start ps ordered h = record { all = rows_in_all rows ps ordered h.within; order = h.order }
@@ -115,14 +116,14 @@ told_of rows start ps ordered h = record { all = rows_in_all rows ps ordered h.w
 -- as many rows as places
 rows_many : (rows : List Rowed) (ps : List ℕ) → AllByRecursion (HasRow rows) ps → length (rows_at rows ps) ≡ length ps
 rows_many rows [] h = refl
-rows_many rows (p ∷ ps) h = ap (λ (o : Option Rowed). length (option_to_list o ++ rows_at rows ps)) h.0.1 ∙ ap suc (rows_many rows ps h.1)
+rows_many rows (p ∷ ps) h = ap (λ (o : Option Rowed). length (cons_option o (rows_at rows ps))) h.0.1 ∙ ap suc (rows_many rows ps h.1)
 
 -- the row at a place in these
 row_of_place : (rows : List Rowed) (ps : List ℕ) (i p : ℕ) → AllByRecursion (HasRow rows) ps → slice_get ps i ≡ Some p → slice_get (rows_at rows ps) i ≡ slice_get rows p
 row_of_place rows [] i p h e = absurd cc
 row_of_place rows (q ∷ ps) zero p h e =
-    ap (λ (o : Option Rowed). slice_get (option_to_list o ++ rows_at rows ps) 0) h.0.1 ∙ sym h.0.1 ∙ ap (λ (n : ℕ). slice_get rows n) (same_Some q p e)
-row_of_place rows (q ∷ ps) (suc i) p h e = ap (λ (o : Option Rowed). slice_get (option_to_list o ++ rows_at rows ps) (suc i)) h.0.1 ∙ row_of_place rows ps i p h.1 e
+    ap (λ (o : Option Rowed). slice_get (cons_option o (rows_at rows ps)) 0) h.0.1 ∙ sym h.0.1 ∙ ap (λ (n : ℕ). slice_get rows n) (same_Some q p e)
+row_of_place rows (q ∷ ps) (suc i) p h e = ap (λ (o : Option Rowed). slice_get (cons_option o (rows_at rows ps)) (suc i)) h.0.1 ∙ row_of_place rows ps i p h.1 e
 
 -- ---- the ladder of what was told
 
@@ -198,7 +199,7 @@ all_take P (x ∷ xs) (suc n) h = (h.0, all_take P xs n h.1)
 -- what stands up to a place of a part is the lineage of the class there
 pub cut_in : {A : Type 0} (config : Configured) (rows : List Rowed) (q : Part A) (i p : ℕ) (l : Lined) → IsPartOf config rows q → slice_get q.ladder.value.rows i ≡ slice_get rows p → IsCut q.ladder.value i l → IsLineageIn config rows p l
 cut_in config rows q i p l h same cut = record {
-  config_is = cut.config_is ∙ h.config_is;
+  config = cut.config ∙ h.config_is;
   own = sym same ∙ cut.own;
   above = subst (λ (rs : List Rowed). AllByRecursion (IsRowIn rows) rs) (sym cut.above) (all_take (IsRowIn rows) q.ladder.value.rows i h.rows_in);
 }
@@ -237,7 +238,7 @@ module _ (told : Option Content) (l : Lined) (lined : IsLined told l) (rows : Li
 
   pub tour_is : (p : ℕ) (k : Lined) → IsLineageIn config rows p k → IsLineageAt l p k
   tour_is p k is = record {
-    config = is.config_is ∙ same;
+    config = is.config ∙ same;
     own = subst (λ (rs : List Rowed). slice_get rs p ≡ Some k.own) are is.own;
     above = subst (λ (rs : List Rowed). AllByRecursion (IsRowIn rs) k.above) are is.above;
   }
@@ -255,6 +256,9 @@ rows_all rows earlier (x ∷ xs) later ordered e = (
 pub front_lineage : (l : Lined) (p : ℕ) (f : Lined) → IsInOrder l → IsFront l p f → IsLineageAt l p f
 front_lineage l p f order is = record {
   config = is.config;
-  own = subst (λ (k : ℕ). slice_get (rows_in l) k ≡ Some f.own) is.many (ap (λ (rs : List Rowed). slice_get rs (length f.above)) is.stands.split ∙ at_length f.above is.stands.later f.own);
-  above = rows_all (rows_in l) [] f.above (f.own ∷ is.stands.later) (whole l order) is.stands.split;
+  own = is.own;
+  above =
+      let s = place_of (rows_in l) p f.own is.own in
+      subst (λ (rs : List Rowed). AllByRecursion (IsRowIn (rows_in l)) rs) (sym is.above)
+      (rows_all (rows_in l) [] (take p (rows_in l)) (f.own ∷ s.later) (whole l order) s.split);
 }

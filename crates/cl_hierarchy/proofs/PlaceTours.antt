@@ -1,7 +1,8 @@
 -- A tour by places is the tour by the rows there, in the order of a lineage.
 use Rattle.std.proofs.Common.{◌≡◌, ◌∙◌, ◌<◌, ◌+◌, ◌⊎◌, inl, inr, ℕ, zero, suc, Bool, true, false, ◌||◌, if◌then◌else◌, arith, List, [], ◌∷◌, ◌++◌, Option, Some, None, Result, Ok, Err, append_assoc, append-nil, get_or, length, map, take, refl, sym, ap, subst}
 use Rattle.std.specs.Prelude.{IfSome, OnOk, option_to_list, replicate, set, slice_get}
-use Rattle.std.specs.List.{AllByRecursion}
+use Rattle.std.specs.List.{AllByRecursion, cons_option}
+use Rattle.std.proofs.lemmas.List.Elements.{filter_map-append}
 use Rattle.std.proofs.lemmas.List.{map_push}
 use Rattle.std.proofs.lemmas.Option.{slice_get_within, same_Some}
 use Rattle.cl_model.specs.declared.class.Class.{Class}
@@ -15,7 +16,7 @@ use Rattle.cl_hierarchy.specs.declared.tour.Order.TheVariants as orders
 use Rattle.cl_hierarchy.specs.declared.tour.Task.{Task}
 use Rattle.cl_hierarchy.specs.declared.tour.Task.TheVariants as tasks
 use Rattle.cl_hierarchy.specs.Lineages.{IsRowIn}
-use Rattle.cl_hierarchy.specs.PlaceTours.{AreLineageAt, AreMarked, IsPlaced, IsPushed, Placed, Steps, StepsTo, classes_at, marks_at, rows_at, toured_at}
+use Rattle.cl_hierarchy.specs.PlaceTours.{AreLineageAt, AreMarked, IsPlaced, IsPushed, Placed, Steps, StepsTo, classes_at, mark_at, marks_at, rows_at, toured_at}
 use Rattle.cl_hierarchy.specs.Rows.{Rowed}
 use Rattle.cl_hierarchy.specs.Supers.{AreAllSupers, HasRow, IsRowAt, place_in, row_at}
 use Rattle.cl_hierarchy.specs.Tours.{Marked, Toured, first_row, interface_row, opened, over_from, step, steps_left, stops, told_at, upwards_of}
@@ -30,22 +31,14 @@ use Rattle.cl_hierarchy.proofs.Tours.{lineage_told}
 
 -- ---- rows at places
 
--- one row
-one_row : (o : Option Rowed) (r : Rowed) → o ≡ Some r → option_to_list o ≡ r ∷ []
-one_row o r e = ap (λ (x : Option Rowed). option_to_list x) e
-
 pub rows_push : (rows : List Rowed) (ps : List ℕ) (p : ℕ) (r : Rowed) → slice_get rows p ≡ Some r → rows_at rows (ps ++ p ∷ []) ≡ rows_at rows ps ++ r ∷ []
-rows_push rows [] p r e = append-nil (option_to_list (slice_get rows p)) ∙ one_row (slice_get rows p) r e
-rows_push rows (q ∷ ps) p r e =
-    ap (λ (rs : List Rowed). option_to_list (slice_get rows q) ++ rs) (rows_push rows ps p r e) ∙ sym (append_assoc (option_to_list (slice_get rows q)) (rows_at rows ps) (r ∷ []))
+rows_push rows ps p r e = filter_map-append (slice_get rows) ps (p ∷ []) ∙ ap (λ (o : Option Rowed). rows_at rows ps ++ cons_option o []) e
 
 marks_push : (rows : List Rowed) (ss : List Spot) (s : Spot) (r : Rowed) → slice_get rows s.place ≡ Some r → marks_at rows (ss ++ s ∷ []) ≡ marks_at rows ss ++ record { row = r; task = s.task } ∷ []
-marks_push rows [] s r e =
-    append-nil (map (λ (x : Rowed). record { row = x; task = s.task }) (option_to_list (slice_get rows s.place)))
-    ∙ ap (λ (rs : List Rowed). map (λ (x : Rowed). record { row = x; task = s.task }) rs) (one_row (slice_get rows s.place) r e)
-marks_push rows (t ∷ ss) s r e =
-    let first : List Marked = map (λ (x : Rowed). record { row = x; task = t.task }) (option_to_list (slice_get rows t.place)) in
-    ap (λ (ms : List Marked). first ++ ms) (marks_push rows ss s r e) ∙ sym (append_assoc first (marks_at rows ss) (record { row = r; task = s.task } ∷ []))
+marks_push rows ss s r e = filter_map-append (mark_at rows) ss (s ∷ []) ∙ ap (λ (o : Option Marked). marks_at rows ss ++ cons_option o []) marked
+  where
+    marked : mark_at rows s ≡ Some (record { row = r; task = s.task })
+    marked = rw e refl
 
 classes_push : (rows : List Rowed) (ps : List ℕ) (p : ℕ) (r : Rowed) → slice_get rows p ≡ Some r → classes_at rows (ps ++ p ∷ []) ≡ classes_at rows ps ++ r.class ∷ []
 classes_push rows ps p r e = ap (λ (rs : List Rowed). map (λ (x : Rowed). x.class) rs) (rows_push rows ps p r e) ∙ map_push (λ (x : Rowed). x.class) (rows_at rows ps) r
@@ -417,14 +410,14 @@ row_there v (x ∷ xs) (suc i) lt = row_there v xs i (omega (arith, lt))
 
 -- ---- rows of places
 
-rows_both : (rows : List Rowed) (ps qs : List ℕ) → rows_at rows (ps ++ qs) ≡ rows_at rows ps ++ rows_at rows qs
-rows_both rows [] qs = refl
-rows_both rows (p ∷ ps) qs = ap (λ (rs : List Rowed). option_to_list (slice_get rows p) ++ rs) (rows_both rows ps qs) ∙ sym (append_assoc (option_to_list (slice_get rows p)) (rows_at rows ps) (rows_at rows qs))
-
 pub rows_next : (rows : List Rowed) (ps : List ℕ) (n p : ℕ) → slice_get ps n ≡ Some p → rows_at rows (take (suc n) ps) ≡ rows_at rows (take n ps) ++ option_to_list (slice_get rows p)
 rows_next rows ps n p e =
-    ap (λ (qs : List ℕ). rows_at rows qs) (take_with ps n p e) ∙ rows_both rows (take n ps) (p ∷ [])
-    ∙ ap (λ (rs : List Rowed). rows_at rows (take n ps) ++ rs) (append-nil (option_to_list (slice_get rows p)))
+    ap (λ (qs : List ℕ). rows_at rows qs) (take_with ps n p e) ∙ filter_map-append (slice_get rows) (take n ps) (p ∷ [])
+    ∙ ap (λ (rs : List Rowed). rows_at rows (take n ps) ++ rs) (one (slice_get rows p))
+  where
+    one : (o : Option Rowed) → cons_option o [] ≡ option_to_list o
+    one None = refl
+    one (Some r) = refl
 
 pub row_pushed : {A : Type 0} (v : A → Rowed) (rows : List Rowed) (old new : List A) (p : ℕ) (x clone : A) → new ≡ old ++ clone ∷ [] → v clone ≡ v x → slice_get rows p ≡ Some (v x) → map v new ≡ map v old ++ option_to_list (slice_get rows p)
 row_pushed v rows old new p x clone e same at =

@@ -9,8 +9,8 @@ use Rattle.cl_model.specs.Lineages.{Kin, superclasses}
 use Rattle.cl_config.specs.Views.{Configured}
 use Rattle.cl_hierarchy.specs.Above.{IsUnmixed}
 use Rattle.cl_hierarchy.specs.Fronts.{Climb, IsFront, IsOnStem}
-use Rattle.cl_hierarchy.specs.Ladders.{AreOthers, HasRung, IsEarlier, IsLadder, IsMadeOf, IsOnLadder, IsRungAt, Laddered, others_of}
-use Rattle.cl_hierarchy.specs.Lineages.{IsLined, IsRowIn, Lined, kin_at, kin_of, rows_in}
+use Rattle.cl_hierarchy.specs.Ladders.{AreOthers, HasRung, IsEarlier, IsLadder, IsMadeOf, IsOnLadder, IsRungAt, Laddered}
+use Rattle.cl_hierarchy.specs.Lineages.{IsLined, IsRowIn, Lined, kin_at, kin_of, others_of, rows_in}
 use Rattle.cl_hierarchy.specs.Parts.{IsCut}
 use Rattle.cl_hierarchy.specs.Places.{IsPlace}
 use Rattle.cl_hierarchy.specs.Rows.{Rowed}
@@ -77,6 +77,13 @@ get_fewer (y ∷ xs) zero i x e = absurd cc
 get_fewer (y ∷ xs) (suc n) zero x e = e
 get_fewer (y ∷ xs) (suc n) (suc i) x e = get_fewer xs n i x e
 
+get_of : {A : Type 0} (xs : List A) (n i : ℕ) → i < n → slice_get (take n xs) i ≡ slice_get xs i
+get_of [] zero i h = absurd (omega (arith, h))
+get_of [] (suc n) i h = refl
+get_of (y ∷ xs) zero i h = absurd (omega (arith, h))
+get_of (y ∷ xs) (suc n) zero h = refl
+get_of (y ∷ xs) (suc n) (suc i) h = get_of xs n i (let k : i < n = omega (arith, h) in k)
+
 -- a row among those up to a place stands behind those before it
 pub place_in : (rows : List Rowed) (p n : ℕ) (r own : Rowed) → p ≤ n → slice_get rows p ≡ Some r → slice_get rows n ≡ Some own → IsPlace (take n rows ++ own ∷ []) (take p rows) r
 place_in [] p n r own h e f = absurd cc
@@ -100,10 +107,10 @@ module _ (told : Option Content) (x : Laddered) (place : ℕ) (own : Rowed) (unm
   lineage = record { config = x.config; above = take place x.rows; own = own }
 
   pub rows_are : take (suc place) x.rows ≡ rows_in lineage
-  rows_are = take_with x.rows place own h.at
+  rows_are = take_with x.rows place own h.here.at
 
   pub above_many : length (take place x.rows) ≡ place
-  above_many = take_many x.rows place (let within = slice_get_within x.rows place own h.at in omega (arith, within))
+  above_many = take_many x.rows place (let within = slice_get_within x.rows place own h.here.at in omega (arith, within))
 
   pub is_unmixed : place < unmixed → IsUnmixed (rows_in lineage)
   is_unmixed lt = λ r j c inr_ inj inc.
@@ -172,9 +179,7 @@ module _ (told : Option Content) (x : Laddered) (place : ℕ) (own : Rowed) (unm
       (ap (λ (rs : List Rowed). slice_get rs (length (e ++ r ∷ []))) (rows_here ∙ split ∙ sym (append_assoc e (r ∷ []) (s ∷ later))) ∙ at_length (e ++ r ∷ []) later s) in
       let before : slice_get x.rows (length e) ≡ Some r =
       get_fewer x.rows (suc place) (length e) r (ap (λ (rs : List Rowed). slice_get rs (length e)) (rows_here ∙ split) ∙ at_length e (s ∷ later) r) in
-      let m = on.1.0 in
-      let g = on.1.2.0 in
-      let fact = rung_fact told x (length (e ++ r ∷ [])) s g ladder there (m, on.1.1, on.1.2.1) in
+      let fact = rung_fact told x (length (e ++ r ∷ [])) s on.1.0 ladder there on.1.1 in
       has_wider x.marks (length (e ++ r ∷ [])) (place + 1) (Some (length e)) (let lt = on.0 in omega (arith, lt)) (fact.next (length e) r (sym many) before climb.0)
 
   pub on_stem : (p : ℕ) → IsOnStem here p → HasRung x.marks (place + 1) (Some p)
@@ -183,9 +188,10 @@ module _ (told : Option Content) (x : Laddered) (place : ℕ) (own : Rowed) (unm
 
   front_cut : (p : ℕ) (l : Lined) → p ≤ place → IsCut x p l → IsFront here p l
   front_cut p l le cut = record {
-    config = cut.config_is;
-    stands = subst (λ (rs : List Rowed). IsPlace (rows_in here) rs l.own) (sym cut.above) (place_in x.rows p place l.own own le cut.own h.at);
-    many = ap (λ (rs : List Rowed). length rs) cut.above ∙ take_many x.rows p (let within = slice_get_within x.rows p l.own cut.own in omega (arith, within));
+    config = cut.config;
+    above = cut.above ∙ sym (ap (λ (rs : List Rowed). take p rs) (sym rows_here) ∙ fewer x.rows p (suc place) (let k : p ≤ suc place = omega (arith, le) in k));
+    own =
+        ap (λ (rs : List Rowed). slice_get rs p) (sym rows_here) ∙ get_of x.rows (suc place) p (let k : p < suc place = omega (arith, le) in k) ∙ cut.own;
   }
 
   pub fronts_cut : (p : ℕ) (o : Option Lined) → p ≤ place → IfSome o (IsCut x p) → IfSome o (IsFront here p)
@@ -195,23 +201,23 @@ module _ (told : Option Content) (x : Laddered) (place : ℕ) (own : Rowed) (unm
   -- ---- superclasses of other loaders
 
   below : SupersBefore [] (rows_in here)
-  below = whole here h.lined.order
+  below = whole here h.here.lined.order
 
   own_kin : kin_under (kins x.rows) own ≡ kin_of here
-  own_kin = placed_kin x.rows (take place x.rows) own ladder.ordered (place_of x.rows place own h.at)
+  own_kin = placed_kin x.rows (take place x.rows) own ladder.ordered (place_of x.rows place own h.here.at)
 
   earlier_kin : (r : Rowed) → IsEarlier x.rows place r → kin_under (kins x.rows) r ≡ kin_at here r
   earlier_kin r at =
       let le : at.0 ≤ place = (let lt = at.1 in omega (arith, lt)) in
       placed_kin x.rows (take at.0 x.rows) r ladder.ordered (place_of x.rows at.0 r at.2)
-      ∙ sym (placed_kin (rows_in here) (take at.0 x.rows) r below (place_in x.rows at.0 place r own le at.2 h.at))
-      ∙ kin_inside here h.lined.order r (earlier_row r at)
+      ∙ sym (placed_kin (rows_in here) (take at.0 x.rows) r below (place_in x.rows at.0 place r own le at.2 h.here.at))
+      ∙ kin_inside here h.here.lined.order r (earlier_row r at)
     where
       earlier_row : (s : Rowed) (e : IsEarlier x.rows place s) → IsRowIn (rows_in here) s
-      earlier_row s e = placed_row (rows_in here) (take e.0 x.rows) s below (place_in x.rows e.0 place s own (let lt = e.1 in omega (arith, lt)) e.2 h.at)
+      earlier_row s e = placed_row (rows_in here) (take e.0 x.rows) s below (place_in x.rows e.0 place s own (let lt = e.1 in omega (arith, lt)) e.2 h.here.at)
 
   earlier_in : (r : Rowed) → IsEarlier x.rows place r → IsRowIn (rows_in here) r
-  earlier_in s e = placed_row (rows_in here) (take e.0 x.rows) s below (place_in x.rows e.0 place s own (let lt = e.1 in omega (arith, lt)) e.2 h.at)
+  earlier_in s e = placed_row (rows_in here) (take e.0 x.rows) s below (place_in x.rows e.0 place s own (let lt = e.1 in omega (arith, lt)) e.2 h.here.at)
 
   kins_same : {A : Type 0} (v : A → Rowed) (xs : List A) → AllByRecursion (IsEarlier x.rows place) (map v xs) → map (kin_under (kins x.rows)) (map v xs) ≡ map (λ y. kin_at here (v y)) xs
   kins_same v [] all = refl
@@ -242,15 +248,14 @@ unmixed_none rows = subst (λ (rs : List Rowed). IsUnmixed rs) (sym (none_of row
 -- what stands up to a rung is a lineage
 pub rung_on : (told : Option Content) (x : Laddered) (place : ℕ) (r : Rowed) (g : Rung) (unmixed : ℕ) → IsLadder told x → slice_get x.rows place ≡ Some r → IsRungAt x.marks place g → IsUnmixed (take unmixed x.rows) → IsOnLadder told x place r unmixed
 rung_on told x place r g unmixed ladder at is are = record {
-  at = at;
-  lined = (rung_fact told x place r g ladder at is).lined;
-  rung = (omega arith, (is.0, is.1, (g, is.2)));
+  here = record { at = at; lined = (rung_fact told x place r g ladder at is).lined };
+  rung = (omega arith, (g, is));
   unmixed_are = are;
 }
 
 -- a rung stands at the place of a row
 pub rung_within : (told : Option Content) (x : Laddered) (bound place : ℕ) → IsLadder told x → HasRung x.marks bound (Some place) → place < length x.rows
-rung_within told x bound place ladder has = let lt = slice_get_within x.marks place has.1.0 has.1.1 in let few = ladder.few in omega (arith, lt, few)
+rung_within told x bound place ladder has = let lt = slice_get_within x.marks place has.1.1.0 has.1.1.1 in let few = ladder.few in omega (arith, lt, few)
 
 -- ---- the same of what lies behind it in memory
 
@@ -267,10 +272,12 @@ pub made_on : (told : Option Content) (config : Configured) (above : List Rowed)
     → IsOnLadder told x n own 0
 made_on told config above own x n m is h =
     subst (λ (k : ℕ). IsOnLadder told x k own 0) (sym is) (record {
-      at = ap (λ (rs : List Rowed). slice_get rs (length above)) m.rows ∙ at_length above [] own;
-      lined =
-          subst (λ (c : Configured). IsLined told (record { config = c; above = take (length above) x.rows; own = own })) (sym m.config_is)
-          (subst (λ (rs : List Rowed). IsLined told (record { config = config; above = rs; own = own })) (sym (up_to m.rows)) h);
+      here = record {
+        at = ap (λ (rs : List Rowed). slice_get rs (length above)) m.rows ∙ at_length above [] own;
+        lined =
+            subst (λ (c : Configured). IsLined told (record { config = c; above = take (length above) x.rows; own = own })) (sym m.config_is)
+            (subst (λ (rs : List Rowed). IsLined told (record { config = config; above = rs; own = own })) (sym (up_to m.rows)) h);
+      };
       rung = m.rung;
       unmixed_are = unmixed_none x.rows;
     })
@@ -288,7 +295,7 @@ made_is config above own x n m is =
 -- what stands up to a place of a ladder, in memory
 pub cut_of : (x y : Laddered) (own own_in : Rowed) (place : ℕ) → y ≡ x → own_in ≡ own → slice_get x.rows place ≡ Some own → IsCut x place (record { config = y.config; above = take place y.rows; own = own_in })
 cut_of x y own own_in place ladder owned at = record {
-  config_is = ap (λ (z : Laddered). z.config) ladder;
+  config = ap (λ (z : Laddered). z.config) ladder;
   above = ap (λ (z : Laddered). take place z.rows) ladder;
   own = at ∙ ap (λ (r : Rowed). Some r) (sym owned);
 }

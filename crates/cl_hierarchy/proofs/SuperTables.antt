@@ -31,35 +31,31 @@ drop_at (y ∷ xs) (suc n) x e = drop_at xs n x e
 -- an empty table has the rows from the end on
 pub places_first : (rows : List Rowed) (entries : List (Class × ℕ)) → entries ≡ [] → ArePlaces rows (length rows) entries
 places_first rows entries e =
-    subst (λ (es : List (Class × ℕ)). ArePlaces rows (length rows) es) (sym e) (record {
-      rows_are = λ c. sym (ap (λ (rs : List Rowed). row_of rs c) (drop_all rows));
-      within = λ c. tt;
-    })
+    subst (λ (es : List (Class × ℕ)). ArePlaces rows (length rows) es) (sym e) (λ c.
+    record { row_is = sym (ap (λ (rs : List Rowed). row_of rs c) (drop_all rows)); within = tt })
 
 -- and one with one place more has one row more
 pub places_next : (rows : List Rowed) (n : ℕ) (old new : List (Class × ℕ)) (c : Class) (r : Rowed) → slice_get rows n ≡ Some r → c ≡ r.class → Puts old c n new → ArePlaces rows (suc n) old → ArePlaces rows n new
-places_next rows n old new c r at same puts h = record {
-  rows_are = λ d.
+places_next rows n old new c r at same puts h = λ d. record {
+  row_is =
       ap (λ (o : Option ℕ). row_at rows o) (puts d) ∙ found d (same_class c d) refl
       ∙ sym (ap (λ (rs : List Rowed). row_of rs d) (drop_at rows n r at));
-  within = λ d. subst (λ (o : Option ℕ). IfSome o (HasRow rows)) (sym (puts d)) (inside d (same_class c d));
+  within = subst (λ (o : Option ℕ). IfSome o (HasRow rows)) (sym (puts d)) (inside d (same_class c d));
 }
   where
     found : (d : Class) (b : Bool) → same_class c d ≡ b → row_at rows (if b then Some n else lookup (same_class d) old) ≡ (if same_class r.class d then Some r else row_of (drop (suc n) rows) d)
     found d true e = at ∙ sym (ap (λ (b : Bool). if b then Some r else row_of (drop (suc n) rows) d) (ap (λ (x : Class). same_class x d) (sym same) ∙ e))
-    found d false e = h.rows_are d ∙ sym (ap (λ (b : Bool). if b then Some r else row_of (drop (suc n) rows) d) (ap (λ (x : Class). same_class x d) (sym same) ∙ e))
+    found d false e = (h d).row_is ∙ sym (ap (λ (b : Bool). if b then Some r else row_of (drop (suc n) rows) d) (ap (λ (x : Class). same_class x d) (sym same) ∙ e))
 
     inside : (d : Class) (b : Bool) → IfSome (if b then Some n else lookup (same_class d) old) (HasRow rows)
     inside d true = (r, at)
-    inside d false = h.within d
+    inside d false = (h d).within
 
 -- what a look-up gives
 pub place_found : (entries : List (Class × ℕ)) (n m : Name) (loader : ℕ) (found : Option ℕ) → n ≡ m → found ≡ lookup (same_class (class n loader)) entries → (rows : List Rowed) → ArePlaces rows 0 entries → IsRowAt rows (row_of rows (class m loader)) found
 place_found entries n m loader found same e rows h =
-    subst (λ (o : Option ℕ). IsRowAt rows (row_of rows (class m loader)) o) (sym (e ∙ ap (λ (x : Name). lookup (same_class (class x loader)) entries) same)) (record {
-      row_is = h.rows_are (class m loader) ∙ ap (λ (rs : List Rowed). row_of rs (class m loader)) (from_first rows);
-      within = h.within (class m loader);
-    })
+    subst (λ (o : Option ℕ). IsRowAt rows (row_of rows (class m loader)) o) (sym (e ∙ ap (λ (x : Name). lookup (same_class (class x loader)) entries) same))
+    (subst (λ (rs : List Rowed). IsRowAt rows (row_of rs (class m loader)) (lookup (same_class (class m loader)) entries)) (from_first rows) (h (class m loader)))
   where
     from_first : (rs : List Rowed) → drop 0 rs ≡ rs
     from_first [] = refl

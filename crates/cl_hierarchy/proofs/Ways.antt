@@ -12,8 +12,8 @@ use Rattle.cl_model.proofs.Ancestors.{same_self}
 use Rattle.cl_model.proofs.Complete.{is_class}
 use Rattle.cl_config.specs.Views.{Configured}
 use Rattle.cl_hierarchy.specs.Frames.{accepted_of}
-use Rattle.cl_hierarchy.specs.Ladders.{IsLinedAt, IsNextUp, IsWay, LeadUp, above_in, begins}
-use Rattle.cl_hierarchy.specs.Lineages.{IsLined}
+use Rattle.cl_hierarchy.specs.Ladders.{IsLinedAt, IsNextUp, IsWay, LeadUp, begins}
+use Rattle.cl_hierarchy.specs.Lineages.{IsLined, above_in}
 use Rattle.cl_hierarchy.specs.Places.{IsPlace}
 use Rattle.cl_hierarchy.specs.Rows.{Rowed}
 use Rattle.cl_hierarchy.specs.Trees.{SupersBefore, forest, in_front, kin_named, kin_under, kins, superclass_in}

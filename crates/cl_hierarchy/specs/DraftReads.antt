@@ -1,9 +1,8 @@
 -- What reading a home answers (JVMS SE 8, 5.3.5).
 use Rattle.std.specs.Prelude.{◌≡◌, Result, Ok, Err}
 use Rattle.cl_classfile.specs.Files.{file_of}
-use Rattle.cl_model.specs.Classes.{class}
 use Rattle.cl_delegation.specs.Searches.{Located}
-use Rattle.cl_hierarchy.specs.Drafts.{Drafted, ByGrammar, IsWrong}
+use Rattle.cl_hierarchy.specs.Drafts.{Drafted, ByGrammar, IsWrong, home_class}
 use Rattle.cl_hierarchy.specs.declared.draft.DraftRefused.{DraftRefused}
 use Rattle.cl_hierarchy.specs.declared.draft.DraftRefused.TheVariants.{Memory, Unreadable}
 
@@ -11,7 +10,7 @@ use Rattle.cl_hierarchy.specs.declared.draft.DraftRefused.TheVariants.{Memory, U
 -- memory ran out (5.3.5)
 abbrev pub ReadAs : {A : Type 0} → Located → Result Drafted (DraftRefused A) → Type 0
 ReadAs home (Ok d) =
-    (d.home ≡ home) × (d.class ≡ class home.name home.place) × ByGrammar home.bytes d.file
+    (d.home ≡ home) × (d.class ≡ home_class home) × ByGrammar home.bytes d.file
     × ((file_of d.file).name ≡ home.name)
 ReadAs home (Err (Memory back)) = back ≡ home
 ReadAs home (Err (Unreadable u)) = (u.home ≡ home) × IsWrong home u.fault

@@ -32,9 +32,13 @@ pub record IsSpelt (told : Option Content) (c : Class) (f : Structure) : Type 0 
   pub spells : ByGrammar bytes f
   pub named : (file_of f).name ≡ c.name
 
+-- the class that a home is of: its name, and the loader whose own content has it (5.3.5)
+abbrev pub home_class : Located → Class
+home_class h = class h.name h.place
+
 -- a draft is of the class of its home, which that one's bytes spell (5.3.5)
 pub record IsDraft (told : Option Content) (d : Drafted) : Type 0 where
-  pub placed : d.class ≡ class d.home.name d.home.place
+  pub placed : d.class ≡ home_class d.home
   pub spelt : IsSpelt told d.class d.file
   pub leads : LeadsTo told d.home.config d.home.asked d.home.name (Some d.home.place)
   pub within : d.home.place < length d.home.config.loaders

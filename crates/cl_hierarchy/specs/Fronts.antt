@@ -1,6 +1,7 @@
 -- The lineages at the front of a lineage (JVMS SE 8, 5.3.5, 5.4).
-use Rattle.std.specs.Prelude.{◌≡◌, ℕ, List, [], ◌∷◌, Some, length, slice_get}
+use Rattle.std.specs.Prelude.{◌≡◌, ℕ, List, [], ◌∷◌, Some, length, slice_get, take}
 use Rattle.std.specs.List.{AllByRecursion}
+use Rattle.cl_config.specs.Views.{Configured}
 use Rattle.cl_hierarchy.specs.Lineages.{IsRowIn, Lined, rows_in}
 use Rattle.cl_hierarchy.specs.Places.{IsPlace}
 use Rattle.cl_hierarchy.specs.Rows.{Rowed}
@@ -20,14 +21,24 @@ pub record IsOnStem (l : Lined) (place : ℕ) : Type 0 where
   pub many : length earlier ≡ place
   pub climb : Climb row stands.later
 
--- all the rows up to a place, the one at the place as the own (5.3.5)
-pub record IsFront (l : Lined) (place : ℕ) (front : Lined) : Type 0 where
-  pub config : front.config ≡ l.config
-  pub stands : IsPlace (rows_in l) front.above front.own
-  pub many : length front.above ≡ place
+-- all of these rows up to a place, the one at the place as the own (5.3.5)
+pub record IsUpTo (c : Configured) (rows : List Rowed) (place : ℕ) (front : Lined) : Type 0 where
+  pub config : front.config ≡ c
+  pub above : front.above ≡ take place rows
+  pub own : slice_get rows place ≡ Some front.own
 
--- the lineage of the class at a place: all its rows are those of their classes in this one (5.3.5)
-pub record IsLineageAt (l : Lined) (place : ℕ) (part : Lined) : Type 0 where
-  pub config : part.config ≡ l.config
-  pub own : slice_get (rows_in l) place ≡ Some part.own
-  pub above : AllByRecursion (IsRowIn (rows_in l)) part.above
+-- all rows of a lineage up to a place (5.3.5)
+abbrev pub IsFront : Lined → ℕ → Lined → Type 0
+IsFront l place front = IsUpTo l.config (rows_in l) place front
+
+-- the lineage of the class at a place of these rows: its rows are those of their classes among them
+-- (5.3.5)
+pub record IsLineageIn (c : Configured) (rows : List Rowed) (place : ℕ) (part : Lined)
+    : Type 0 where
+  pub config : part.config ≡ c
+  pub own : slice_get rows place ≡ Some part.own
+  pub above : AllByRecursion (IsRowIn rows) part.above
+
+-- that of the class at a place of a lineage (5.3.5)
+abbrev pub IsLineageAt : Lined → ℕ → Lined → Type 0
+IsLineageAt l place part = IsLineageIn l.config (rows_in l) place part

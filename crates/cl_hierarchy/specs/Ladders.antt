@@ -1,66 +1,61 @@
 -- What is kept of the places of a lineage's rows, so that the lineages at its front, and their
 -- superclasses of other loaders, are found without a look at each row (JVMS SE 8, 5.3.5, 5.4).
-use Rattle.std.specs.Prelude.{◌≡◌, ◌<◌, ◌≤◌, ◌+◌, ◌∷◌, ◌++◌, ℕ, Bool, true, false, List, [], Option, None, Some, filter, length, map, slice_get, take}
+use Rattle.std.specs.Prelude.{◌≡◌, ◌<◌, ◌≤◌, ◌+◌, ◌∷◌, ◌++◌, ℕ, Bool, true, false, List, [], Option, None, Some, length, map, slice_get, take}
 use Rattle.std.specs.List.{AllByRecursion}
 use Rattle.cl_model.specs.Content.{Content}
-use Rattle.cl_model.specs.Lineages.{Kin, superclasses}
+use Rattle.cl_model.specs.Lineages.{Kin}
 use Rattle.cl_config.specs.Views.{Configured}
 use Rattle.cl_hierarchy.specs.Above.{AreOvers, IsUnmixed}
-use Rattle.cl_hierarchy.specs.Lineages.{IsLined, is_of_other}
+use Rattle.cl_hierarchy.specs.Lineages.{IsLined, above_in, others_of}
 use Rattle.cl_hierarchy.specs.Rows.{Rowed}
 use Rattle.cl_hierarchy.specs.Trees.{SupersBefore, kin_under, kins, superclass_in}
 use Rattle.cl_hierarchy.specs.declared.rung.Mark.{Mark}
 use Rattle.cl_hierarchy.specs.declared.rung.Rung.{Rung}
 use Rattle.cl_hierarchy.specs.declared.rung.Way.{Way}
 
--- under which configuration, the rows of a lineage, the own one last, and what is kept of each place
+-- under which configuration, the rows of a lineage, the own one last, and what is kept of each
+-- place
 pub record Laddered : Type 0 where
   pub config : Configured
   pub rows : List Rowed
   pub marks : List Mark
 
--- the superclasses of the class of one of these rows, nearest first (4.1)
-abbrev pub above_in : List Rowed → Rowed → List Kin
-above_in rows r = superclasses (kin_under (kins rows) r)
-
--- of these classes those that another loader than this defined, or all of them (5.3)
-abbrev pub others_of : Option ℕ → List Kin → List Kin
-others_of None ks = ks
-others_of (Some own) ks = filter (λ k. is_of_other own k.class) ks
-
 -- the rows before this place of these are those of the lineage of the class there (5.3.5)
-pub record IsLinedAt (told : Option Content) (config : Configured) (rows : List Rowed) (place : ℕ) (r : Rowed) : Type 0 where
+pub record IsLinedAt (told : Option Content) (config : Configured) (rows : List Rowed) (place : ℕ)
+    (r : Rowed) : Type 0 where
   pub at : slice_get rows place ≡ Some r
   pub lined : IsLined told (record { config = config; above = take place rows; own = r })
 
--- these superclasses are none, or that of the row at a place and the superclasses of that (4.1)
-abbrev pub IsUp : List Rowed → List Kin → Option ℕ → Type 0
-IsUp rows ks None = ks ≡ []
-IsUp rows ks (Some place) =
-    (r : Rowed) × (slice_get rows place ≡ Some r) × (ks ≡ kin_under (kins rows) r ∷ above_in rows r)
-
--- of these superclasses no other loader than this defined any, or the nearest of those that another
--- did stands at a place; or that of all (4.1, 5.3)
-abbrev pub IsFar : List Rowed → Option ℕ → List Kin → Option ℕ → Type 0
-IsFar rows own ks None = others_of own ks ≡ []
-IsFar rows own ks (Some place) =
+-- of these superclasses, or of those that another loader than this defined, the nearest stands at a
+-- place, and the others are those above it; where there is no place, there are none (4.1, 5.3)
+abbrev pub IsNearest : List Rowed → Option ℕ → List Kin → Option ℕ → Type 0
+IsNearest rows own ks None = others_of own ks ≡ []
+IsNearest rows own ks (Some place) =
     (r : Rowed) × (slice_get rows place ≡ Some r)
     × (others_of own ks ≡ kin_under (kins rows) r ∷ others_of own (above_in rows r))
+
+-- the mark at this place has this rung
+abbrev pub IsRungAt : List Mark → ℕ → Rung → Type 0
+IsRungAt marks place g = (m : Mark) × (slice_get marks place ≡ Some m) × (m.rung ≡ Some g)
 
 -- a place, if it is one, is before this, and has a rung
 abbrev pub HasRung : List Mark → ℕ → Option ℕ → Type 0
 HasRung marks bound None = Unit {0}
-HasRung marks bound (Some place) =
-    (place < bound) × ((m : Mark) × (slice_get marks place ≡ Some m) × ((g : Rung) × (m.rung ≡ Some g)))
+HasRung marks bound (Some place) = (place < bound) × ((g : Rung) × IsRungAt marks place g)
+
+-- a rung tells where superclasses of a class of this loader stand (4.1, 5.3)
+pub record IsRungOf (x : Laddered) (own : ℕ) (ks : List Kin) (bound : ℕ) (g : Rung) : Type 0 where
+  pub up : IsNearest x.rows None ks g.up
+  pub far : IsNearest x.rows (Some own) ks g.far
+  pub up_has : HasRung x.marks bound g.up
+  pub far_has : HasRung x.marks bound g.far
 
 -- what a rung tells of the class at its place: its lineage, and where its superclasses stand
 -- (4.1, 5.3.5)
-pub record IsRung (told : Option Content) (x : Laddered) (place : ℕ) (r : Rowed) (g : Rung) : Type 0 where
+pub record IsRung (told : Option Content) (x : Laddered) (place : ℕ) (r : Rowed) (g : Rung)
+    : Type 0 where
   pub lined : IsLined told (record { config = x.config; above = take place x.rows; own = r })
-  pub up : IsUp x.rows (above_in x.rows r) g.up
-  pub far : IsFar x.rows (Some r.class.loader) (above_in x.rows r) g.far
-  pub up_has : HasRung x.marks place g.up
-  pub far_has : HasRung x.marks place g.far
+  pub supers : IsRungOf x r.class.loader (above_in x.rows r) place g
   pub next :
       (before : ℕ) (s : Rowed) → before + 1 ≡ place → slice_get x.rows before ≡ Some s
       → superclass_in r ≡ s.class ∷ [] → HasRung x.marks place (Some before)
@@ -82,9 +77,9 @@ pub record IsLadder (told : Option Content) (x : Laddered) : Type 0 where
 
 -- what a lineage keeps: it is one, its class stands on a rung, and so many of all rows are unmixed
 -- (5.3.5, 5.4.2)
-pub record IsOnLadder (told : Option Content) (x : Laddered) (place : ℕ) (own : Rowed) (unmixed : ℕ) : Type 0 where
-  pub at : slice_get x.rows place ≡ Some own
-  pub lined : IsLined told (record { config = x.config; above = take place x.rows; own = own })
+pub record IsOnLadder (told : Option Content) (x : Laddered) (place : ℕ) (own : Rowed)
+    (unmixed : ℕ) : Type 0 where
+  pub here : IsLinedAt told x.config x.rows place own
   pub rung : HasRung x.marks (place + 1) (Some place)
   pub unmixed_are : IsUnmixed (take unmixed x.rows)
 
@@ -93,7 +88,7 @@ pub record IsOnLadder (told : Option Content) (x : Laddered) (place : ℕ) (own 
 -- the class at a place and the next on the way up: its superclass, or a superinterface that has the
 -- same superclass; where there is none, it has no superclass (4.1, 5.3.5)
 abbrev pub IsNextUp : List Rowed → Bool → List Kin → Option ℕ → Type 0
-IsNextUp rows false ks next = IsUp rows ks next
+IsNextUp rows false ks next = IsNearest rows None ks next
 IsNextUp rows true ks None = ⊥
 IsNextUp rows true ks (Some place) =
     (r : Rowed) × (slice_get rows place ≡ Some r) × (ks ≡ above_in rows r)
@@ -104,7 +99,8 @@ IsBefore None place = Unit {0}
 IsBefore (Some next) place = next < place
 
 -- a way from a place to the next up (5.3.5)
-pub record IsWay (told : Option Content) (config : Configured) (rows : List Rowed) (w : Way) (next : Option ℕ) : Type 0 where
+pub record IsWay (told : Option Content) (config : Configured) (rows : List Rowed) (w : Way)
+    (next : Option ℕ) : Type 0 where
   pub row : Rowed
   pub here : IsLinedAt told config rows w.place row
   pub up : IsNextUp rows w.is_over (above_in rows row) next
@@ -124,17 +120,6 @@ LeadUp told config rows [] next = Unit {0}
 LeadUp told config rows (w ∷ ws) next =
     IsWay told config rows w (begins ws next) × LeadUp told config rows ws next
 
--- the mark at this place has this rung
-abbrev pub IsRungAt : List Mark → ℕ → Rung → Type 0
-IsRungAt marks place g = (m : Mark) × (slice_get marks place ≡ Some m) × (m.rung ≡ Some g)
-
--- a rung tells where superclasses of a class of this loader stand (4.1, 5.3)
-pub record IsRungOf (x : Laddered) (own : ℕ) (ks : List Kin) (bound : ℕ) (g : Rung) : Type 0 where
-  pub up : IsUp x.rows ks g.up
-  pub far : IsFar x.rows (Some own) ks g.far
-  pub up_has : HasRung x.marks bound g.up
-  pub far_has : HasRung x.marks bound g.far
-
 -- one mark more, with this rung
 pub record IsPushed (old : Laddered) (rung : Option Rung) (new : Laddered) : Type 0 where
   pub config : new.config ≡ old.config
@@ -153,15 +138,12 @@ pub record IsFilled (old : Laddered) (place : ℕ) (new : Laddered) : Type 0 whe
 
 -- marks more, the last of a place that has a rung
 pub record IsPassed (old : Laddered) (place : ℕ) (new : Laddered) : Type 0 where
-  pub config : new.config ≡ old.config
-  pub rows : new.rows ≡ old.rows
-  pub more : List Mark
-  pub marks : new.marks ≡ old.marks ++ more
-  pub many : length new.marks ≡ place + 1
+  pub filled : IsFilled old (place + 1) new
   pub rung : HasRung new.marks (place + 1) (Some place)
 
 -- made of a lineage, whose own place has a rung (5.3.5)
-pub record IsMadeOf (config : Configured) (above : List Rowed) (own : Rowed) (x : Laddered) : Type 0 where
+pub record IsMadeOf (config : Configured) (above : List Rowed) (own : Rowed) (x : Laddered)
+    : Type 0 where
   pub config_is : x.config ≡ config
   pub rows : x.rows ≡ above ++ own ∷ []
   pub rung : HasRung x.marks (length above + 1) (Some (length above))
@@ -171,6 +153,7 @@ abbrev pub IsEarlier : List Rowed → ℕ → Rowed → Type 0
 IsEarlier rows place r = (at : ℕ) × (at < place) × (slice_get rows at ≡ Some r)
 
 -- the superclasses of the class at a place that another loader than this defined, or all (4.1, 5.3)
-pub record AreOthers (x : Laddered) (place : ℕ) (own : Option ℕ) (r : Rowed) (found : List Rowed) : Type 0 where
+pub record AreOthers (x : Laddered) (place : ℕ) (own : Option ℕ) (r : Rowed) (found : List Rowed)
+    : Type 0 where
   pub kins_are : map (kin_under (kins x.rows)) found ≡ others_of own (above_in x.rows r)
   pub rows_are : AllByRecursion (IsEarlier x.rows place) found

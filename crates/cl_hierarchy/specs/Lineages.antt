@@ -12,6 +12,7 @@ use Rattle.std.specs.Prelude.{
   Option,
   Some,
   None,
+  filter,
   find,
   length,
   not,
@@ -20,7 +21,7 @@ use Rattle.std.specs.Prelude.{
 use Rattle.std.specs.List.{AllByRecursion}
 use Rattle.cl_model.specs.declared.class.Class.{Class}
 use Rattle.cl_model.specs.Content.{Content}
-use Rattle.cl_model.specs.Classes.{is_among, same_class}
+use Rattle.cl_model.specs.Classes.{same_class}
 use Rattle.cl_model.specs.Lineages.{
   Forest,
   Bare,
@@ -28,17 +29,16 @@ use Rattle.cl_model.specs.Lineages.{
   IsLineage,
   Kin,
   alone,
-  classes,
   lineage,
   member_accessible,
   once,
   protected_open,
-  upward,
+  superclasses,
 }
 use Rattle.cl_config.specs.Views.{Configured}
 use Rattle.cl_delegation.specs.Worlds.{world_of}
 use Rattle.cl_hierarchy.specs.Rows.{Rowed}
-use Rattle.cl_hierarchy.specs.Trees.{IsAfter, SupersBefore, forest, kin_under, kins}
+use Rattle.cl_hierarchy.specs.Trees.{IsAfter, SupersBefore, kin_under, kins}
 
 -- under which configuration, the rows of all that stands above a class, and its own (5.3.5)
 pub record Lined : Type 0 where
@@ -101,13 +101,18 @@ upwards (Tree c f sup ints others) =
 abbrev pub field_order : Kin → List Kin
 field_order k = once (upwards (alone k))
 
--- a class is the superclass (of one class or none), or one of its superclasses (4.1, super_class)
-abbrev pub reaches : List Kin → List Class → Class → Bool
-reaches known superclass c = is_among (classes (upward (forest known superclass))) c
+-- the superclasses of the class of one of these rows, nearest first (4.1)
+abbrev pub above_in : List Rowed → Rowed → List Kin
+above_in rows r = superclasses (kin_under (kins rows) r)
 
 -- another loader than this defined the class (5.3)
 abbrev pub is_of_other : ℕ → Class → Bool
 is_of_other own c = not (own == c.loader)
+
+-- of these classes those that another loader than this defined, or all of them (5.3)
+abbrev pub others_of : Option ℕ → List Kin → List Kin
+others_of None ks = ks
+others_of (Some own) ks = filter (λ k. is_of_other own k.class) ks
 
 -- this tells whether a protected member that owner declares with these flags is open to a class
 -- through another (5.4.4)

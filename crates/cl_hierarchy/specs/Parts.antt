@@ -1,8 +1,9 @@
 -- The lineages of the classes of a lineage (JVMS SE 8, 5.3.5).
-use Rattle.std.specs.Prelude.{◌≡◌, ◌-◌, ℕ, List, Option, Some, IfSome, length, slice_get, take}
+use Rattle.std.specs.Prelude.{◌≡◌, ◌-◌, ℕ, List, Option, Some, IfSome, length, slice_get}
 use Rattle.std.specs.List.{AllByRecursion}
 use Rattle.cl_config.specs.Views.{Configured}
 use Rattle.cl_model.specs.Content.{Content}
+use Rattle.cl_hierarchy.specs.Fronts.{IsUpTo}
 use Rattle.cl_hierarchy.specs.Ladders.{HasRung, Laddered}
 use Rattle.cl_hierarchy.specs.Lineages.{IsLined, IsRowIn, Lined, rows_in}
 use Rattle.cl_hierarchy.specs.PlaceTours.{rows_at}
@@ -12,27 +13,20 @@ use Rattle.cl_hierarchy.specs.declared.parts.Part.{Part}
 use Rattle.cl_hierarchy.specs.declared.parts.Parts.{Parts}
 
 -- these rows are those of a lineage, its own last (5.3.5)
-pub record AreRowsOfLineage (told : Option Content) (config : Configured) (rows : List Rowed) : Type 0 where
+pub record AreRowsOfLineage (told : Option Content) (config : Configured) (rows : List Rowed)
+    : Type 0 where
   pub whole : Lined
   pub rows_are : rows ≡ rows_in whole
   pub config_is : whole.config ≡ config
   pub lined : IsLined told whole
 
--- the lineage of the class at a place of these rows: its rows are those of their classes among them
--- (5.3.5)
-pub record IsLineageIn (config : Configured) (rows : List Rowed) (place : ℕ) (l : Lined) : Type 0 where
-  pub config_is : l.config ≡ config
-  pub own : slice_get rows place ≡ Some l.own
-  pub above : AllByRecursion (IsRowIn rows) l.above
-
--- all rows up to a place of a ladder, that at the place as the own
-pub record IsCut (x : Laddered) (place : ℕ) (l : Lined) : Type 0 where
-  pub config_is : l.config ≡ x.config
-  pub above : l.above ≡ take place x.rows
-  pub own : slice_get x.rows place ≡ Some l.own
+-- all rows up to a place of a ladder (5.3.5)
+abbrev pub IsCut : Laddered → ℕ → Lined → Type 0
+IsCut x place l = IsUpTo x.config x.rows place l
 
 -- a lineage among these rows, and where its rows stand
-pub record IsPartOf {A : Type 0} (config : Configured) (rows : List Rowed) (q : Part A) : Type 0 where
+pub record IsPartOf {A : Type 0} (config : Configured) (rows : List Rowed) (q : Part A)
+    : Type 0 where
   pub config_is : q.ladder.value.config ≡ config
   pub rows_are : q.ladder.value.rows ≡ rows_at rows q.places.items
   pub places_in : AllByRecursion (HasRow rows) q.places.items
@@ -44,7 +38,8 @@ pub record EndsAt {A : Type 0} (rows : List Rowed) (place : ℕ) (q : Part A) : 
   pub rung : HasRung q.ladder.value.marks (length q.places.items) (Some (length q.places.items - 1))
 
 -- where the direct supertypes of each of these rows stand, and the lineage that was told last
-pub record AreParts {A : Type 0} (config : Configured) (rows : List Rowed) (p : Parts A) : Type 0 where
+pub record AreParts {A : Type 0} (config : Configured) (rows : List Rowed) (p : Parts A)
+    : Type 0 where
   pub table : AreAllSupers rows rows p.table.items
   pub last : IfSome p.last (IsPartOf config rows)
 

@@ -21,7 +21,7 @@ use Rattle.std.specs.List.{AllByRecursion, list_any}
 use Rattle.cl_classfile.specs.Files.{File}
 use Rattle.cl_model.specs.declared.class.Class.{Class}
 use Rattle.cl_model.specs.Content.{Content}
-use Rattle.cl_model.specs.Classes.{same_class, Above, Error, misfit}
+use Rattle.cl_model.specs.Classes.{class, same_class, Above, Error, misfit}
 use Rattle.cl_model.specs.Frames.{Frame, wanted, asking, IsFrames}
 use Rattle.cl_config.specs.Views.{Configured}
 use Rattle.cl_delegation.specs.Worlds.{world_of}
@@ -62,6 +62,10 @@ at_loader p = asking p.loader (frames_of p)
 -- the name that it is asked for (5.3.5, steps 3 and 4)
 abbrev pub at_name : Pathed → List ℕ
 at_name p = sought p.name p.frames
+
+-- what is looked for, as a class of the loader that is asked (5.3.5, steps 3 and 4)
+abbrev pub sought_class : Pathed → Class
+sought_class p = class (at_name p) (at_loader p)
 
 -- a class is being derived (5.3.5, step 3)
 abbrev pub is_on : Pathed → Class → Bool

@@ -1,5 +1,5 @@
 -- A tour in the order of a lineage by the places of its rows (JVMS SE 8, 5.3.5).
-use Rattle.std.specs.Prelude.{◌≡◌, ℕ, Bool, List, [], ◌∷◌, ◌++◌, Some, map, option_to_list, slice_get}
+use Rattle.std.specs.Prelude.{◌≡◌, ℕ, Bool, List, [], ◌∷◌, ◌++◌, Option, Some, filter_map, map, option_map, slice_get}
 use Rattle.std.specs.List.{AllByRecursion}
 use Rattle.cl_model.specs.declared.class.Class.{Class}
 use Rattle.cl_model.specs.Classes.{is_among}
@@ -15,19 +15,20 @@ use Rattle.cl_hierarchy.specs.declared.supers.Supers.{Supers}
 
 -- the rows at these places
 abbrev pub rows_at : List Rowed → List ℕ → List Rowed
-rows_at rows [] = []
-rows_at rows (p ∷ ps) = option_to_list (slice_get rows p) ++ rows_at rows ps
+rows_at rows places = filter_map (slice_get rows) places
 
 -- the classes of these
 abbrev pub classes_at : List Rowed → List ℕ → List Class
 classes_at rows places = map (λ r. r.class) (rows_at rows places)
 
+-- what is left to do for the row at a place, if there is one
+abbrev pub mark_at : List Rowed → Spot → Option Marked
+mark_at rows s =
+    option_map (λ (r : Rowed). record { row = r; task = s.task }) (slice_get rows s.place)
+
 -- what is left to do for the rows at places
 abbrev pub marks_at : List Rowed → List Spot → List Marked
-marks_at rows [] = []
-marks_at rows (s ∷ ss) =
-    map (λ (r : Rowed). record { row = r; task = s.task }) (option_to_list (slice_get rows s.place))
-    ++ marks_at rows ss
+marks_at rows spots = filter_map (mark_at rows) spots
 
 -- it is told of each place whether its class is among these
 abbrev pub AreMarked : List Rowed → List Class → List Bool → Type 0

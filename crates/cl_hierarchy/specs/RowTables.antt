@@ -15,45 +15,35 @@ use Rattle.std.specs.Prelude.{
   Ok,
   Err,
 }
-use Rattle.std.specs.List.{AllByRecursion}
+use Rattle.std.specs.List.{AllByRecursion, AllZip}
 use Rattle.cl_classfile.specs.Files.{file_of}
 use Rattle.cl_model.specs.declared.class.Class.{Class}
 use Rattle.cl_model.specs.Content.{Content}
-use Rattle.cl_model.specs.Homes.{home}
-use Rattle.cl_model.specs.Classes.{class, Above, HasFile, misfit, supers}
+use Rattle.cl_model.specs.Classes.{class, Above, HasFile, supers}
 use Rattle.cl_config.specs.Views.{Configured}
+use Rattle.cl_delegation.specs.Searches.{LeadsTo}
 use Rattle.cl_delegation.specs.Worlds.{world_of}
-use Rattle.cl_hierarchy.specs.Rows.{Rowed}
+use Rattle.cl_hierarchy.specs.Rows.{FitsAs, Rowed}
 use Rattle.cl_model.specs.Lineages.{IsLineage, Kin}
 use Rattle.cl_hierarchy.specs.Trees.{SupersBefore, kin_named, kins}
 use Rattle.cl_hierarchy.specs.Lineages.{IsRowIn, IsWithin, Lined, kin_of, row_of, rows_in}
 use Rattle.cl_hierarchy.specs.declared.making.LineageFault.{LineageFault}
 use Rattle.cl_hierarchy.specs.declared.making.LineageFault.TheVariants.{Memory, Unknown}
 
--- where a content is told, this loader is where the search for a supertype of a class leads to
--- (5.3.1, 5.3.2)
-abbrev pub IsFound : Option Content → Configured → Class → Above → ℕ → Type 0
-IsFound None config c a place = Unit {0}
-IsFound (Some content) config c a place =
-    home (world_of config content) c.loader a.name ≡ Some place
-
--- a direct supertype of a class, which this loader defined, stands among earlier rows, and fits
--- (5.3.5, steps 3 and 4)
+-- a direct supertype of a class, which this loader defined, stands among earlier rows, and fits;
+-- the search for its name led there (5.3.1, 5.3.2; 5.3.5, steps 3 and 4)
 pub record StandsAbove (told : Option Content) (config : Configured) (earlier : List Rowed)
     (c : Class) (a : Above) (place : ℕ) : Type 0 where
   pub row : Rowed
   pub stands : row_of earlier (class a.name place) ≡ Some row
-  pub fits : misfit c a.role row.class (file_of row.file) ≡ None
-  pub found : IsFound told config c a place
+  pub fits : FitsAs c a row
+  pub found : LeadsTo told config c.loader a.name (Some place)
 
 -- these supertypes of a class, which these loaders defined, one each (5.3.5, steps 3 and 4)
 abbrev pub StandAbove : Option Content → Configured → List Rowed → Class → List Above → List ℕ
     → Type 0
-StandAbove told config earlier c [] [] = Unit {0}
-StandAbove told config earlier c [] (place ∷ places) = ⊥
-StandAbove told config earlier c (a ∷ others) [] = ⊥
-StandAbove told config earlier c (a ∷ others) (place ∷ places) =
-    StandsAbove told config earlier c a place × StandAbove told config earlier c others places
+StandAbove told config earlier c others places =
+    AllZip (StandsAbove told config earlier c) others places
 
 -- where a content is told, a row has its class's file (5.3.5, step 2)
 abbrev pub HasItsFile : Option Content → Configured → Rowed → Type 0

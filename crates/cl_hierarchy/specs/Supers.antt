@@ -1,5 +1,6 @@
 -- Where the direct supertypes of rows stand among these (JVMS SE 8, 5.3.5, steps 3 and 4).
-use Rattle.std.specs.Prelude.{◌≡◌, ℕ, if◌then◌else◌, List, [], ◌∷◌, Option, Some, drop, slice_get, option_and_then, IfSome}
+use Rattle.std.specs.Prelude.{◌≡◌, ℕ, if◌then◌else◌, List, Option, Some, drop, slice_get, option_and_then, IfSome}
+use Rattle.std.specs.List.{AllZip}
 use Rattle.std.specs.Map.{lookup}
 use Rattle.cl_model.specs.declared.class.Class.{Class}
 use Rattle.cl_model.specs.Classes.{same_class}
@@ -24,15 +25,15 @@ Puts old class place new =
     → lookup (same_class c) new
     ≡ (if same_class class c then Some place else lookup (same_class c) old)
 
--- where the row of each class stands, from a place on
-pub record ArePlaces (rows : List Rowed) (from : ℕ) (entries : List (Class × ℕ)) : Type 0 where
-  pub rows_are : (c : Class) → row_at rows (lookup (same_class c) entries) ≡ row_of (drop from rows) c
-  pub within : (c : Class) → IfSome (lookup (same_class c) entries) (HasRow rows)
-
 -- this place, if it is one, is of that row, if there is one
 pub record IsRowAt (rows : List Rowed) (row : Option Rowed) (place : Option ℕ) : Type 0 where
   pub row_is : row_at rows place ≡ row
   pub within : IfSome place (HasRow rows)
+
+-- where the row of each class stands, from a place on
+abbrev pub ArePlaces : List Rowed → ℕ → List (Class × ℕ) → Type 0
+ArePlaces rows from entries =
+    (c : Class) → IsRowAt rows (row_of (drop from rows) c) (lookup (same_class c) entries)
 
 -- a place in a list, if there is one
 abbrev pub place_in : List (Option ℕ) → ℕ → Option ℕ
@@ -45,7 +46,4 @@ pub record AreSupers (rows : List Rowed) (r : Rowed) (s : Supers) : Type 0 where
 
 -- those of each of these
 abbrev pub AreAllSupers : List Rowed → List Rowed → List Supers → Type 0
-AreAllSupers rows [] [] = Unit {0}
-AreAllSupers rows [] (s ∷ ss) = ⊥
-AreAllSupers rows (r ∷ rs) [] = ⊥
-AreAllSupers rows (r ∷ rs) (s ∷ ss) = AreSupers rows r s × AreAllSupers rows rs ss
+AreAllSupers rows rs ss = AllZip (AreSupers rows) rs ss

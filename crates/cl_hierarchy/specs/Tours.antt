@@ -1,6 +1,6 @@
 -- Tours through all that stands above a class, and what of one is left
 -- (JVMS SE 8, 5.3.5, 5.4.3.2, 5.4.3.3).
-use Rattle.std.specs.Prelude.{ℕ, ◌+◌, ◌*◌, Bool, true, false, if◌then◌else◌, List, [], ◌∷◌, ◌++◌, Option, Some, None, drop, map, slice_get, option_and_then}
+use Rattle.std.specs.Prelude.{ℕ, ◌+◌, ◌*◌, Bool, true, false, if◌then◌else◌, List, [], ◌∷◌, ◌++◌, Option, Some, None, drop, flat_map, map, slice_get, option_and_then}
 use Rattle.cl_model.specs.declared.class.Class.{Class}
 use Rattle.cl_model.specs.Classes.{is_among}
 use Rattle.cl_model.specs.Lineages.{Forest, Bare, Tree, Kin, alone}
@@ -71,8 +71,7 @@ tells o (Leaves k) = if tells_after o then k ∷ [] else []
 
 -- what is told at these
 abbrev pub told_at : Order → List Stop → List Kin
-told_at o [] = []
-told_at o (s ∷ ss) = tells o s ++ told_at o ss
+told_at o ss = flat_map (tells o) ss
 
 -- ---- what is left to do
 

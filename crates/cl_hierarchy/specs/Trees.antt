@@ -12,6 +12,7 @@ use Rattle.std.specs.Prelude.{
   None,
   drop,
   find,
+  fold,
   is_some,
   length,
 }
@@ -60,8 +61,7 @@ kin_under known r = record {
 
 -- the classes of these rows, the last first, each under those before it
 abbrev pub kins_after : List Kin → List Rowed → List Kin
-kins_after known [] = known
-kins_after known (r ∷ rs) = kins_after (kin_under known r ∷ known) rs
+kins_after known rows = fold (λ ks r. kin_under ks r ∷ ks) known rows
 
 -- the classes of rows, the last first
 abbrev pub kins : List Rowed → List Kin

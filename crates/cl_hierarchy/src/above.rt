@@ -3,9 +3,10 @@
 ghost use Rattle.std.specs.Prelude.{◌≡◌, ◌<◌, length, map, IfSome};
 ghost use Rattle.std.specs.Option.{option_map};
 ghost use Rattle.cl_model.specs.Classes.{class, same_class};
-ghost use Rattle.cl_model.specs.Lineages.{first, upward};
+ghost use Rattle.cl_model.specs.Lineages.{first};
+ghost use Rattle.cl_hierarchy.specs.Lineages.{above_in};
 ghost use Rattle.cl_hierarchy.specs.Places.{IsPlace};
-ghost use Rattle.cl_hierarchy.specs.Trees.{forest, kin_named, kin_under, kins, superclass_in};
+ghost use Rattle.cl_hierarchy.specs.Trees.{kin_named, kin_under, kins};
 
 use crate::row::ClassRow;
 use cl_model::{Class, LoaderId, Told};
@@ -47,8 +48,7 @@ pub(crate) fn superclass_row<'a, T: Told>(
     under: &ClassRow<T>,
 ) -> Option<(&'a Arc<ClassRow<T>>, &'a [Arc<ClassRow<T>>])>
     ensures kin { option_map (λ p. kin_under (kins (map (λ r. r.value) p.1.now)) p.0.now.value)
-        result
-        ≡ first (upward (forest (kins (map (λ r. r.value) rows.now)) (superclass_in under.now))) }
+        result ≡ first (above_in (map (λ r. r.value) rows.now) under.now) }
     ensures place { IfSome result (λ p. IsPlace (map (λ r. r.value) rows.now)
         (map (λ r. r.value) p.1.now) p.0.now.value) }
     ensures shorter { IfSome result (λ p. length p.1.now < length rows.now) }

@@ -3,6 +3,7 @@
 ghost use Rattle.std.specs.Prelude.{◌≡◌};
 ghost use Rattle.cl_classfile.specs.Files.{file_of};
 ghost use Rattle.cl_model.specs.Classes.{class_accessible, same_class, same_package};
+ghost use Rattle.cl_hierarchy.specs.Rows.{row_accessible};
 
 use crate::row::ClassRow;
 use cl_classfile::ClassFile;
@@ -33,7 +34,7 @@ pub(crate) fn is_accessible(file: &ClassFile, class: &Class, from: &Class) -> bo
 /// Whether a class is accessible to another: it is public, or of the other's run-time package (JVMS SE 8, 5.4.4).
 /// Takes no memory.
 pub fn class_accessible<T: Told>(row: &ClassRow<T>, from: &Class) -> bool
-    ensures { result ≡ class_accessible (file_of row.now.file).flags row.now.class from.now }
+    ensures { result ≡ row_accessible row.now from.now }
 {
     is_accessible(row.file(), row.class(), from)
 }

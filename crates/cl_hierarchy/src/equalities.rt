@@ -1,9 +1,8 @@
 //! Lists of loading constraints (JVMS SE 8, 5.3.4, 5.4.2, 5.4.3).
 
-ghost use Rattle.std.specs.Prelude.{◌≡◌, if◌then◌else◌, nat_le};
+ghost use Rattle.std.specs.Prelude.{◌≡◌};
 ghost use Rattle.cl_model.specs.Preparation.{constraints_of};
-ghost use Rattle.cl_model.specs.States.{Equal};
-ghost use Rattle.cl_hierarchy.specs.Imposed.{AreEnough, AreOf, AreOfReference, OfPreparation, OfReference, equal_need, needs_of, sprung};
+ghost use Rattle.cl_hierarchy.specs.Imposed.{AreEnough, AreOf, AreOfReference, OfPreparation, OfReference, equal_between, equal_need, needs_of, sprung};
 ghost use Rattle.cl_hierarchy.specs.Lineages.{kin_of};
 
 use crate::lineage::Lineage;
@@ -13,8 +12,7 @@ use std::marker::Model;
 
 /// That two loaders have the same class of a name, the lesser loader first (JVMS SE 8, 5.3.4).
 pub fn equality(name: Name, one: LoaderId, other: LoaderId) -> Equality
-    ensures { equal_need result ≡ (if nat_le one other then Equal name one other else Equal name
-        other one) }
+    ensures { equal_need result ≡ equal_between name one other }
 {
     if one.0 <= other.0 {
         Equality { name, one, other }

@@ -3,8 +3,8 @@
 ghost use Rattle.std.specs.Prelude.{◌≡◌, ◌<◌, ◌≤◌, ◌+◌, ◌-◌, ℕ, [], None, Some, List, is_some, length, map, slice_get, take, true, IfOk, IfSome, OnOk};
 ghost use Rattle.std.specs.Option.{option_map};
 ghost use Rattle.cl_hierarchy.specs.Above.{AreOvers};
-ghost use Rattle.cl_hierarchy.specs.Ladders.{AreOthers, HasRung, IsFar, IsFilled, IsLadder, IsMadeOf, IsNextUp, IsPassed, IsPushed, IsRung, IsRungAt, IsRungOf, IsUp, IsWay, LeadUp, above_in, begins};
-ghost use Rattle.cl_hierarchy.specs.Lineages.{IsLined};
+ghost use Rattle.cl_hierarchy.specs.Ladders.{AreOthers, HasRung, IsFilled, IsLadder, IsMadeOf, IsNearest, IsNextUp, IsPassed, IsPushed, IsRung, IsRungAt, IsRungOf, IsWay, LeadUp, begins};
+ghost use Rattle.cl_hierarchy.specs.Lineages.{IsLined, above_in};
 ghost use Rattle.cl_hierarchy.specs.Rows.{Rowed};
 ghost use Rattle.cl_model.specs.Lineages.{Kin};
 
@@ -112,9 +112,9 @@ impl<T: Told> Ladder<T> {
     /// Where the nearest superclass of another loader than this stands, where the superclass stands at a place, if there is
     /// one.
     fn far_from(&self, own: LoaderId, up: Option<usize>) -> Option<usize>
-        ensures { (ks : List Kin) (bound : ℕ) → IsUp self.now.rows ks up
+        ensures { (ks : List Kin) (bound : ℕ) → IsNearest self.now.rows None ks up
             → HasRung self.now.marks bound up
-            → IsFar self.now.rows (Some own) ks result × HasRung self.now.marks bound result }
+            → IsNearest self.now.rows (Some own) ks result × HasRung self.now.marks bound result }
     {
         let place = up?;
         let row = self.rows().get(place)?;
@@ -128,7 +128,7 @@ impl<T: Told> Ladder<T> {
     fn up_by(&self, is_over: bool, next: Option<usize>) -> Option<usize>
         ensures { (ks : List Kin) (bound : ℕ) → IsNextUp self.now.rows is_over ks next
             → HasRung self.now.marks bound next
-            → IsUp self.now.rows ks result × HasRung self.now.marks bound result }
+            → IsNearest self.now.rows None ks result × HasRung self.now.marks bound result }
     {
         if !is_over {
             return next;
@@ -259,7 +259,7 @@ impl<T: Told> Ladder<T> {
     fn next_above(&self, own: Option<LoaderId>, place: usize) -> Option<usize>
         ensures nearest { (r : Rowed) (bound : ℕ) → slice_get self.now.rows place ≡ Some r
             → HasRung self.now.marks bound (Some place)
-            → IsFar self.now.rows own (above_in self.now.rows r) result
+            → IsNearest self.now.rows own (above_in self.now.rows r) result
             × HasRung self.now.marks place result }
         ensures kept { IsLadder T.told self.now }
     {

@@ -1,6 +1,6 @@
 //! Lineages: a class with all that stands above it, and what is asked of them (JVMS SE 8, 5.3.5, 5.4.4).
 
-ghost use Rattle.std.specs.Prelude.{◌≡◌, ℕ, Some, filter, is_some, map, take, true, IfOk, IfSome};
+ghost use Rattle.std.specs.Prelude.{◌≡◌, ℕ, Some, is_some, map, take, true, IfOk, IfSome};
 ghost use Rattle.std.specs.List.{AllByRecursion};
 ghost use Rattle.std.specs.Option.{option_map};
 ghost use Rattle.cl_model.specs.Lineages.{alone, first, is_subclass, once, superclasses, superinterfaces};
@@ -8,9 +8,9 @@ ghost use Rattle.cl_hierarchy.specs.Above.{AreOvers, IsUnmixed};
 ghost use Rattle.cl_hierarchy.specs.Fronts.{IsFront, IsOnStem};
 ghost use Rattle.cl_hierarchy.specs.Ladders.{HasRung, IsLadder};
 ghost use Rattle.cl_hierarchy.specs.Parts.{IsCut};
-ghost use Rattle.cl_hierarchy.specs.Lineages.{IsLined, IsRowIn, field_order, is_of_other, kin_at, kin_of, reaches, rows_in};
+ghost use Rattle.cl_hierarchy.specs.Lineages.{IsLined, IsRowIn, field_order, kin_at, kin_of, others_of, rows_in};
 ghost use Rattle.cl_hierarchy.specs.Tours.{stops, told_at};
-ghost use Rattle.cl_hierarchy.specs.Trees.{kins, superclass_in};
+ghost use Rattle.cl_hierarchy.specs.Trees.{kin_under, kins};
 
 use crate::above::superclass_row;
 use crate::access::is_same;
@@ -66,8 +66,8 @@ fn is_above<'a, T: Told>(
     under: &'a Arc<ClassRow<T>>,
     of: &Class,
 ) -> bool
-    ensures { result ≡ reaches (kins (map (λ r. r.value) rows.now))
-        (superclass_in under.entry.now.value) of.now }
+    ensures { result ≡ is_subclass (kin_under (kins (map (λ r. r.value) rows.now))
+        under.entry.now.value) of.now }
 {
     let mut rest = rows;
     let mut last = under;
@@ -271,8 +271,7 @@ impl<T: Told> Lineage<T> {
         alloc: Global,
     ) -> Result<Vec<&Arc<ClassRow<T>>>, AllocError>
         ensures superclasses { IfOk result (λ v. map (λ r. kin_at self.now r.now.value) v.items
-            ≡ filter (λ k. is_of_other self.now.own.class.loader k.class)
-            (superclasses (kin_of self.now))) }
+            ≡ others_of (Some self.now.own.class.loader) (superclasses (kin_of self.now))) }
         ensures rows { IfOk result (λ v. AllByRecursion
             (λ r. IsRowIn (rows_in self.now) r.now.value) v.items) }
     {

@@ -2,8 +2,9 @@
 
 ghost use Rattle.std.specs.Prelude.{◌≡◌, ◌<◌, ◌-◌, List, None, Some, length, map, slice_get, IfOk, IfSome, OnOk};
 ghost use Rattle.cl_config.specs.Views.{Configured};
+ghost use Rattle.cl_hierarchy.specs.Fronts.{IsLineageIn};
 ghost use Rattle.cl_hierarchy.specs.Ladders.{HasRung, IsLadder};
-ghost use Rattle.cl_hierarchy.specs.Parts.{AreParts, AreRowsOfLineage, EndsAt, IsCut, IsLineageIn, IsPartOf};
+ghost use Rattle.cl_hierarchy.specs.Parts.{AreParts, AreRowsOfLineage, EndsAt, IsCut, IsPartOf};
 ghost use Rattle.cl_hierarchy.specs.Rows.{Rowed};
 ghost use Rattle.cl_hierarchy.specs.Supers.{AreAllSupers};
 

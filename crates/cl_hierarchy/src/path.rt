@@ -4,12 +4,12 @@ ghost use Rattle.std.specs.Prelude.{◌≡◌, ◌≢◌, ◌==◌, ◌<◌, ◌
 ghost use Rattle.std.specs.Option.{option_map};
 ghost use Rattle.indexmap.specs.IndexMap.{get, spare};
 ghost use Rattle.cl_classfile.specs.Files.{file_of};
-ghost use Rattle.cl_model.specs.Classes.{class, same_class};
+ghost use Rattle.cl_model.specs.Classes.{same_class};
 ghost use Rattle.cl_model.specs.Frames.{wanted};
 ghost use Rattle.cl_model.specs.Views.{error_of};
 ghost use Rattle.cl_hierarchy.specs.Frames.{frame_of};
 ghost use Rattle.cl_hierarchy.specs.Kept.{LastAccepts, last_wants};
-ghost use Rattle.cl_hierarchy.specs.Paths.{Accepts, Completes, IsPath, at_loader, at_name, fresh, name_of, is_on, misfit_under, with_frame};
+ghost use Rattle.cl_hierarchy.specs.Paths.{Accepts, Completes, IsPath, Stands, at_loader, at_name, fresh, name_of, is_on, misfit_under, sought_class, with_frame};
 
 use crate::draft::Draft;
 use crate::fit::misfit;
@@ -178,10 +178,8 @@ impl<T: Told> Path<T> {
 
     /// The class that is looked for is being derived from now on, and its first supertype is looked for.
     pub fn push(&mut self, draft: Draft<T>) -> Result<(), Draft<T>>
-        requires config { draft.home.config ≡ self.old.config }
-        requires asked { draft.home.asked ≡ at_loader self.old }
-        requires name { draft.class.name ≡ at_name self.old }
-        requires waits { IsSome (wanted (frame_of (fresh draft))) }
+        requires stands { Stands self.old.config (at_loader self.old) (at_name self.old)
+            (fresh draft) }
         requires absent { is_on self.old draft.class ≡ false }
         ensures pushed { OnOk result (self.new ≡ with_frame self.old (fresh draft)) }
         ensures unchanged { IfErr result (λ d. (self.new ≡ self.old) × (d ≡ draft)) }
@@ -241,7 +239,7 @@ impl<T: Told> Path<T> {
 
     /// What is looked for, as a class of the loader that is asked.
     pub fn into_class(self) -> Class
-        ensures { result ≡ class (at_name self) (at_loader self) }
+        ensures { result ≡ sought_class self }
     {
         let loader = self.at_loader();
         let Path {

@@ -5,13 +5,13 @@ ghost use Rattle.std.specs.Prelude.{◌≡◌, ◌<◌, ◌++◌, ◌∷◌, [],
 ghost use Rattle.std.specs.Option.{option_map};
 ghost use Rattle.cl_config.specs.Views.{Configured};
 ghost use Rattle.cl_hierarchy.specs.Ladders.{LeadUp, begins};
-ghost use Rattle.cl_hierarchy.specs.Lineages.{IsLined};
+ghost use Rattle.cl_hierarchy.specs.Lineages.{IsLined, above_in};
 ghost use Rattle.cl_hierarchy.specs.Rows.{Rowed};
-ghost use Rattle.cl_hierarchy.specs.Trees.{forest, interface_places, interfaces_in, kins, superclass_in};
+ghost use Rattle.cl_hierarchy.specs.Trees.{interfaces_in, superclass_in};
 ghost use Rattle.cl_hierarchy.specs.Ways.{IsFirstOver, IsNext};
 ghost use Rattle.cl_model.specs.Classes.{class, is_among};
 ghost use Rattle.cl_model.specs.declared.class.Class.{Class};
-ghost use Rattle.cl_model.specs.Lineages.{first, upward};
+ghost use Rattle.cl_model.specs.Lineages.{first};
 
 use crate::above::{is_of, superclass_row};
 use crate::row::ClassRow;
@@ -105,8 +105,7 @@ fn next_up<'a, T: Told>(
     ensures next { IfSome result (λ p. IsNext (map (λ r. r.value) rows.now) under.now p.0
         (map (λ r. r.value) p.2.now) p.1.now.value) }
     ensures shorter { IfSome result (λ p. length p.2.now < length rows.now) }
-    ensures none { result ≡ None → None ≡ first (upward (forest (kins (map (λ r. r.value)
-        rows.now)) (superclass_in under.now))) }
+    ensures none { result ≡ None → None ≡ first (above_in (map (λ r. r.value) rows.now) under.now) }
     ensures nearest { (earlier : List Rowed) (r : Rowed) → map (λ r. r.value) rows.now ≡ earlier
         ++ r ∷ [] → superclass_in under.now ≡ r.class ∷ []
         → option_map (λ p. length p.2.now) result ≡ Some (length earlier) }

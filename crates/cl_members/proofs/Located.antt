@@ -1,17 +1,18 @@
 -- What looking a member up answers, from where the lookup came to.
-use Rattle.std.proofs.Common.{◌≡◌, ℕ, true, false, nat_le, if◌then◌else◌, List, [], map, Option, Some, None, is_some, refl, sym, ap, subst, ◌∙◌}
+use Rattle.std.proofs.Common.{◌≡◌, ℕ, true, false, List, [], map, Option, Some, None, is_some, refl, sym, ap, subst, ◌∙◌}
 use Rattle.std.specs.Prelude.{Ok, Err, find, option_map, option_and_then}
+use Rattle.cl_classfile.specs.Structure.{Structure}
 use Rattle.cl_classfile.specs.Files.{Key, Symbol, Reference, ToField, ToMethod, ToInterfaceMethod, reference, file_of, field_key, method_key, is_interface}
 use Rattle.cl_model.specs.declared.class.Class.{Class}
 use Rattle.cl_model.specs.Classes.{IllegalAccess}
 use Rattle.cl_model.specs.Keys.{key_of}
 use Rattle.cl_model.specs.Lineages.{member_accessible, lookup_field, lookup_method, lookup_interface_method}
 use Rattle.cl_model.specs.Preparation.{class_names, equals_of}
-use Rattle.cl_model.specs.States.{Need, Equal}
+use Rattle.cl_model.specs.States.{Need}
 use Rattle.cl_model.specs.Works.{fail}
 use Rattle.cl_hierarchy.specs.Rows.{Rowed}
 use Rattle.cl_hierarchy.specs.Lineages.{Lined, IsInOrder, IsRowIn, field_order, kin_at, kin_of, rows_in}
-use Rattle.cl_hierarchy.specs.Imposed.{AreOfReference}
+use Rattle.cl_hierarchy.specs.Imposed.{AreOfReference, equal_between}
 use Rattle.cl_members.specs.declared.fault.LookupFault.{LookupFault}
 use Rattle.cl_members.specs.declared.fault.LookupFault.TheVariants as faults
 use Rattle.cl_members.specs.Asking.{AsksField, AsksMethod, AsksInterfaceMethod, LooksUp, IsDeniedIn, IsFoundAs, IsLocated, Located, Reaches, asked_key, key_at, verdict_of}
@@ -103,15 +104,21 @@ are_of f is needs e = record {
   needs_are = e;
 }
 
-abbrev equal_of : ℕ → ℕ → List ℕ → Need
-equal_of one other n = if nat_le one other then Equal n one other else Equal n other one
-
 -- the equalities that the code made are those of the member
-pub imposed_by : (f : Located) → IsLocated f → (names : List (List ℕ)) → option_map (λ k. class_names k.descriptor) (key_at (kin_of f.d).file f.index) ≡ Some names → (one other : ℕ) → one ≡ f.owner.class.loader
-    → other ≡ (kin_of f.d).class.loader → (needs : List Need) → needs ≡ map (equal_of one other) names → needs ≡ equals_of f.key f.owner.class.loader (kin_of f.d).class.loader
+imposed_by : (f : Located) → IsLocated f → (names : List (List ℕ)) → option_map (λ k. class_names k.descriptor) (key_at (kin_of f.d).file f.index) ≡ Some names → (one other : ℕ) → one ≡ f.owner.class.loader
+    → other ≡ (kin_of f.d).class.loader → (needs : List Need) → needs ≡ map (λ (n : List ℕ). equal_between n one other) names → needs ≡ equals_of f.key f.owner.class.loader (kin_of f.d).class.loader
 imposed_by f is names told one other p q needs e =
-    e ∙ ap (λ (n : ℕ). map (equal_of n other) names) p ∙ ap (λ (n : ℕ). map (equal_of f.owner.class.loader n) names) q
-    ∙ ap (map (equal_of f.owner.class.loader (kin_of f.d).class.loader)) (names_told (key_at (kin_of f.d).file f.index) f.key names (asks_key f is) told)
+    e ∙ ap (λ (l : ℕ). map (λ (n : List ℕ). equal_between n l other) names) p ∙ ap (λ (l : ℕ). map (λ (n : List ℕ). equal_between n f.owner.class.loader l) names) q
+    ∙ ap (map (λ (n : List ℕ). equal_between n f.owner.class.loader (kin_of f.d).class.loader)) (names_told (key_at (kin_of f.d).file f.index) f.key names (asks_key f is) told)
+
+-- the same of what lies behind them in memory
+pub imposed_in : (f : Located) → IsLocated f → (file : Structure) (i : ℕ) (names : List (List ℕ)) (one other : Class) (needs : List Need) → file ≡ f.d.own.file → i ≡ f.index → option_map (λ k. class_names k.descriptor) (key_at (file_of file) i) ≡ Some names
+    → one ≡ f.owner.class → other ≡ (kin_of f.d).class → needs ≡ map (λ (n : List ℕ). equal_between n one.loader other.loader) names → needs ≡ equals_of f.key f.owner.class.loader (kin_of f.d).class.loader
+imposed_in f is file i names one other needs at here told owner from e =
+    imposed_by f is names
+    (ap (λ (x : Structure). option_map (λ (k : Key). class_names k.descriptor) (key_at (file_of x) f.index)) (sym at)
+    ∙ ap (λ (n : ℕ). option_map (λ (k : Key). class_names k.descriptor) (key_at (file_of file) n)) (sym here) ∙ told)
+    one.loader other.loader (ap (λ (c : Class). c.loader) owner) (ap (λ (c : Class). c.loader) from) needs e
 
 pub are_of_copy : (d e c f : Lined) (i j : ℕ) (needs : List Need) → d ≡ e → c ≡ f → i ≡ j → AreOfReference (kin_of d) (kin_of c) i needs → AreOfReference (kin_of e) (kin_of f) j needs
 are_of_copy d e c f i j needs p q r are =

@@ -18,6 +18,7 @@ use Rattle.cl_classfile.specs.Files.{
   File,
   Key,
   Member,
+  Name,
   Symbol,
   Reference,
   ToClass,
@@ -34,11 +35,9 @@ use Rattle.cl_model.specs.Classes.{
   IllegalAccess,
 }
 use Rattle.cl_model.specs.Keys.{key_of, descriptor_of}
-use Rattle.cl_model.specs.Frames.{class_named}
 use Rattle.cl_model.specs.Lineages.{Kin, field_of, method_of}
-use Rattle.cl_model.specs.Plans.{member_target, resolve_found}
+use Rattle.cl_model.specs.Plans.{member_target, resolve_found, class_named, resolve_in}
 use Rattle.cl_model.specs.Preparation.{equals_of}
-use Rattle.cl_model.specs.References.{resolve_in}
 use Rattle.cl_model.specs.States.{Verdict, IsField, IsMethod, BadEntry}
 use Rattle.cl_model.specs.Works.{fail}
 use Rattle.cl_hierarchy.specs.Rows.{Rowed}
@@ -47,13 +46,17 @@ use Rattle.cl_members.specs.Endings.{ending_after}
 use Rattle.cl_members.specs.declared.fault.LookupFault.{LookupFault}
 use Rattle.cl_members.specs.declared.fault.LookupFault.TheVariants as faults
 
--- the entry of d's pool at an index asks for a member of this kind of the class c
--- (5.4.3.2 to 5.4.3.4)
-pub record Asks (kind : FieldType → Key → Reference) (d c : Lined) (index : ℕ) : Type 0 where
+-- an entry refers to a member of this kind of the class of a name (5.4.3.2 to 5.4.3.4)
+pub record IsMemberOf (kind : FieldType → Key → Reference) (entry : Option Reference) (name : Name)
+    : Type 0 where
   pub target : FieldType
   pub key : Key
-  pub refers : reference (kin_of d).file index ≡ Some (kind target key)
-  pub named : member_target target ≡ Some (kin_of c).class.name
+  pub refers : entry ≡ Some (kind target key)
+  pub named : member_target target ≡ Some name
+
+-- the entry of d's pool at an index asks for such a member of the class c (5.4.3.2 to 5.4.3.4)
+abbrev pub Asks : (FieldType → Key → Reference) → Lined → Lined → ℕ → Type 0
+Asks kind d c index = IsMemberOf kind (reference (kin_of d).file index) (kin_of c).class.name
 
 -- for a field (5.4.3.2)
 abbrev pub AsksField : Lined → Lined → ℕ → Type 0

@@ -1,14 +1,13 @@
 //! The classes that a member's descriptor names, and what two loaders have to agree on (JVMS SE 8, 4.3, 5.3.4).
 
-ghost use Rattle.std.specs.Prelude.{◌≡◌, Some, IfOk, IsSome, map, option_to_list, nat_le, if◌then◌else◌};
+ghost use Rattle.std.specs.Prelude.{◌≡◌, Some, IfOk, IsSome, map, option_to_list};
 ghost use Rattle.std.specs.Option.{option_map};
 ghost use Rattle.cl_descriptors.specs.Types.{class_of, classes_of};
 ghost use Rattle.cl_descriptors.specs.Reading.{whole_field, whole_method};
-ghost use Rattle.cl_classfile.specs.Pool.{IsField, IsCall};
+ghost use Rattle.cl_descriptors.specs.Answers.{IsFieldDescriptor, IsMethodDescriptor};
 ghost use Rattle.cl_classfile.specs.Files.{file_of};
 ghost use Rattle.cl_model.specs.Preparation.{class_names};
-ghost use Rattle.cl_model.specs.States.{Equal};
-ghost use Rattle.cl_hierarchy.specs.Imposed.{needs_of};
+ghost use Rattle.cl_hierarchy.specs.Imposed.{equal_between, needs_of};
 ghost use Rattle.cl_members.specs.Asking.{key_at};
 
 use cl_classfile::{ClassFile, Reference};
@@ -32,7 +31,7 @@ fn list_of(alloc: Global, name: Option<&Name>) -> Result<Vec<Name>, AllocError>
 /// The class that the descriptor of a field names, if it names one; of an array, that of its elements.
 #[tactic(auto, using(crate::proofs::Keyed::field_classes))]
 fn field_names(alloc: Global, descriptor: &Name) -> Result<Vec<Name>, AllocError>
-    requires { IsField descriptor.now }
+    requires { IsFieldDescriptor descriptor.now }
     ensures { IfOk result (λ v. option_map (λ t. option_to_list (class_of t))
         (whole_field descriptor.now) ≡ Some v.items) }
 {
@@ -59,7 +58,7 @@ fn call_names(alloc: Global, m: &MethodType) -> Result<Vec<Name>, AllocError>
 /// The classes that the descriptor of a method names: that of the return type, and then those of the parameters.
 #[tactic(auto, using(crate::proofs::Keyed::method_classes))]
 fn method_names(alloc: Global, descriptor: &Name) -> Result<Vec<Name>, AllocError>
-    requires { IsCall descriptor.now }
+    requires { IsMethodDescriptor descriptor.now }
     ensures { IfOk result (λ v. option_map classes_of (whole_method descriptor.now)
         ≡ Some v.items) }
 {
@@ -94,8 +93,8 @@ pub fn equals(
     one: LoaderId,
     other: LoaderId,
 ) -> Result<Vec<Equality>, AllocError>
-    ensures { IfOk result (λ v. needs_of v.items ≡ map (λ n. if nat_le one other then Equal n one
-        other else Equal n other one) names.items) }
+    ensures { IfOk result (λ v. needs_of v.items ≡ map (λ n. equal_between n one other)
+        names.items) }
 {
     let mut needs = Vec::with_capacity(alloc, names.len())?;
     for name in names {

@@ -86,24 +86,36 @@ pub opens_named : (o : Option Key) (part wide : Key → Bool) (same : Bool) → 
 opens_named None part wide same = refl
 opens_named (Some key) part wide same = refl
 
-any_bare : (key : Key) (l : Lined) (above : Rowed) (rs : List Rowed) → list_any (λ b. opens_to key (bare above) (bare b)) rs ≡ list_any (opens_to key (kin_at l above)) (map (kin_at l) rs)
-any_bare key l above rs = sym (any_map (opens_to key (kin_at l above)) (kin_at l) rs)
-
--- the whole test, for one key
-pub overrides_asked : (o : Option Key) (l : Lined) (above : Rowed) (between : List Rowed) →
-    ((asked o (λ key. takes_part key (bare l.own)) && asked o (λ key. takes_part key (bare above)))
-    && ((asked o (λ key. is_open key (bare above)) || same_package above.class l.own.class) || list_any (λ b. asked o (λ key. opens_to key (bare above) (bare b))) between))
-    ≡ asked o (λ key. overrides key (kin_of l) (map (kin_at l) between) (kin_at l above))
-overrides_asked None l above between = refl
-overrides_asked (Some key) l above between =
-    ap (λ (x : Bool). (takes_part key (kin_of l) && takes_part key (kin_at l above)) && x)
-    (regroup (is_open key (kin_at l above)) (same_package above.class l.own.class) (list_any (λ b. opens_to key (bare above) (bare b)) between)
-    ∙ ap (λ (x : Bool). is_open key (kin_at l above) || (same_package above.class l.own.class || x)) (any_bare key l above between))
-    ∙ sym (overrides_is_by_package key (kin_of l) (map (kin_at l) between) (kin_at l above))
+-- the whole test, one look at the key after another
+pub told_apart : (o : Option Key) (own above : Rowed) (between : List Rowed) →
+    ((asked o (λ key. takes_part key (bare own)) && asked o (λ key. takes_part key (bare above)))
+    && ((asked o (λ key. is_open key (bare above)) || same_package above.class own.class) || list_any (λ b. asked o (λ key. opens_to key (bare above) (bare b))) between))
+    ≡ told_by_rows o own above between
+told_apart None own above between = refl
+told_apart (Some key) own above between =
+    ap (λ (x : Bool). (takes_part key (bare own) && takes_part key (bare above)) && x)
+    (regroup (is_open key (bare above)) (same_package above.class own.class) (list_any (λ b. opens_to key (bare above) (bare b)) between)
+    ∙ ap (λ (x : Bool). is_open key (bare above) || (same_package above.class own.class || x)) (sym (any_map (opens_to key (bare above)) bare between)))
   where
     regroup : (a b c : Bool) → ((a || b) || c) ≡ (a || (b || c))
     regroup true b c = refl
     regroup false b c = refl
+
+-- only a class between is left to be looked at
+pub told_last : (o : Option Key) (own above : Rowed) (between : List Rowed) (part over wide same any : Bool) → part ≡ asked o (λ key. takes_part key (bare own)) → over ≡ asked o (λ key. takes_part key (bare above))
+    → wide ≡ asked o (λ key. is_open key (bare above)) → same ≡ same_package above.class own.class → any ≡ list_any (λ b. asked o (λ key. opens_to key (bare above) (bare b))) between
+    → part ≡ true → over ≡ true → wide ≡ false → same ≡ false → any ≡ told_by_rows o own above between
+told_last o own above between part over wide same any p q r s t pt qt rf sf =
+    sym (rw (pt, qt, rf, sf) refl) ∙ ap (λ (b : Bool). (b && over) && ((wide || same) || any)) p ∙ ap (λ (b : Bool). (asked o (λ key. takes_part key (bare own)) && b) && ((wide || same) || any)) q
+    ∙ rw (r, s, t) refl ∙ told_apart o own above between
+
+-- the rows tell what the tree does
+overrides_asked : (o : Option Key) (l : Lined) (above : Rowed) (between : List Rowed) → told_by_rows o l.own above between ≡ asked o (λ key. overrides key (kin_of l) (map (kin_at l) between) (kin_at l above))
+overrides_asked None l above between = refl
+overrides_asked (Some key) l above between =
+    ap (λ (x : Bool). (takes_part key (kin_of l) && takes_part key (kin_at l above)) && (is_open key (kin_at l above) || (same_package above.class l.own.class || x)))
+    (any_map (opens_to key (bare above)) bare between ∙ sym (any_map (opens_to key (kin_at l above)) (kin_at l) between))
+    ∙ sym (overrides_is_by_package key (kin_of l) (map (kin_at l) between) (kin_at l above))
 
 -- ---- a place among the superclasses
 

@@ -10,7 +10,7 @@ use Rattle.cl_model.specs.Preparation.{constraints_of, equals_of, overridden, ta
 use Rattle.cl_model.specs.States.{Need}
 use Rattle.cl_hierarchy.specs.Imposed.{AreEnough}
 use Rattle.cl_hierarchy.specs.Rows.{Rowed}
-use Rattle.cl_hierarchy.specs.Lineages.{IsRowIn, Lined, is_of_other, kin_at, kin_of, row_of, rows_in}
+use Rattle.cl_hierarchy.specs.Lineages.{IsRowIn, Lined, is_of_other, kin_at, kin_of, others_of, row_of, rows_in}
 use Rattle.cl_hierarchy.specs.Trees.{kin_under, kins}
 use Rattle.cl_preparation.specs.Fewer.{equals_from, fewer_constraints_of, fewer_declared, fewer_inherited, fewer_second, is_new, loaders, loaders_over, other_than, others_after}
 use Rattle.cl_preparation.specs.Inherited.{away_from, first_loader, inherited_by_rows, second_by_rows}
@@ -69,16 +69,12 @@ listed_end test own listed total rows e = sym (append-nil listed) ∙ ap (λ (rs
 
 -- ---- the classes of other loaders
 
--- of these classes, those of another loader
-abbrev pub kins_from : ℕ → List Kin → List Kin
-kins_from own ks = filter (λ k. is_of_other own k.class) ks
-
 -- the loaders that are still to be listed, of classes of the tree
 abbrev still_of : (Kin → Bool) → ℕ → List ℕ → List Kin → List ℕ
 still_of test own listed ks = others_after own listed (loaders (filter test ks))
 
 away_step : (test : Kin → Bool) (own : ℕ) (listed : List ℕ) (k : Kin) (ks : List Kin) (same part new : Bool) → (own == k.class.loader) ≡ same → test k ≡ part → is_new own listed k.class.loader ≡ new
-    → ((before : List ℕ) → still_of test own before (kins_from own ks) ≡ still_of test own before ks) → still_of test own listed (kins_from own (k ∷ ks)) ≡ still_of test own listed (k ∷ ks)
+    → ((before : List ℕ) → still_of test own before (others_of (Some own) ks) ≡ still_of test own before ks) → still_of test own listed (others_of (Some own) (k ∷ ks)) ≡ still_of test own listed (k ∷ ks)
 away_step test own listed k ks true false new s tp e rest = rw s (rw tp (rest listed))
 away_step test own listed k ks true true new s tp e rest = rw s (rw tp (rw s (rest listed)))
 away_step test own listed k ks false false new s tp e rest = rw s (rw tp (rest listed))
@@ -86,7 +82,7 @@ away_step test own listed k ks false true true s tp e rest = rw s (rw tp (rw e (
 away_step test own listed k ks false true false s tp e rest = rw s (rw tp (rw e (rest listed)))
 
 -- those of the own loader list nothing
-away_enough : (test : Kin → Bool) (own : ℕ) (listed : List ℕ) (ks : List Kin) → still_of test own listed (kins_from own ks) ≡ still_of test own listed ks
+away_enough : (test : Kin → Bool) (own : ℕ) (listed : List ℕ) (ks : List Kin) → still_of test own listed (others_of (Some own) ks) ≡ still_of test own listed ks
 away_enough test own listed [] = refl
 away_enough test own listed (k ∷ ks) =
     away_step test own listed k ks (own == k.class.loader) (test k) (is_new own listed k.class.loader) refl refl refl (λ before. away_enough test own before ks)
@@ -113,22 +109,22 @@ others_all own P (r ∷ rs) h = at (others_all own P rs h.1) (is_of_other own r.
     at more true = (h.0, more)
     at more false = more
 
-others_kins : (own : ℕ) (known : List Kin) (rs : List Rowed) → map (kin_under known) (away_from own rs) ≡ filter (λ k. is_of_other own k.class) (map (kin_under known) rs)
+others_kins : (own : ℕ) (known : List Kin) (rs : List Rowed) → map (kin_under known) (away_from own rs) ≡ others_of (Some own) (map (kin_under known) rs)
 others_kins own known [] = refl
 others_kins own known (r ∷ rs) = at (others_kins own known rs) (is_of_other own r.class)
   where
-    at : map (kin_under known) (away_from own rs) ≡ filter (λ k. is_of_other own k.class) (map (kin_under known) rs) → (b : Bool)
+    at : map (kin_under known) (away_from own rs) ≡ others_of (Some own) (map (kin_under known) rs) → (b : Bool)
         → map (kin_under known) (if b then r ∷ away_from own rs else away_from own rs)
-        ≡ (if b then kin_under known r ∷ filter (λ k. is_of_other own k.class) (map (kin_under known) rs) else filter (λ k. is_of_other own k.class) (map (kin_under known) rs))
+        ≡ (if b then kin_under known r ∷ others_of (Some own) (map (kin_under known) rs) else others_of (Some own) (map (kin_under known) rs))
     at more true = ap (λ (ks : List Kin). kin_under known r ∷ ks) more
     at more false = more
 
 -- those of another loader are the same, however they were found
-pub away_rows : (l : Lined) (away above : List Rowed) → map (kin_at l) away ≡ kins_from l.own.class.loader (superclasses (kin_of l)) → AllByRecursion (IsRowIn (rows_in l)) away → map (kin_at l) above ≡ superclasses (kin_of l)
+pub away_rows : (l : Lined) (away above : List Rowed) → map (kin_at l) away ≡ others_of (Some l.own.class.loader) (superclasses (kin_of l)) → AllByRecursion (IsRowIn (rows_in l)) away → map (kin_at l) above ≡ superclasses (kin_of l)
     → AllByRecursion (IsRowIn (rows_in l)) above → away ≡ away_from l.own.class.loader above
 away_rows l away above are in_away all in_above =
     let own : ℕ = l.own.class.loader in
-    rows_same l away (away_from own above) in_away (others_all own (IsRowIn (rows_in l)) above in_above) (are ∙ ap (kins_from own) (sym all) ∙ sym (others_kins own (kins l.above) above))
+    rows_same l away (away_from own above) in_away (others_all own (IsRowIn (rows_in l)) above in_above) (are ∙ ap (others_of (Some own)) (sym all) ∙ sym (others_kins own (kins l.above) above))
 
 -- ---- rows and the tree
 
@@ -146,7 +142,7 @@ counted_bare only_open key l (r ∷ rs) =
 own_known : (own : ℕ) → is_new own [] own ≡ false
 own_known own = rw (eq-eqb own own refl) refl
 
-up_near : (key : Key) (l : Lined) (away : List Rowed) (b : Bool) → takes_part key (kin_of l) ≡ true → map (kin_at l) away ≡ kins_from l.own.class.loader (superclasses (kin_of l))
+up_near : (key : Key) (l : Lined) (away : List Rowed) (b : Bool) → takes_part key (kin_of l) ≡ true → map (kin_at l) away ≡ others_of (Some l.own.class.loader) (superclasses (kin_of l))
     → others_after l.own.class.loader [] (if b then [] else loaders (filter (opens key) (map bare away))) ≡ others_after l.own.class.loader [] (loaders (if b then [] else overridden key (kin_of l)))
 up_near key l away true tp are = refl
 up_near key l away false tp are =

@@ -18,7 +18,7 @@ use Rattle.cl_model.proofs.Derived.{all_both}
 use Rattle.cl_model.proofs.Progress.{once_kept}
 use Rattle.cl_hierarchy.specs.Above.{IsUnmixed}
 use Rattle.cl_hierarchy.specs.Frames.{accepted_of}
-use Rattle.cl_hierarchy.specs.Lineages.{IsRowIn, Lined, kin_at, kin_of, row_of, rows_in}
+use Rattle.cl_hierarchy.specs.Lineages.{IsRowIn, Lined, kin_at, kin_of, others_of, row_of, rows_in}
 use Rattle.cl_hierarchy.specs.Rows.{Rowed}
 use Rattle.cl_hierarchy.specs.Trees.{SupersBefore, forest, in_front, interface_places, interfaces_in, kin_named, kin_under, kins, kins_after, superclass_in}
 use Rattle.cl_hierarchy.proofs.Climbs.{placed_row, rows_more}
@@ -30,7 +30,7 @@ use Rattle.cl_preparation.specs.Quiet.{is_heard, is_silent, names_other}
 use Rattle.cl_preparation.specs.Relatives.{bare}
 use Rattle.cl_preparation.proofs.Constraints.{flat_same}
 use Rattle.cl_preparation.proofs.Reached.{any_map}
-use Rattle.cl_preparation.proofs.Nearby.{all_added, away_rows, inherited_here, inherits, kins_from, none_differs}
+use Rattle.cl_preparation.proofs.Nearby.{all_added, away_rows, inherited_here, inherits, none_differs}
 use Rattle.std.proofs.lemmas.Option.{same_Some}
 
 -- ---- tests
@@ -296,12 +296,12 @@ all_quiet l R own mine oe me first rest known each =
     near_alone l (all_over (IsOver l) (IsQuiet l) l (over_here l l.own (Contains-push l.above l.own) first_off) (fine_rows l R l.above (rows_there l) rest_off known each))
 
 -- where all superclasses that declare it are of one loader, so is what is inherited
-first_mine : (own : ℕ) (p : Kin → Bool) (ks : List Kin) → AllByRecursion (λ (k : Kin). p k ≡ true → k.class.loader ≡ own) (kins_from own ks) → other_than own (option_map (λ (a : Kin). a.class.loader) (find p ks)) ≡ None
+first_mine : (own : ℕ) (p : Kin → Bool) (ks : List Kin) → AllByRecursion (λ (k : Kin). p k ≡ true → k.class.loader ≡ own) (others_of (Some own) ks) → other_than own (option_map (λ (a : Kin). a.class.loader) (find p ks)) ≡ None
 first_mine own p [] mine = refl
 first_mine own p (k ∷ ks) mine = by (own == k.class.loader) (p k) refl refl mine (first_mine own p ks)
   where
-    by : (same inst : Bool) → (own == k.class.loader) ≡ same → p k ≡ inst → AllByRecursion (λ (k : Kin). p k ≡ true → k.class.loader ≡ own) (if not same then k ∷ kins_from own ks else kins_from own ks)
-        → (AllByRecursion (λ (k : Kin). p k ≡ true → k.class.loader ≡ own) (kins_from own ks) → other_than own (option_map (λ (a : Kin). a.class.loader) (find p ks)) ≡ None)
+    by : (same inst : Bool) → (own == k.class.loader) ≡ same → p k ≡ inst → AllByRecursion (λ (k : Kin). p k ≡ true → k.class.loader ≡ own) (if not same then k ∷ others_of (Some own) ks else others_of (Some own) ks)
+        → (AllByRecursion (λ (k : Kin). p k ≡ true → k.class.loader ≡ own) (others_of (Some own) ks) → other_than own (option_map (λ (a : Kin). a.class.loader) (find p ks)) ≡ None)
         → other_than own (option_map (λ (a : Kin). a.class.loader) (if inst then Some k else find p ks)) ≡ None
     by true true e on all more = rw (eq-eqb k.class.loader own (sym (eqb-true own k.class.loader e))) refl
     by true false e off all more = more all
@@ -352,7 +352,7 @@ quiet_interface l own mine oe me first rest inter =
     all_quiet l (λ r. Unit {0}) own mine oe me first rest (all_any l.above) (λ r ks known over. record { own = over.own; none = λ off. absurd (let no : true ≡ false = sym inter ∙ off in cc) })
 
 -- a class, all of whose superinterfaces are of its loader, and whose superclasses of other loaders declare nothing that these declare: none, or such as are unmixed
-quiet_away : (l : Lined) (away : List Rowed) (own : ℕ) (mine : Rowed) → own ≡ l.own.class.loader → mine ≡ l.own → names_other own mine ≡ false → list_any (names_other own) l.above ≡ false → map (kin_at l) away ≡ kins_from l.own.class.loader (superclasses (kin_of l))
+quiet_away : (l : Lined) (away : List Rowed) (own : ℕ) (mine : Rowed) → own ≡ l.own.class.loader → mine ≡ l.own → names_other own mine ≡ false → list_any (names_other own) l.above ≡ false → map (kin_at l) away ≡ others_of (Some l.own.class.loader) (superclasses (kin_of l))
     → ((r : Rowed) (key : Key) → Contains (rows_in l) r → IsOver l r.class → is_offered key (kin_under [] r) ≡ true → AllByRecursion (λ (k : Kin). is_offered key k ≡ true → k.class.loader ≡ l.own.class.loader) (map (kin_at l) away)) → AddAll l []
 quiet_away l away own mine oe me first rest are each =
     all_quiet l (Contains (rows_in l)) own mine oe me first rest (rows_there l) (λ r ks within over. record {
@@ -366,7 +366,7 @@ quiet_away l away own mine oe me first rest are each =
 
 -- a class, all of whose superinterfaces and superclasses are of its loader
 pub quiet_home : (l : Lined) (away : List Rowed) (own : ℕ) (mine : Rowed) → own ≡ l.own.class.loader → mine ≡ l.own → names_other own mine ≡ false → list_any (names_other own) l.above ≡ false
-    → map (kin_at l) away ≡ kins_from l.own.class.loader (superclasses (kin_of l)) → away ≡ [] → AddAll l []
+    → map (kin_at l) away ≡ others_of (Some l.own.class.loader) (superclasses (kin_of l)) → away ≡ [] → AddAll l []
 quiet_home l away own mine oe me first rest are none =
     quiet_away l away own mine oe me first rest are
     (λ r key within over on. subst (λ (rs : List Rowed). AllByRecursion (λ (k : Kin). is_offered key k ≡ true → k.class.loader ≡ l.own.class.loader) (map (kin_at l) rs)) (sym none) tt)
@@ -388,13 +388,13 @@ unmixed_away l r key (a ∷ away) unmixed within over on known =
 
 -- a class, all of whose superinterfaces are of its loader, and none of whose rows are mixed
 pub quiet_unmixed : (l : Lined) (away : List Rowed) (own : ℕ) (mine : Rowed) → own ≡ l.own.class.loader → mine ≡ l.own → names_other own mine ≡ false → list_any (names_other own) l.above ≡ false
-    → map (kin_at l) away ≡ kins_from l.own.class.loader (superclasses (kin_of l)) → AllByRecursion (IsRowIn (rows_in l)) away → IsUnmixed (rows_in l) → AddAll l []
+    → map (kin_at l) away ≡ others_of (Some l.own.class.loader) (superclasses (kin_of l)) → AllByRecursion (IsRowIn (rows_in l)) away → IsUnmixed (rows_in l) → AddAll l []
 quiet_unmixed l away own mine oe me first rest are known unmixed =
     quiet_away l away own mine oe me first rest are (λ r key within over on. unmixed_away l r key away unmixed within over on known)
 
 -- a class, all of whose superinterfaces are of its loader, and over which all rows are silent
 pub quiet_class : {A : Type 0} (v : A → Rowed) (l : Lined) (xs ys near again : List A) (away : List Rowed) (own : ℕ) (mine : Rowed) → own ≡ l.own.class.loader → mine ≡ l.own → map v again ≡ l.above
-    → map (kin_at l) away ≡ kins_from l.own.class.loader (superclasses (kin_of l)) → AllByRecursion (IsRowIn (rows_in l)) away → map (λ r. kin_at l (v r)) xs ≡ superclasses (kin_of l) → AllByRecursion (λ r. IsRowIn (rows_in l) (v r)) xs
+    → map (kin_at l) away ≡ others_of (Some l.own.class.loader) (superclasses (kin_of l)) → AllByRecursion (IsRowIn (rows_in l)) away → map (λ r. kin_at l (v r)) xs ≡ superclasses (kin_of l) → AllByRecursion (λ r. IsRowIn (rows_in l) (v r)) xs
     → SupersBefore [] l.above → names_other own mine ≡ false → list_any (names_other own) l.above ≡ false → ys ≡ xs → take (length near) ys ≡ near → AllByRecursion (λ r. own ≡ (v r).class.loader) near
     → AllByRecursion (λ r. is_silent own (map v near) away (v r) ≡ true) again → AddAll l []
 quiet_class v l xs ys near again away own mine oe me res aways in_away are known ordered first rest ye front mines silent =

@@ -1,5 +1,6 @@
 -- Which classes declare a method, as a survey notes it (JVMS SE 8, 5.4.2).
-use Rattle.std.specs.Prelude.{◌≡◌, ◌==◌, ℕ, Bool, true, false, ◌&&◌, not, nat_eq, List, Option, Some, None, slice_get}
+use Rattle.std.specs.Prelude.{◌≡◌, ◌==◌, ℕ, Bool, true, false, ◌&&◌, not, nat_eq, List, Option, Some, slice_get}
+use Rattle.std.specs.Option.{option_map_or}
 use Rattle.std.specs.List.{AllByRecursion}
 use Rattle.std.specs.Cmp.Lexicographic.{pointwise}
 use Rattle.indexmap.specs.IndexMap.{IndexMap, get}
@@ -22,8 +23,7 @@ admits (declarers.Bound a) named l = a == l
 
 -- it is among those that are known, if there are some
 abbrev pub is_known : Option Declarers → Bool → ℕ → Bool
-is_known None named l = false
-is_known (Some d) named l = admits d named l
+is_known known named l = option_map_or (λ d. admits d named l) known false
 
 -- these are those that were known with such a class
 pub record Joins (known : Option Declarers) (named : Bool) (l : ℕ) (d : Declarers) : Type 0 where

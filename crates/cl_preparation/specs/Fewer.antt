@@ -34,7 +34,9 @@ loaders_over c key =
 abbrev pub fewer_declared : Kin → Member → List Need
 fewer_declared c m =
     if takes_part m.key c
-    then flat_map (equals_of m.key c.class.loader) (others_after c.class.loader [] (loaders_over c m.key))
+    then
+    flat_map (equals_of m.key c.class.loader)
+    (others_after c.class.loader [] (loaders_over c m.key))
     else []
 
 -- a loader, if there is one, and another than this
@@ -47,17 +49,27 @@ abbrev pub equals_from : Key → ℕ → Option ℕ → List Need
 equals_from key of None = []
 equals_from key of (Some a) = equals_of key a of
 
+-- a method of a superinterface j takes part, and the class c does not declare it (5.4.2)
+abbrev pub is_inherited : Kin → Kin → Member → Bool
+is_inherited c j m = takes_part m.key j && not (is_some (method_of c m.key))
+
 -- second half: for a method of a superinterface j that c does not declare, equalities with the
 -- loader of the inherited implementation, if that is another (5.4.2)
 abbrev pub fewer_inherited : Kin → Kin → Member → List Need
 fewer_inherited c j m =
-    if takes_part m.key j && not (is_some (method_of c m.key))
-    then equals_from m.key j.class.loader (other_than j.class.loader (option_map (λ a. a.class.loader) (inherited_from c m.key)))
+    if is_inherited c j m
+    then
+    equals_from m.key j.class.loader
+    (other_than j.class.loader (option_map (λ a. a.class.loader) (inherited_from c m.key)))
     else []
+
+-- what the methods of these classes impose, in order (5.4.2)
+abbrev pub by_methods : {A : Type 0} → (A → Kin) → (A → Member → List Need) → List A → List Need
+by_methods kin imposed xs = flat_map (λ x. flat_map (imposed x) (kin x).file.methods) xs
 
 -- second half: what all superinterfaces of c impose with what it inherits (5.4.2)
 abbrev pub fewer_second : Kin → List Need
-fewer_second c = flat_map (λ j. flat_map (fewer_inherited c j) j.file.methods) (superinterfaces c)
+fewer_second c = by_methods (λ j. j) (fewer_inherited c) (superinterfaces c)
 
 -- of the loading constraints that the preparation of a class imposes, in order: none of a loader
 -- with itself, and for each method that it declares each loader once (5.4.2)

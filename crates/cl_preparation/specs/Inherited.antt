@@ -1,12 +1,11 @@
 -- What superinterfaces impose with what a class inherits, as rows (JVMS SE 8, 5.4.2).
-use Rattle.std.specs.Prelude.{ℕ, Bool, ◌&&◌, not, if◌then◌else◌, List, [], filter, find, flat_map, Option, is_some, option_map}
+use Rattle.std.specs.Prelude.{ℕ, Bool, if◌then◌else◌, List, [], filter, find, Option, option_map}
 use Rattle.cl_classfile.specs.Files.{Key, Member}
-use Rattle.cl_model.specs.Lineages.{is_offered, method_of}
-use Rattle.cl_model.specs.Preparation.{takes_part}
+use Rattle.cl_model.specs.Lineages.{is_offered}
 use Rattle.cl_model.specs.States.{Need}
 use Rattle.cl_hierarchy.specs.Lineages.{is_of_other}
 use Rattle.cl_hierarchy.specs.Rows.{Rowed}
-use Rattle.cl_preparation.specs.Fewer.{equals_from, other_than}
+use Rattle.cl_preparation.specs.Fewer.{by_methods, equals_from, is_inherited, other_than}
 use Rattle.cl_preparation.specs.Relatives.{bare}
 
 -- of these rows, those of classes of another loader (5.3)
@@ -34,11 +33,10 @@ loader_with few above of key =
 -- what a method of a superinterface imposes with the one that is inherited (5.4.2)
 abbrev pub inherited_by_rows : Bool → Rowed → List Rowed → Rowed → Member → List Need
 inherited_by_rows few own above j m =
-    if takes_part m.key (bare j) && not (is_some (method_of (bare own) m.key))
+    if is_inherited (bare own) (bare j) m
     then equals_from m.key j.class.loader (loader_with few above j.class.loader m.key)
     else []
 
 -- what these superinterfaces impose with what is inherited (5.4.2)
 abbrev pub second_by_rows : Bool → Rowed → List Rowed → List Rowed → List Need
-second_by_rows few own above over =
-    flat_map (λ j. flat_map (inherited_by_rows few own above j) (bare j).file.methods) over
+second_by_rows few own above over = by_methods bare (inherited_by_rows few own above) over

@@ -1,13 +1,13 @@
 -- What is looked at for the few equalities of a preparation, as rows (JVMS SE 8, 5.4.2).
-use Rattle.std.specs.Prelude.{◌≡◌, ℕ, false, if◌then◌else◌, List, [], ◌++◌, map, filter, flat_map}
+use Rattle.std.specs.Prelude.{◌≡◌, ℕ, false, if◌then◌else◌, List, [], ◌++◌, Some, map, filter, flat_map}
 use Rattle.std.specs.List.{AllByRecursion}
 use Rattle.cl_classfile.specs.Files.{Key, Member, file_of, is_interface}
 use Rattle.cl_model.specs.Lineages.{superclasses, superinterfaces}
 use Rattle.cl_model.specs.Preparation.{equals_of, takes_part}
 use Rattle.cl_model.specs.States.{Need}
 use Rattle.cl_hierarchy.specs.Rows.{Rowed}
-use Rattle.cl_hierarchy.specs.Lineages.{IsRowIn, Lined, is_of_other, kin_at, kin_of, rows_in}
-use Rattle.cl_preparation.specs.Fewer.{fewer_inherited, fewer_second, loaders, others_after}
+use Rattle.cl_hierarchy.specs.Lineages.{IsRowIn, Lined, kin_at, kin_of, others_of, rows_in}
+use Rattle.cl_preparation.specs.Fewer.{by_methods, fewer_inherited, fewer_second, loaders, others_after}
 use Rattle.cl_preparation.specs.Relatives.{bare}
 use Rattle.cl_preparation.specs.Walks.{opens}
 
@@ -21,16 +21,14 @@ pub record AddAll (l : Lined) (over : List Rowed) : Type 0 where
       (loaders (filter (takes_part key) (superinterfaces (kin_of l))))
   pub second_are :
       is_interface (file_of l.own.file) ≡ false
-      → flat_map (λ j. flat_map (fewer_inherited (kin_of l) (bare j)) (bare j).file.methods) over
-      ≡ fewer_second (kin_of l)
+      → by_methods bare (λ j. fewer_inherited (kin_of l) (bare j)) over ≡ fewer_second (kin_of l)
 
 -- the rows of a class, of its superclasses of other loaders, and of superinterfaces that add what
 -- all do (5.4.2)
 pub record AreNear (l : Lined) (own : Rowed) (away over : List Rowed) : Type 0 where
   pub own_is : own ≡ l.own
   pub away_are :
-      map (kin_at l) away
-      ≡ filter (λ k. is_of_other l.own.class.loader k.class) (superclasses (kin_of l))
+      map (kin_at l) away ≡ others_of (Some l.own.class.loader) (superclasses (kin_of l))
   pub away_in : AllByRecursion (IsRowIn (rows_in l)) away
   pub over_are : AddAll l over
 

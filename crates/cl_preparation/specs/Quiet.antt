@@ -14,8 +14,8 @@ use Rattle.cl_preparation.specs.Relatives.{bare}
 abbrev pub names_other : ℕ → Rowed → Bool
 names_other own r = list_any (λ p. not (own == p)) (interface_places r)
 
--- a method of a class takes part in overriding, and one of these classes declares such a method that
--- is neither private nor static (5.4.2)
+-- a method of a class takes part in overriding, and one of these classes declares such a method
+-- that is neither private nor static (5.4.2)
 abbrev pub is_heard : List Rowed → Rowed → Member → Bool
 is_heard away r m =
     takes_part m.key (bare r) && list_any (λ a. is_offered m.key (bare a)) away

@@ -1,5 +1,6 @@
 -- A class with what stands above it, as preparation looks at them (JVMS SE 8, 5.4.2, 5.4.5).
 use Rattle.std.specs.Prelude.{⊤, ◌≡◌, ◌++◌, ℕ, Bool, false, if◌then◌else◌, List, [], ◌∷◌, map, Option, Some, None, is_some, slice_get}
+use Rattle.std.specs.Option.{option_map_or}
 use Rattle.indexmap.specs.IndexSet.{IndexSet}
 use Rattle.cl_classfile.specs.Files.{Name, Key, Member, file_of, is_interface, method_of}
 use Rattle.cl_model.specs.declared.class.Class.{Class}
@@ -63,8 +64,7 @@ of_superclasses own above key =
 
 -- what is asked of a key, if there is one
 abbrev pub asked : Option Key → (Key → Bool) → Bool
-asked None test = false
-asked (Some key) test = test key
+asked key test = option_map_or test key false
 
 -- the method of this name and this descriptor of a class overrides that of its superclass a, over
 -- the classes between; what is no method descriptor is that of none (5.4.5)

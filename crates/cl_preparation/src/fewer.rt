@@ -1,12 +1,12 @@
 //! The few loading constraints of a preparation that stand for all of them (JVMS SE 8, 5.3.4, 5.4.2).
 
-ghost use Rattle.std.specs.Prelude.{◌≡◌, ◌++◌, [], if◌then◌else◌, false, map, filter, flat_map, IfOk, OnOk};
+ghost use Rattle.std.specs.Prelude.{◌≡◌, ◌++◌, [], Some, if◌then◌else◌, false, map, filter, flat_map, IfOk, OnOk};
 ghost use Rattle.std.specs.List.{AllByRecursion};
 ghost use Rattle.cl_classfile.specs.Files.{file_of, is_interface};
 ghost use Rattle.cl_model.specs.Lineages.{superclasses};
 ghost use Rattle.cl_model.specs.Preparation.{constraints_of};
 ghost use Rattle.cl_hierarchy.specs.Imposed.{AreEnough, OfPreparation, needs_of};
-ghost use Rattle.cl_hierarchy.specs.Lineages.{IsRowIn, is_of_other, kin_at, kin_of, rows_in};
+ghost use Rattle.cl_hierarchy.specs.Lineages.{IsRowIn, kin_at, kin_of, others_of, rows_in};
 ghost use Rattle.cl_preparation.specs.Fewer.{fewer_constraints_of, fewer_second, loaders, others_after};
 ghost use Rattle.cl_preparation.specs.Nearby.{AreNear, near_declared, near_loaders};
 ghost use Rattle.cl_preparation.specs.Relatives.{bare};
@@ -49,7 +49,7 @@ impl<'a, T: Told> Drop for Nearby<'a, T> {
 /// The superclasses of other loaders than the class's own, nearest first.
 fn away_of<T: Told>(alloc: Global, lineage: &Lineage<T>) -> Result<Away<'_, T>, AllocError>
     ensures classes { IfOk result (λ a. map (kin_at lineage.now) a
-        ≡ filter (λ k. is_of_other (kin_of lineage.now).class.loader k.class)
+        ≡ others_of (Some (kin_of lineage.now).class.loader)
         (superclasses (kin_of lineage.now))) }
     ensures rows { IfOk result (λ a. AllByRecursion (IsRowIn (rows_in lineage.now)) a) }
 {

@@ -71,6 +71,7 @@ fn opens_to<T: Told>(
 }
 
 /// Whether the method of a class overrides the one of a superclass, over the classes between, the rows of which these are.
+#[tactic(auto, using(crate::proofs::Named::told_apart))]
 fn overrides_by<T: Told>(
     own: &ClassRow<T>,
     above: &ClassRow<T>,

@@ -1,12 +1,12 @@
 //! Whether superinterfaces add nothing to the few loading constraints of a preparation, told from the rows of a lineage in
 //! any order (JVMS SE 8, 5.4.2).
 
-ghost use Rattle.std.specs.Prelude.{◌≡◌, ◌≤◌, [], false, true, length, map, filter, take, IfOk, IfSome};
+ghost use Rattle.std.specs.Prelude.{◌≡◌, ◌≤◌, [], Some, false, true, length, map, take, IfOk, IfSome};
 ghost use Rattle.std.specs.List.{AllByRecursion, list_any};
 ghost use Rattle.cl_classfile.specs.Files.{file_of};
 ghost use Rattle.cl_model.specs.Classes.{same_class};
 ghost use Rattle.cl_model.specs.Lineages.{is_offered, superclasses};
-ghost use Rattle.cl_hierarchy.specs.Lineages.{IsRowIn, is_of_other, kin_at, kin_of, rows_in};
+ghost use Rattle.cl_hierarchy.specs.Lineages.{IsRowIn, kin_at, kin_of, others_of, rows_in};
 ghost use Rattle.cl_preparation.specs.Nearby.{AddAll};
 ghost use Rattle.cl_preparation.specs.Quiet.{is_heard, is_silent, names_other};
 ghost use Rattle.cl_preparation.specs.Relatives.{bare};
@@ -180,9 +180,8 @@ fn are_quiet<T: Told>(
     lineage: &Lineage<T>,
     away: &Away<'_, T>,
 ) -> Result<bool, AllocError>
-    requires classes { map (kin_at lineage.now) away.now ≡ filter
-        (λ k. is_of_other (kin_of lineage.now).class.loader k.class)
-        (superclasses (kin_of lineage.now)) }
+    requires classes { map (kin_at lineage.now) away.now
+        ≡ others_of (Some (kin_of lineage.now).class.loader) (superclasses (kin_of lineage.now)) }
     requires rows { AllByRecursion (IsRowIn (rows_in lineage.now)) away.now }
     ensures { IfOk result (λ b. b ≡ true → AddAll lineage.now []) }
 {
@@ -213,9 +212,8 @@ pub(crate) fn over_of<T: Told>(
     lineage: &Lineage<T>,
     away: &Away<'_, T>,
 ) -> Result<Vec<Relative<T>>, AllocError>
-    requires classes { map (kin_at lineage.now) away.now ≡ filter
-        (λ k. is_of_other (kin_of lineage.now).class.loader k.class)
-        (superclasses (kin_of lineage.now)) }
+    requires classes { map (kin_at lineage.now) away.now
+        ≡ others_of (Some (kin_of lineage.now).class.loader) (superclasses (kin_of lineage.now)) }
     requires rows { AllByRecursion (IsRowIn (rows_in lineage.now)) away.now }
     ensures { IfOk result (λ v. AddAll lineage.now v.items) }
 {

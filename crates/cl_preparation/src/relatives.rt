@@ -7,6 +7,7 @@ ghost use Rattle.cl_model.specs.Lineages.{superclasses, superinterfaces};
 ghost use Rattle.cl_model.specs.Preparation.{constraints_of, for_declared, for_inherited, takes_part};
 ghost use Rattle.cl_hierarchy.specs.Imposed.{OfPreparation, needs_of};
 ghost use Rattle.cl_hierarchy.specs.Lineages.{kin_at, kin_of};
+ghost use Rattle.cl_preparation.specs.Fewer.{by_methods};
 ghost use Rattle.cl_preparation.specs.Relatives.{bare};
 
 use crate::described::Described;
@@ -200,7 +201,7 @@ impl<T: Told> Relatives<T> {
     /// Adds what the methods of the superinterfaces impose.
     fn push_interfaces(&self, alloc: Global, needs: &mut Vec<Equality>) -> Result<(), AllocError>
         ensures { OnOk result (needs_of needs.new.items ≡ needs_of needs.old.items
-            ++ flat_map (λ j. flat_map (for_inherited (kin_of self.now) j) j.file.methods)
+            ++ by_methods (λ j. j) (for_inherited (kin_of self.now))
             (superinterfaces (kin_of self.now))) }
     {
         let inherited = Inheritance::of(&self.own, self.superclasses.as_slice(), None);
@@ -210,9 +211,8 @@ impl<T: Told> Relatives<T> {
     /// Adds what is inherited where the class is no interface.
     fn push_second(&self, alloc: Global, needs: &mut Vec<Equality>) -> Result<(), AllocError>
         ensures { OnOk result (needs_of needs.new.items ≡ needs_of needs.old.items
-            ++ (if is_interface (kin_of self.now).file then [] else flat_map
-            (λ j. flat_map (for_inherited (kin_of self.now) j) j.file.methods) (superinterfaces
-            (kin_of self.now)))) }
+            ++ (if is_interface (kin_of self.now).file then [] else by_methods (λ j. j)
+            (for_inherited (kin_of self.now)) (superinterfaces (kin_of self.now)))) }
     {
         if self.own.is_interface() {
             return Ok(());

@@ -1,8 +1,7 @@
-use Rattle.std.proofs.Common.{◌≡◌, map, nat_le, if◌then◌else◌}
-use Rattle.cl_model.specs.States.{Equal}
-use Rattle.cl_hierarchy.specs.Imposed.{needs_of}
+use Rattle.std.proofs.Common.{◌≡◌, map}
+use Rattle.cl_hierarchy.specs.Imposed.{equal_between, needs_of}
 use Rattle.cl_members.proofs.naming.equals.Given as goal
 
 abbrev pub invariant-loop-name : goal.invariant-loop-name
 invariant-loop-name l =
-    needs_of l.needs.items ≡ map (λ n. if nat_le l.fn.one l.fn.other then Equal n l.fn.one l.fn.other else Equal n l.fn.other l.fn.one) l.yielded
+    needs_of l.needs.items ≡ map (λ n. equal_between n l.fn.one l.fn.other) l.yielded

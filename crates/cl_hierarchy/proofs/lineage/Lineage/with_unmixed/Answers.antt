@@ -10,8 +10,7 @@ invariant_of-kept g c =
     let h = c.kept.invariant in
     let of = subst (λ (l : Lined). IsUnmixed (take c.args.many (rows_in l))) (sym c.kept.view_is) c.requires in
     record {
-      at = h.at;
-      lined = h.lined;
+      here = h.here;
       rung = h.rung;
       unmixed_are = elim c.if-kept-many.branch [
         | then-kept-many w ↦

@@ -49,13 +49,13 @@ concluded content c script s r v None rests sound stands = absurd stands
 concluded content c script s r v (Some b) rests sound borne =
     let w = world_of c content in
     let here : VerdictRests w r v b = subst (λ (k : Configured). VerdictRests (world_of k content) r v b) borne.config rests in
-    let imposed = all_map (Contains s.prepared) (HasImposed w s) (λ d h. let p = sound.prepared d h in record { kin = p.kin; lineage = p.lineage; imposed = p.imposed }) b.prepared borne.prepared in (
+    let imposed = all_map (Contains s.prepared) (HasImposed w s) (λ d h. let p = sound.prepared d h in record { kin = p.kin; lineage = p.lineage; imposed = p.imposed }) b.prepared borne.carried.1 in (
       b,
       record {
         apart = here.apart;
-        concludes = here.concludes s sound.closed (record { needs = borne.needs; prepared = imposed });
-        prepared = borne.prepared;
-        refused = borne.refused;
+        concludes = here.concludes s sound.closed (record { needs = borne.carried.0; prepared = imposed });
+        prepared = borne.carried.1;
+        refused = borne.carried.2;
       },
     )
 

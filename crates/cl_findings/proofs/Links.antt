@@ -33,9 +33,9 @@ use Rattle.cl_hierarchy.specs.Rows.{Rowed}
 use Rattle.cl_hierarchy.specs.Trees.{kin_under, kins, kins_after}
 use Rattle.cl_hierarchy.proofs.Tours.{classes_both}
 use Rattle.cl_findings.specs.Bases.{AreLineages}
-use Rattle.cl_findings.specs.Findings.{Based, HasImposed, IsPlaced, Placed, Rests, loader_of}
-use Rattle.cl_findings.specs.References.{AreLinked, class_need, link_basis}
-use Rattle.cl_findings.proofs.Plain.{grounded, linkage_apart}
+use Rattle.cl_findings.specs.Findings.{HasImposed, IsPlaced, Placed, Rests, loader_of, grounded}
+use Rattle.cl_findings.specs.References.{AreLinked, link_basis}
+use Rattle.cl_findings.proofs.Plain.{linkage_apart}
 use Rattle.cl_findings.proofs.References.{next_at}
 
 -- ---- the classes of a lineage, in its order, are those of its rows
@@ -149,7 +149,7 @@ lineage_at : (told : Option Content) (from : Sprung) (at : Lined) → from ≡ O
 lineage_at told from at e h = let lined : IsLined told at = subst (λ (x : Sprung). AreLineages told x) e h in lined.lineage
 
 pub link_rests : (told : Option Content) (r : request.Request) (l : Lined) (place : ℕ) (e : Listed) (k : ℕ) (need : rust.Need) → AreLinked r l place e.origin → IsInOrder l → IsLineageOf told l → AreLineages told e.origin
-    → AreOf e.origin (needs_of e.needs) → slice_get (needs_of e.needs) k ≡ Some (need_of need) → Rests told (grounded r (verdicts.Linkage need) (link_basis r l place e k (need_of need)))
+    → AreOf e.origin (needs_of e.needs) → slice_get (needs_of e.needs) k ≡ Some (need_of need) → Rests told (grounded r (verdicts.Linkage need) (link_basis r l place e k (Some (need_of need))))
 link_rests None r l place e k need linked order lin others of is = tt
 link_rests (Some content) r l place e k need linked order lin others of is = record {
   apart = linkage_apart r need;
@@ -168,7 +168,7 @@ link_rests (Some content) r l place e k need linked order lin others of is = rec
 
 -- as it is kept
 pub link_rests_kept : (told : Option Content) (r : request.Request) (l : Lined) (place : ℕ) (e : Listed) (k : ℕ) (need : rust.Need) → AreLinked r l place e.origin → IsInOrder l → IsLineageOf told l → AreLineages told e.origin
-    → AreOf e.origin (needs_of e.needs) → slice_get (needs_of e.needs) k ≡ Some (need_of need) → Rests told (grounded r (verdicts.Linkage need) (record { config = l.config; needs = class_need r l.own.class ∷ take k (needs_of e.needs); prepared = row_classes (take place (rows_in l)); refused = slice_get (needs_of e.needs) k }))
+    → AreOf e.origin (needs_of e.needs) → slice_get (needs_of e.needs) k ≡ Some (need_of need) → Rests told (grounded r (verdicts.Linkage need) (link_basis r l place e k (slice_get (needs_of e.needs) k)))
 link_rests_kept told r l place e k need linked order lin others of is =
-    subst (λ (o : Option Need). let b : Based = record { config = l.config; needs = class_need r l.own.class ∷ take k (needs_of e.needs); prepared = row_classes (take place (rows_in l)); refused = o } in Rests told (grounded r (verdicts.Linkage need) b)) (sym is)
+    subst (λ (o : Option Need). Rests told (grounded r (verdicts.Linkage need) (link_basis r l place e k o))) (sym is)
     (link_rests told r l place e k need linked order lin others of is)

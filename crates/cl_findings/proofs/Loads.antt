@@ -43,10 +43,10 @@ use Rattle.cl_hierarchy.proofs.Placed.{file_found, spelt_judged}
 use Rattle.cl_findings.specs.declared.load.Target.{Target}
 use Rattle.cl_findings.specs.declared.load.Target.TheVariants as targets
 use Rattle.cl_findings.specs.Bases.{IsSpeltIn}
-use Rattle.cl_findings.specs.Findings.{Based, Concludes, IsRefusal, Placed, Rests, VerdictRests, loader_of}
-use Rattle.cl_findings.specs.Loads.{IsFor, IsReferred, IsSought, IsWhole, kind_of, missing_kind, target_needs}
+use Rattle.cl_findings.specs.Findings.{Based, Concludes, IsRefusal, Placed, Rests, VerdictRests, loader_of, grounded}
+use Rattle.cl_findings.specs.Loads.{IsFor, IsMisfit, IsReferred, IsSought, IsWhole, LooksFor, kind_of, load_basis, missing_kind, target_needs}
 use Rattle.cl_findings.proofs.Files.{kept_file}
-use Rattle.cl_findings.proofs.Plain.{error_apart, grounded, linkage_apart}
+use Rattle.cl_findings.proofs.Plain.{error_apart, linkage_apart}
 
 -- ---- what is wrong with bytes
 
@@ -122,9 +122,7 @@ of_reference content r d p s for spelt closed at =
       kept = subst (λ (l : ℕ). recorded s.records (loader_of r) d.class.name ≡ Some l) own at;
       file = file_of d.file;
       has_file = subst (λ (l : ℕ). HasFile w (class d.class.name l) (file_of d.file)) own (kept_file p.config content s (loader_of r) d.class d.file closed at spelt);
-      cited = for.cited;
-      found = for.found;
-      names = for.names;
+      cites = record { cited = for.cited; found = for.found; names = for.names };
     }
 
 starts_at : {A : Type 0} (content : Content) (r : request.Request) (t : Target A) (p : Pathed) (s : State) → IsFor r t p → IsSpeltIn (Some content) t → IsClosed (world_of p.config content) s → AllMet s (target_needs r t)
@@ -159,19 +157,23 @@ module _ {A : Type 0} (content : Content) (r : request.Request) (t : Target A) (
   abbrev Ends : List Need → Error → Type 0
   Ends more e = (s : State) → IsClosed w s → AllMet s (parts more) → EndsHere w s (request_of r) (Wrong e)
 
-  missing_ends_so : (u : Sought) → u.config ≡ p.config → u.asked ≡ at_loader p → u.name ≡ at_name p → LeadsTo (Some content) u.config u.asked u.name None → Ends [] (error_of (missing_kind t p.frames) (class u.name u.asked))
-  missing_ends_so u config asked name leads = λ s closed met.
-      let nowhere : home w (at_loader p) (at_name p) ≡ None = subst (λ (n : List ℕ). home w (at_loader p) n ≡ None) name (subst (λ (l : ℕ). home w l u.name ≡ None) asked (subst (λ (c : Configured). home (world_of c content) u.asked u.name ≡ None) config leads)) in
+  -- the search for what is looked for leads there
+  leads_here : (c : Configured) (loader : ℕ) (name : List ℕ) (place : Option ℕ) → LooksFor p c loader name → LeadsTo (Some content) c loader name place → home w (at_loader p) (at_name p) ≡ place
+  leads_here c loader name place sought leads =
+      subst (λ (n : List ℕ). home w (at_loader p) n ≡ place) sought.name
+      (subst (λ (l : ℕ). home w l name ≡ place) sought.asked (subst (λ (d : Configured). home (world_of d content) loader name ≡ place) sought.config leads))
+
+  missing_ends_so : (u : Sought) → LooksFor p u.config u.asked u.name → LeadsTo (Some content) u.config u.asked u.name None → Ends [] (error_of (missing_kind t p.frames) (class u.name u.asked))
+  missing_ends_so u sought leads = λ s closed met.
+      let nowhere = leads_here u.config u.asked u.name None sought leads in
       let here = class u.name u.asked in
-      let is : class (at_name p) (at_loader p) ≡ here = ap (λ (n : List ℕ). class n (at_loader p)) (sym name) ∙ ap (λ (l : ℕ). class u.name l) (sym asked) in
+      let is : class (at_name p) (at_loader p) ≡ here = ap (λ (n : List ℕ). class n (at_loader p)) (sym sought.name) ∙ ap (λ (l : ℕ). class u.name l) (sym sought.asked) in
       subst (λ (e : Error). EndsHere w s (request_of r) (Wrong e)) (ap (λ (c : Class). absent_under (absent_of t) (frames_of p) c) is ∙ absent_same t p.frames here)
       (missing_ends w s (request_of r) (absent_of t) (frames_of p) (at_loader p) (at_name p) closed (under_all s [] closed met).0 nowhere)
 
   -- the search leads to the home
   pub there : (h : Located) → IsSought p h → LeadsTo (Some content) h.config h.asked h.name (Some h.place) → home w (at_loader p) (at_name p) ≡ Some h.place
-  there h sought leads =
-      subst (λ (n : List ℕ). home w (at_loader p) n ≡ Some h.place) sought.name
-      (subst (λ (l : ℕ). home w l h.name ≡ Some h.place) sought.asked (subst (λ (c : Configured). home (world_of c content) h.asked h.name ≡ Some h.place) sought.config leads))
+  there h sought leads = leads_here h.config h.asked h.name (Some h.place) sought leads
 
   faulty_ends_so : (h : Located) (fault : DraftFault) → IsSought p h → is_on p (class h.name h.place) ≡ false → LeadsTo (Some content) h.config h.asked h.name (Some h.place) → IsTold (Some content) h.place h.name (Some h.bytes) → IsWrong h fault
       → Ends [] (error_of (kind_of fault) (class h.name h.place))
@@ -234,14 +236,6 @@ module _ {A : Type 0} (content : Content) (r : request.Request) (t : Target A) (
 
 -- ---- findings
 
--- what an error at the end of a load rests on
-abbrev pub error_basis : {A : Type 0} → request.Request → Target A → Pathed → List Need → Based
-error_basis r t p more = record { config = p.config; needs = target_needs r t ++ (kept_of (frames_of p) ++ more); prepared = []; refused = None }
-
--- what a refusal there rests on
-abbrev pub refusal_basis : {A : Type 0} → request.Request → Target A → Pathed → List Need → Need → Based
-refusal_basis r t p more n = record { config = p.config; needs = target_needs r t ++ (kept_of (frames_of p) ++ more); prepared = []; refused = Some n }
-
 error_rests : (w : World) (r : request.Request) (kind : ErrorKind) (c : Class) (b : Based) → b.refused ≡ None → ((s : State) → IsClosed w s → AllMet s b.needs → EndsHere w s (request_of r) (Wrong (error_of kind c)))
     → VerdictRests w r (verdicts.Error kind c) b
 error_rests w r kind c b none h = record {
@@ -260,52 +254,52 @@ refusal_rests w r need to place other b some bare is h = record {
 }
 
 pub missing_rests : {A : Type 0} (told : Option Content) (r : request.Request) (t : Target A) (p : Pathed) (u : Sought) → IsFor r t p → IsSpeltIn told t → IsPath told p
-    → (u.config ≡ p.config) × (u.asked ≡ at_loader p) × (u.name ≡ at_name p) → LeadsTo told u.config u.asked u.name None
-    → Rests told (grounded r (verdicts.Error (missing_kind t p.frames) (class u.name u.asked)) (error_basis r t p []))
+    → LooksFor p u.config u.asked u.name → LeadsTo told u.config u.asked u.name None
+    → Rests told (grounded r (verdicts.Error (missing_kind t p.frames) (class u.name u.asked)) (load_basis r t p [] None))
 missing_rests None r t p u for spelt path stops leads = tt
 missing_rests (Some content) r t p u for spelt path stops leads =
-    error_rests (world_of p.config content) r (missing_kind t p.frames) (class u.name u.asked) (error_basis r t p []) refl
-    (missing_ends_so content r t p for spelt path u stops.0 stops.1 stops.2 leads)
+    error_rests (world_of p.config content) r (missing_kind t p.frames) (class u.name u.asked) (load_basis r t p [] None) refl
+    (missing_ends_so content r t p for spelt path u stops leads)
 
 pub faulty_rests : {A : Type 0} (told : Option Content) (r : request.Request) (t : Target A) (p : Pathed) (h : Located) (fault : DraftFault) → IsFor r t p → IsSpeltIn told t → IsPath told p → IsSought p h
     → is_on p (class h.name h.place) ≡ false → LeadsTo told h.config h.asked h.name (Some h.place) → IsTold told h.place h.name (Some h.bytes) → IsWrong h fault
-    → Rests told (grounded r (verdicts.Error (kind_of fault) (class h.name h.place)) (error_basis r t p []))
+    → Rests told (grounded r (verdicts.Error (kind_of fault) (class h.name h.place)) (load_basis r t p [] None))
 faulty_rests None r t p h fault for spelt path sought new leads stored wrong = tt
 faulty_rests (Some content) r t p h fault for spelt path sought new leads stored wrong =
-    error_rests (world_of p.config content) r (kind_of fault) (class h.name h.place) (error_basis r t p []) refl
+    error_rests (world_of p.config content) r (kind_of fault) (class h.name h.place) (load_basis r t p [] None) refl
     (faulty_ends_so content r t p for spelt path h fault sought new leads stored wrong)
 
 pub circle_rests : {A : Type 0} (told : Option Content) (r : request.Request) (t : Target A) (p : Pathed) (h : Located) → IsFor r t p → IsSpeltIn told t → IsPath told p → IsSought p h
     → is_on p (class h.name h.place) ≡ true → LeadsTo told h.config h.asked h.name (Some h.place)
-    → Rests told (grounded r (verdicts.Error kinds.ClassCircularityError (class h.name h.place)) (error_basis r t p []))
+    → Rests told (grounded r (verdicts.Error kinds.ClassCircularityError (class h.name h.place)) (load_basis r t p [] None))
 circle_rests None r t p h for spelt path sought again leads = tt
 circle_rests (Some content) r t p h for spelt path sought again leads =
-    error_rests (world_of p.config content) r kinds.ClassCircularityError (class h.name h.place) (error_basis r t p []) refl
+    error_rests (world_of p.config content) r kinds.ClassCircularityError (class h.name h.place) (load_basis r t p [] None) refl
     (circle_ends_so content r t p for spelt path h sought again leads)
 
 pub misfit_rests : {A : Type 0} (told : Option Content) (r : request.Request) (t : Target A) (p : Pathed) (row : Rowed) (c : Class) (kind : ErrorKind) → IsFor r t p → IsSpeltIn told t → IsPath told p
-    → (row.class ≡ c) × (c.name ≡ at_name p) × (misfit_under p.frames c (file_of row.file) ≡ Some (error_of kind c)) → IsSpelt told row.class row.file
-    → Rests told (grounded r (verdicts.Error kind c) (error_basis r t p (Entry (at_loader p) c.name c.loader ∷ [])))
+    → (row.class ≡ c) × (c.name ≡ at_name p) × IsMisfit p row kind → IsSpelt told row.class row.file
+    → Rests told (grounded r (verdicts.Error kind c) (load_basis r t p (Entry (at_loader p) c.name c.loader ∷ []) None))
 misfit_rests None r t p row c kind for spelt path stops own = tt
 misfit_rests (Some content) r t p row c kind for spelt path stops own =
     let same = sym stops.0 in
-    error_rests (world_of p.config content) r kind c (error_basis r t p (Entry (at_loader p) c.name c.loader ∷ [])) refl
+    error_rests (world_of p.config content) r kind c (load_basis r t p (Entry (at_loader p) c.name c.loader ∷ []) None) refl
     (subst (λ (d : Class). Ends content r t p for spelt path (Entry (at_loader p) d.name d.loader ∷ []) (error_of kind d)) stops.0
-    (misfit_ends_so content r t p for spelt path row (error_of kind row.class) (subst (λ (d : Class). d.name ≡ at_name p) same stops.1) (subst (λ (d : Class). misfit_under p.frames d (file_of row.file) ≡ Some (error_of kind d)) same stops.2) own))
+    (misfit_ends_so content r t p for spelt path row (error_of kind row.class) (subst (λ (d : Class). d.name ≡ at_name p) same stops.1) stops.2 own))
 
 pub whole_rests : {A : Type 0} (told : Option Content) (r : request.Request) (t : Target A) (p : Pathed) (x : Framed) (need : rust.Need) → IsFor r t p → IsSpeltIn told t → IsPath told p → IsWhole told p x
     → need_of need ≡ Entry x.draft.class.loader x.draft.class.name x.draft.class.loader
-    → Rests told (grounded r (verdicts.Linkage need) (refusal_basis r t p (kept_of (frame_of x ∷ [])) (Entry x.draft.class.loader x.draft.class.name x.draft.class.loader)))
+    → Rests told (grounded r (verdicts.Linkage need) (load_basis r t p (kept_of (frame_of x ∷ [])) (Some (Entry x.draft.class.loader x.draft.class.name x.draft.class.loader))))
 whole_rests None r t p x need for spelt path whole is = tt
 whole_rests (Some content) r t p x need for spelt path whole is =
     let c = x.draft.class in
-    refusal_rests (world_of p.config content) r need c.loader c.loader c.name (refusal_basis r t p (kept_of (frame_of x ∷ [])) (Entry c.loader c.name c.loader)) refl refl is
+    refusal_rests (world_of p.config content) r need c.loader c.loader c.name (load_basis r t p (kept_of (frame_of x ∷ [])) (Some (Entry c.loader c.name c.loader))) refl refl is
     (whole_is_next content r t p for spelt path x whole)
 
 pub away_rests : {A : Type 0} (told : Option Content) (r : request.Request) (t : Target A) (p : Pathed) (h : Located) (need : rust.Need) → IsFor r t p → IsSpeltIn told t → IsPath told p
     → IsSought p h × (h.place ≢ at_loader p) → LeadsTo told h.config h.asked h.name (Some h.place) → need_of need ≡ Entry h.asked h.name h.place
-    → Rests told (grounded r (verdicts.Linkage need) (refusal_basis r t p (Entry h.place h.name h.place ∷ []) (Entry h.asked h.name h.place)))
+    → Rests told (grounded r (verdicts.Linkage need) (load_basis r t p (Entry h.place h.name h.place ∷ []) (Some (Entry h.asked h.name h.place))))
 away_rests None r t p h need for spelt path next leads is = tt
 away_rests (Some content) r t p h need for spelt path next leads is =
-    refusal_rests (world_of p.config content) r need h.asked h.place h.name (refusal_basis r t p (Entry h.place h.name h.place ∷ []) (Entry h.asked h.name h.place)) refl refl is
+    refusal_rests (world_of p.config content) r need h.asked h.place h.name (load_basis r t p (Entry h.place h.name h.place ∷ []) (Some (Entry h.asked h.name h.place))) refl refl is
     (away_is_next content r t p for spelt path h next.0 next.1 leads)

@@ -12,7 +12,7 @@ use Rattle.cl_model.specs.Content.{Content}
 use Rattle.cl_delegation.specs.Worlds.{world_of}
 use Rattle.std.specs.declared.sync.Arc.{Arc}
 use Rattle.cl_model.specs.declared.settled.Settled.{Settled}
-use Rattle.cl_findings.specs.Findings.{Answered, Based, IsLoad, IsLink, IsLookedUp, Resolves, Rests, VerdictRests, loader_of}
+use Rattle.cl_findings.specs.Findings.{Based, grounded, IsLoad, IsLink, IsLookedUp, Resolves, Rests, VerdictRests, loader_of}
 
 pub class_rests : (told : Option Content) (r : Request) (c : Class) → IsLoad r → Rests told (record { request = r; answer = answers.Said (verdicts.Class c); basis = None })
 class_rests None r c is = tt
@@ -53,10 +53,6 @@ resolve_apart loader name i v h = h
 
 pub reference_apart : (r : Request) (d : Class) (i : ℕ) (v : Verdict) → Resolves r d.name i → IsLookedUp r v → ⊥
 reference_apart r d i v is h = resolve_apart (loader_of r) d.name i v (subst (λ (q : Request). IsLookedUp q v) is h)
-
--- a verdict with its basis
-abbrev pub grounded : Request → Verdict → Based → Answered
-grounded r v b = record { request = r; answer = answers.Said v; basis = Some b }
 
 pub grounded_rests : (told : Option Content) (r : Request) (v : Verdict) (b : Based) → ((content : Content) → told ≡ Some content → VerdictRests (world_of b.config content) r v b) → Rests told (grounded r v b)
 grounded_rests None r v b h = tt

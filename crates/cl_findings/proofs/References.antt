@@ -13,11 +13,11 @@ use Rattle.cl_model.specs.Classes.{class, class_accessible, Error, IllegalAccess
 use Rattle.cl_model.specs.Lineages.{Kin, IsLineage}
 use Rattle.cl_model.specs.States.{State, Need, Verdict, Wrong, recorded, AllMet, IsNext}
 use Rattle.cl_model.specs.Works.{Made, Work, after_made, fail, unless_wrong, ◌>>=◌}
-use Rattle.cl_model.specs.Plans.{Resolve, class_verdict, ending}
+use Rattle.cl_model.specs.Plans.{Resolve, class_verdict, ending, class_named, resolve_in, through}
 use Rattle.cl_model.specs.Machine.{HasLineage, IsClosed}
 use Rattle.cl_model.specs.Service.{IsNextNeed}
-use Rattle.cl_model.specs.Frames.{EndsHere, class_named}
-use Rattle.cl_model.specs.References.{GoesThrough, ended, resolve_in, through}
+use Rattle.cl_model.specs.Frames.{EndsHere}
+use Rattle.cl_model.specs.References.{GoesThrough, ended}
 use Rattle.cl_model.specs.Views.{need_of, request_of, verdict_of}
 use Rattle.cl_model.proofs.Bind.{some_same}
 use Rattle.cl_model.proofs.Gone.{gone_on_ends, gone_on_next, resolve_goes_on}
@@ -34,10 +34,10 @@ use Rattle.cl_members.specs.Asking.{IsFoundAs, IsLocated, Located}
 use Rattle.cl_members.specs.declared.fault.LookupFault.{LookupFault}
 use Rattle.cl_members.specs.declared.fault.LookupFault.TheVariants as faults
 use Rattle.cl_findings.specs.Bases.{AreLineages}
-use Rattle.cl_findings.specs.Findings.{Based, Placed, Resolves, Rests, VerdictRests, loader_of}
+use Rattle.cl_findings.specs.Findings.{Based, Placed, Resolves, Rests, VerdictRests, loader_of, grounded}
 use Rattle.cl_findings.specs.References.{AreAsked, EndsAtClass, EndsAtOnce, GoesTo, IsAtClass, IsAtOnce, IsLookupError, IsOfFound, asked_basis, class_basis, config_of, entry_basis, fault_verdict, index_of, member_basis, sprung_needs}
 use Rattle.cl_findings.proofs.Files.{kept_lineage}
-use Rattle.cl_findings.proofs.Plain.{grounded, linkage_apart, reference_apart}
+use Rattle.cl_findings.proofs.Plain.{linkage_apart, reference_apart}
 
 -- ---- past the load of the request's class
 
@@ -227,7 +227,7 @@ asked_rests_at content r (OfReference d c i) needs k need to lin of is = record 
 }
 
 pub asked_rests : (told : Option Content) (r : request.Request) (e : Listed) (k : ℕ) (need : rust.Need) → AreAsked r e.origin → AreLineages told e.origin → AreOf e.origin (needs_of e.needs)
-    → slice_get (needs_of e.needs) k ≡ Some (need_of need) → Rests told (grounded r (verdicts.Linkage need) (asked_basis r e k (need_of need)))
+    → slice_get (needs_of e.needs) k ≡ Some (need_of need) → Rests told (grounded r (verdicts.Linkage need) (asked_basis r e k (Some (need_of need))))
 asked_rests None r e k need asked lin of is = tt
 asked_rests (Some content) r e k need asked lin of is = asked_rests_at content r e.origin (needs_of e.needs) k need asked lin of is
 

@@ -9,9 +9,8 @@ use Rattle.cl_model.specs.Frames.{Frame, KeepsAccepted, kept_of}
 use Rattle.cl_model.proofs.Closed.{met_both}
 use Rattle.cl_model.proofs.Progress.{met_split}
 use Rattle.cl_model.proofs.Stacks.{kept_is_met}
-use Rattle.cl_constraints.specs.Books.{Wherever}
 use Rattle.cl_hierarchy.specs.Frames.{accepted_of}
-use Rattle.cl_findings.specs.Tables.{TellsOf}
+use Rattle.cl_constraints.specs.Books.{TellsOf, Wherever}
 
 -- ---- what a frame accepted at a place
 

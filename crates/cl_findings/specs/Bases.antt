@@ -1,31 +1,21 @@
 -- What an answer rests on, as it is kept (JVMS SE 8, 5.3 to 5.4.3).
-use Rattle.std.specs.Prelude.{
-  List,
-  [],
-  ◌∷◌,
-  ◌++◌,
-  map,
-  take,
-  Option,
-  Some,
-  None,
-  slice_get,
-  Contains,
-  IfSome,
-}
-use Rattle.std.specs.List.{AllByRecursion}
+use Rattle.std.specs.Prelude.{List, [], ◌∷◌, Option, Some, None, slice_get}
 use Rattle.cl_model.specs.declared.request.Request as request
-use Rattle.cl_model.specs.States.{State, Need, Entry, AllMet, Refused}
-use Rattle.cl_model.specs.Frames.{kept_of}
+use Rattle.cl_model.specs.States.{Need, Entry}
 use Rattle.cl_model.specs.Content.{Content}
 use Rattle.cl_hierarchy.specs.Drafts.{IsSpelt}
 use Rattle.cl_hierarchy.specs.Imposed.{Sprung, OfReference, OfPreparation}
 use Rattle.cl_hierarchy.specs.Imposed as imposed
-use Rattle.cl_hierarchy.specs.Lineages.{IsLined, rows_in}
-use Rattle.cl_hierarchy.specs.Paths.{Pathed, frames_of, at_loader, at_name}
+use Rattle.cl_hierarchy.specs.Lineages.{IsLined}
+use Rattle.cl_hierarchy.specs.Paths.{Pathed, at_loader, at_name}
 use Rattle.cl_findings.specs.Findings.{Based}
-use Rattle.cl_findings.specs.Loads.{next_need, next_needs, target_needs}
-use Rattle.cl_findings.specs.References.{class_need, reference_needs, config_of, sprung_needs}
+use Rattle.cl_findings.specs.Loads.{load_basis, next_need, next_needs}
+use Rattle.cl_findings.specs.References.{
+  asked_basis,
+  class_basis,
+  entry_basis,
+  link_basis,
+}
 use Rattle.cl_findings.specs.declared.basis.Basis.{Basis}
 use Rattle.cl_findings.specs.declared.basis.Basis.TheVariants as bases
 use Rattle.cl_findings.specs.declared.load.NextRecord.TheVariants as nexts
@@ -51,56 +41,20 @@ at_refused {A} (ats.Away h) = Some (next_need {A = A} (nexts.Initiate h))
 
 -- what an answer of a request rests on (5.3 to 5.4.3)
 abbrev pub based : {A : Type 0} → request.Request → Basis A → Based
-based r (bases.Load target path at) = record {
-  config = path.config;
-  needs = target_needs r target ++ (kept_of (frames_of path) ++ at_needs path at);
-  prepared = [];
-  refused = at_refused at;
-}
-based r (bases.Entry config d) =
-    record {
-      config = config.value;
-      needs = class_need r d.value.class ∷ [];
-      prepared = [];
-      refused = None;
-    }
-based r (bases.Class config d c) =
-    record {
-      config = config.value;
-      needs = reference_needs r d.value.class c.value.class;
-      prepared = [];
-      refused = None;
-    }
-based r (bases.Lookup d c) =
-    record {
-      config = d.config;
-      needs = reference_needs r d.own.class c.own.class;
-      prepared = [];
-      refused = None;
-    }
-based r (bases.Asked e met) = record {
-  config = config_of e.value.origin;
-  needs = sprung_needs r e.value.origin ++ take met (imposed.needs_of e.value.needs);
-  prepared = [];
-  refused = slice_get (imposed.needs_of e.value.needs) met;
-}
-based r (bases.Linked l place e met) = record {
-  config = l.config;
-  needs = class_need r l.own.class ∷ take met (imposed.needs_of e.value.needs);
-  prepared = map (λ row. row.class) (take place (rows_in l));
-  refused = slice_get (imposed.needs_of e.value.needs) met;
-}
+based r (bases.Load target path at) =
+    load_basis r target path (at_needs path at) (at_refused at)
+based r (bases.Entry config d) = entry_basis config.value r d.value.class
+based r (bases.Class config d c) = class_basis config.value r d.value.class c.value.class
+based r (bases.Lookup d c) = class_basis d.config r d.own.class c.own.class
+based r (bases.Asked e met) =
+    asked_basis r e.value met (slice_get (imposed.needs_of e.value.needs) met)
+based r (bases.Linked l place e met) =
+    link_basis r l place e.value met (slice_get (imposed.needs_of e.value.needs) met)
 
 -- the file of the class that a target names is what that one's bytes spell (5.3.5)
 abbrev pub IsSpeltIn : {A : Type 0} → Option Content → Target A → Type 0
 IsSpeltIn told targets.Own = Unit {0}
 IsSpeltIn told (targets.Reference d) = IsSpelt told d.value.class d.value.file
-
--- a state has the needs and the prepared classes, and refuses what is refused (5.3 to 5.4.3)
-abbrev pub Carries : State → Based → Type 0
-Carries s b =
-    AllMet s b.needs × AllByRecursion (Contains s.prepared) b.prepared
-    × IfSome b.refused (Refused s)
 
 -- the lineages that a list of equalities was made from are such (5.3.5)
 abbrev pub AreLineages : Option Content → Sprung → Type 0

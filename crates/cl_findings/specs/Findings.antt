@@ -3,7 +3,6 @@ use Rattle.std.specs.Prelude.{
   ◌≡◌,
   ◌<◌,
   ℕ,
-  Bool,
   List,
   ◌∷◌,
   ◌++◌,
@@ -11,11 +10,11 @@ use Rattle.std.specs.Prelude.{
   Option,
   Some,
   None,
-  MatchBool,
   IfSome,
   Contains,
 }
 use Rattle.std.specs.List.{AllByRecursion}
+pub use Rattle.cl_names.specs.Truth.{Decides}
 use Rattle.cl_model.specs.declared.verdict.Verdict.TheVariants as verdicts
 use Rattle.cl_model.specs.declared.verdict.Verdict as verdict
 use Rattle.cl_model.specs.declared.answer.Answer as answer
@@ -65,6 +64,10 @@ pub record Answered : Type 0 where
   pub request : request.Request
   pub answer : answer.Answer
   pub basis : Option Based
+
+-- a request is answered with a verdict, which rests on this (5.3 to 5.4.3)
+abbrev pub grounded : request.Request → verdict.Verdict → Based → Answered
+grounded r v b = record { request = r; answer = answers.Said v; basis = Some b }
 
 -- through which loader a request loads its class (5.3)
 abbrev pub loader_of : request.Request → ℕ
@@ -179,24 +182,23 @@ Rests (Some content) f = AnswerRests content f.request f.answer f.basis
 
 -- ---- in the words of tables
 
--- a test tells whether this holds
-abbrev pub Decides : Bool → Type 0 → Type 0
-Decides b P = MatchBool b P (P → ⊥)
-
 -- the loader of the request, and those that the text of the answer names, are of a configuration
 -- of so many loaders
 pub record IsWithin (count : ℕ) (f : Answered) : Type 0 where
   pub loader : loader_of f.request < count
   pub answer : AnswerNames count f.answer
 
--- what an answer rests on was found under this configuration, and stands in a state: its needs are
--- met, its classes are prepared, and the need that is refused, if one is, is refused there
--- (5.3 to 5.4.3)
+-- a state has the needs and the prepared classes that an answer rests on, and refuses the need that
+-- is refused, if one is (5.3 to 5.4.3)
+abbrev pub Carries : State → Based → Type 0
+Carries s b =
+    AllMet s b.needs × AllByRecursion (Contains s.prepared) b.prepared
+    × IfSome b.refused (Refused s)
+
+-- what an answer rests on was found under this configuration, and a state carries it (5.3 to 5.4.3)
 pub record IsBorne (c : Configured) (s : State) (b : Based) : Type 0 where
   pub config : b.config ≡ c
-  pub needs : AllMet s b.needs
-  pub prepared : AllByRecursion (Contains s.prepared) b.prepared
-  pub refused : IfSome b.refused (Refused s)
+  pub carried : Carries s b
 
 -- there is something that it rests on, and it stands (5.3 to 5.4.3)
 abbrev pub BasisStands : Configured → State → Option Based → Type 0

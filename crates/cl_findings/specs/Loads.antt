@@ -1,7 +1,7 @@
 -- How the load of a class ends: an obstacle, or a record that is refused
 -- (JVMS SE 8, 5.3, 5.3.4, 5.3.5).
 use Rattle.std.specs.Prelude.{◌≡◌, ◌≢◌, ℕ, true, false, List, [], ◌∷◌, ◌++◌, Option, Some, None}
-use Rattle.cl_classfile.specs.Files.{file_of, Reference, reference}
+use Rattle.cl_classfile.specs.Files.{file_of, Name, Reference, reference}
 use Rattle.cl_model.specs.declared.verdict.ErrorKind.{ErrorKind}
 use Rattle.cl_model.specs.declared.verdict.ErrorKind.TheVariants as kinds
 use Rattle.cl_model.specs.declared.verdict.Verdict as verdict
@@ -10,17 +10,20 @@ use Rattle.cl_model.specs.declared.request.Request as request
 use Rattle.cl_model.specs.Content.{Content}
 use Rattle.cl_model.specs.Classes.{class}
 use Rattle.cl_model.specs.States.{Need, Entry}
-use Rattle.cl_model.specs.Frames.{IsFrame, class_named, kept_of, path_of, wanted}
+use Rattle.cl_model.specs.Frames.{IsFrame, kept_of, path_of, wanted}
+use Rattle.cl_model.specs.Plans.{class_named}
 use Rattle.cl_model.specs.Views.{error_of}
 use Rattle.cl_delegation.specs.Searches.{Located}
 use Rattle.cl_delegation.specs.Worlds.{world_of}
 use Rattle.cl_hierarchy.specs.declared.draft.DraftFault.{DraftFault}
 use Rattle.cl_hierarchy.specs.declared.draft.DraftFault.TheVariants as drafts
-use Rattle.cl_hierarchy.specs.Drafts.{Drafted}
+use Rattle.cl_hierarchy.specs.Drafts.{Drafted, home_class}
 use Rattle.cl_hierarchy.specs.Frames.{Framed, frame_of}
 use Rattle.cl_hierarchy.specs.Paths.{Pathed, frames_of, at_loader, at_name, is_on, misfit_under}
 use Rattle.cl_hierarchy.specs.Rows.{Rowed}
+use Rattle.cl_config.specs.Views.{Configured}
 use Rattle.cl_findings.specs.Findings.{Based, Resolves, loader_of, name_of}
+use Rattle.cl_findings.specs.References.{class_need}
 use Rattle.cl_findings.specs.declared.load.Target.{Target}
 use Rattle.cl_findings.specs.declared.load.Target.TheVariants as targets
 use Rattle.cl_findings.specs.declared.load.Obstacle.{Obstacle}
@@ -53,14 +56,23 @@ IsFor r (targets.Reference d) p = IsReferred r d.value p
 -- the record of the request's class, where that is loaded already (5.3)
 abbrev pub target_needs : {A : Type 0} → request.Request → Target A → List Need
 target_needs r targets.Own = []
-target_needs r (targets.Reference d) =
-    Entry (loader_of r) d.value.class.name d.value.class.loader ∷ []
+target_needs r (targets.Reference d) = class_need r d.value.class ∷ []
+
+-- where a path is, this loader is asked for this name, under this configuration (5.3.2)
+pub record LooksFor (p : Pathed) (c : Configured) (loader : ℕ) (n : Name) : Type 0 where
+  pub config : c ≡ p.config
+  pub asked : loader ≡ at_loader p
+  pub name : n ≡ at_name p
 
 -- the home is that of what is looked for (5.3.2)
-pub record IsSought (p : Pathed) (h : Located) : Type 0 where
-  pub config : h.config ≡ p.config
-  pub asked : h.asked ≡ at_loader p
-  pub name : h.name ≡ at_name p
+abbrev pub IsSought : Pathed → Located → Type 0
+IsSought p h = LooksFor p h.config h.asked h.name
+
+-- a class does not fit as the supertype that is looked for, with an error of this kind
+-- (5.3.5, steps 3 and 4)
+abbrev pub IsMisfit : Pathed → Rowed → ErrorKind → Type 0
+IsMisfit p row kind =
+    misfit_under p.frames row.class (file_of row.file) ≡ Some (error_of kind row.class)
 
 -- ---- obstacles
 
@@ -68,14 +80,12 @@ pub record IsSought (p : Pathed) (h : Located) : Type 0 where
 -- class is being derived already; or it is recorded and does not fit as the supertype that is
 -- looked for (5.3.5)
 abbrev pub Stops : {A : Type 0} → Pathed → Obstacle A → Type 0
-Stops p (obstacles.Missing u) =
-    (u.config ≡ p.config) × (u.asked ≡ at_loader p) × (u.name ≡ at_name p)
+Stops p (obstacles.Missing u) = LooksFor p u.config u.asked u.name
 Stops p (obstacles.Unreadable u) =
-    IsSought p u.home × (is_on p (class u.home.name u.home.place) ≡ false)
-Stops p (obstacles.Circle h) = IsSought p h × (is_on p (class h.name h.place) ≡ true)
+    IsSought p u.home × (is_on p (home_class u.home) ≡ false)
+Stops p (obstacles.Circle h) = IsSought p h × (is_on p (home_class h) ≡ true)
 Stops p (obstacles.Misfit row c kind) =
-    (row.value.class ≡ c) × (c.name ≡ at_name p)
-    × (misfit_under p.frames c (file_of row.value.file) ≡ Some (error_of kind c))
+    (row.value.class ≡ c) × (c.name ≡ at_name p) × IsMisfit p row.value kind
 
 -- the error of bytes that are not their class (5.3.5, steps 1 and 2)
 abbrev pub kind_of : DraftFault → ErrorKind
@@ -95,9 +105,9 @@ abbrev pub verdict_at : {A B : Type 0} → Target A → Pathed → Obstacle B �
 verdict_at t p (obstacles.Missing u) =
     verdicts.Error (missing_kind t p.frames) (class u.name u.asked)
 verdict_at t p (obstacles.Unreadable u) =
-    verdicts.Error (kind_of u.fault) (class u.home.name u.home.place)
+    verdicts.Error (kind_of u.fault) (home_class u.home)
 verdict_at t p (obstacles.Circle h) =
-    verdicts.Error kinds.ClassCircularityError (class h.name h.place)
+    verdicts.Error kinds.ClassCircularityError (home_class h)
 verdict_at t p (obstacles.Misfit row c kind) = verdicts.Error kind c
 
 -- the record that an obstacle goes over: a class that does not fit is recorded by the loader that
@@ -108,15 +118,20 @@ needs_at p (obstacles.Unreadable u) = []
 needs_at p (obstacles.Circle h) = []
 needs_at p (obstacles.Misfit row c kind) = Entry (at_loader p) c.name c.loader ∷ []
 
--- what the error rests on: the request's class, where that is loaded already, what the path has
--- accepted, and the obstacle (5.3, 5.3.5)
-abbrev pub basis_at : {A B : Type 0} → request.Request → Target A → Pathed → Obstacle B → Based
-basis_at r t p end = record {
+-- what the end of a load rests on: the request's class, where that is loaded already, what the path
+-- has accepted, and more; and the record that is refused there, if one is (5.3, 5.3.4, 5.3.5)
+abbrev pub load_basis : {A : Type 0} → request.Request → Target A → Pathed → List Need
+    → Option Need → Based
+load_basis r t p more refused = record {
   config = p.config;
-  needs = target_needs r t ++ (kept_of (frames_of p) ++ needs_at p end);
+  needs = target_needs r t ++ (kept_of (frames_of p) ++ more);
   prepared = [];
-  refused = None;
+  refused = refused;
 }
+
+-- what the error rests on: the obstacle as well (5.3, 5.3.5)
+abbrev pub basis_at : {A B : Type 0} → request.Request → Target A → Pathed → Obstacle B → Based
+basis_at r t p end = load_basis r t p (needs_at p end) None
 
 -- ---- records
 
@@ -163,12 +178,6 @@ abbrev pub next_need : {A : Type 0} → NextRecord A → Need
 next_need (nexts.Define x) = own_record x.draft
 next_need (nexts.Initiate h) = asked_record h.value
 
--- what its refusal rests on: the request's class, where that is loaded already, what the path has
--- accepted, and what the record needs before it (5.3, 5.3.4)
+-- what its refusal rests on: what the record needs before it as well (5.3, 5.3.4)
 abbrev pub refused_at : {A B : Type 0} → request.Request → Target A → Pathed → NextRecord B → Based
-refused_at r t p x = record {
-  config = p.config;
-  needs = target_needs r t ++ (kept_of (frames_of p) ++ next_needs x);
-  prepared = [];
-  refused = Some (next_need x);
-}
+refused_at r t p x = load_basis r t p (next_needs x) (Some (next_need x))

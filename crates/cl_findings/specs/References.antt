@@ -34,16 +34,14 @@ use Rattle.cl_model.specs.declared.verdict.Verdict.TheVariants as verdicts
 use Rattle.cl_model.specs.declared.request.Request as request
 use Rattle.cl_model.specs.declared.request.Request.TheVariants as requests
 use Rattle.cl_model.specs.declared.class.Class.{Class}
-use Rattle.cl_model.specs.Classes.{IllegalAccess, class_accessible}
+use Rattle.cl_model.specs.Classes.{IllegalAccess}
 use Rattle.cl_model.specs.States.{Need, Entry, Verdict, BadEntry, Wrong}
-use Rattle.cl_model.specs.Frames.{class_named}
-use Rattle.cl_model.specs.Plans.{class_verdict}
-use Rattle.cl_model.specs.References.{nameless}
+use Rattle.cl_model.specs.Plans.{class_verdict, class_named, nameless}
 use Rattle.cl_config.specs.Views.{Configured}
 use Rattle.cl_hierarchy.specs.Imposed.{Sprung, OfReference, OfPreparation, Listed}
 use Rattle.cl_hierarchy.specs.Imposed as imposed
 use Rattle.cl_hierarchy.specs.Lineages.{Lined, kin_of, rows_in}
-use Rattle.cl_hierarchy.specs.Rows.{Rowed}
+use Rattle.cl_hierarchy.specs.Rows.{Rowed, row_accessible}
 use Rattle.cl_members.specs.Asking.{Located}
 use Rattle.cl_members.specs.Asking as asking
 use Rattle.cl_members.specs.declared.fault.LookupFault.{LookupFault}
@@ -98,7 +96,7 @@ pub record IsAtClass (r : request.Request) (d c : Rowed) (v : Verdict) : Type 0 
   pub cited : Reference
   pub found : reference (file_of d.file) (index_of r) ≡ Some cited
   pub names : class_named cited ≡ Some c.class.name
-  pub ends : EndsAtClass (class_accessible (file_of c.file).flags c.class d.class) cited c.class v
+  pub ends : EndsAtClass (row_accessible c d.class) cited c.class v
 
 -- what an end of an entry rests on: the request's class is recorded (5.3)
 abbrev pub entry_basis : Configured → request.Request → Class → Based
@@ -117,7 +115,7 @@ class_basis config r d c =
 pub record GoesTo (r : request.Request) (d c : Lined) (index : ℕ) : Type 0 where
   pub of : Resolves r d.own.class.name index
   pub config : c.config ≡ d.config
-  pub accessible : class_accessible (kin_of c).file.flags (kin_of c).class (kin_of d).class ≡ true
+  pub accessible : row_accessible c.own d.own.class ≡ true
 
 -- the verdict is that of the member that was found (5.4.3.2 to 5.4.3.4)
 abbrev pub IsOfFound : Located → Verdict → Type 0
@@ -171,14 +169,15 @@ abbrev pub sprung_needs : request.Request → Sprung → List Need
 sprung_needs r (OfReference d c index) = reference_needs r d.own.class c.own.class
 sprung_needs r (OfPreparation at) = class_need r at.own.class ∷ []
 
--- what the refusal of an equality of a reference rests on: the two classes are recorded, and those
--- before it are imposed (5.3.4, 5.4.3)
-abbrev pub asked_basis : request.Request → Listed → ℕ → Need → Based
+-- what an answer rests on that comes at the equality at a place of a reference's list: the two
+-- classes are recorded, and those before it are imposed; this one, if one is, is refused
+-- (5.3.4, 5.4.3)
+abbrev pub asked_basis : request.Request → Listed → ℕ → Option Need → Based
 asked_basis r e k refused = record {
   config = config_of e.origin;
   needs = sprung_needs r e.origin ++ take k (imposed.needs_of e.needs);
   prepared = [];
-  refused = Some refused;
+  refused = refused;
 }
 
 -- the request links the class of a lineage, and the equalities are those of the preparation of its
@@ -190,13 +189,13 @@ pub record AreLinked (r : request.Request) (l : Lined) (place : ℕ) (from : Spr
   pub config : at.config ≡ l.config
   pub there : option_map (λ row. row.class) (slice_get (rows_in l) place) ≡ Some at.own.class
 
--- what the refusal of an equality of a preparation rests on: the request's class is recorded, the
--- classes before the place in its lineage are prepared, and the equalities before it are imposed
--- (5.3.4, 5.4.2)
-abbrev pub link_basis : request.Request → Lined → ℕ → Listed → ℕ → Need → Based
+-- what an answer rests on that comes at the equality at a place of a preparation's list: the
+-- request's class is recorded, the classes before the place in its lineage are prepared, and the
+-- equalities before it are imposed; this one, if one is, is refused (5.3.4, 5.4.2)
+abbrev pub link_basis : request.Request → Lined → ℕ → Listed → ℕ → Option Need → Based
 link_basis r l place e k refused = record {
   config = l.config;
   needs = class_need r l.own.class ∷ take k (imposed.needs_of e.needs);
   prepared = map (λ row. row.class) (take place (rows_in l));
-  refused = Some refused;
+  refused = refused;
 }

@@ -2,13 +2,9 @@
 use Rattle.std.specs.Prelude.{Bool, Contains}
 use Rattle.cl_model.specs.declared.class.Class.{Class}
 use Rattle.cl_model.specs.States.{State}
-use Rattle.cl_constraints.specs.Books.{Wherever}
+use Rattle.cl_constraints.specs.Books.{TellsOf}
 use Rattle.cl_config.specs.Views.{Configured}
-use Rattle.cl_findings.specs.Findings.{Answered, Decides, Stands}
-
--- a test tells whether this holds in each state that tables stand for
-abbrev pub TellsOf : (State → Type 0) → Bool → (State → Type 0) → Type 0
-TellsOf stands answer holds = Wherever stands (λ s. Decides answer (holds s))
+use Rattle.cl_findings.specs.Findings.{Answered, Stands}
 
 -- the answer tells whether a class is prepared (5.4.2)
 abbrev pub TellsPrepared : (State → Type 0) → Class → Bool → Type 0

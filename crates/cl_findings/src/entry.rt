@@ -1,8 +1,8 @@
 //! How entries end without a look at members.
 
-ghost use Rattle.std.specs.Prelude.{◌≡◌, Some};
-ghost use Rattle.cl_model.specs.declared.answer.Answer.TheVariants as answers;
+ghost use Rattle.std.specs.Prelude.{◌≡◌};
 ghost use Rattle.cl_model.specs.Views.{verdict_of};
+ghost use Rattle.cl_findings.specs.Findings.{grounded};
 ghost use Rattle.cl_findings.specs.References.{IsAtClass, IsAtOnce, class_basis, entry_basis};
 
 use crate::basis::Basis;
@@ -22,9 +22,8 @@ impl<T: Told> Finding<T> {
         verdict: Verdict,
     ) -> Finding<T>
         requires ends { IsAtOnce request d.value (verdict_of verdict) }
-        ensures request { result.request ≡ request }
-        ensures answer { result.answer ≡ answers.Said verdict }
-        ensures basis { result.basis ≡ Some (entry_basis config.value request d.value.class) }
+        ensures { result ≡ grounded request verdict
+            (entry_basis config.value request d.value.class) }
     {
         // brings that the file is what the class's bytes spell, where a content is told
         let _ = d.class();
@@ -41,10 +40,8 @@ impl<T: Told> Finding<T> {
         verdict: Verdict,
     ) -> Finding<T>
         requires ends { IsAtClass request d.value c.value (verdict_of verdict) }
-        ensures request { result.request ≡ request }
-        ensures answer { result.answer ≡ answers.Said verdict }
-        ensures basis { result.basis
-            ≡ Some (class_basis config.value request d.value.class c.value.class) }
+        ensures { result ≡ grounded request verdict
+            (class_basis config.value request d.value.class c.value.class) }
     {
         // brings that the files are what the classes' bytes spell, where a content is told
         let _ = d.class();

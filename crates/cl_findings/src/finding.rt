@@ -1,10 +1,10 @@
 //! Findings: requests with their answers.
 
-ghost use Rattle.std.specs.Prelude.{◌≡◌, None, Some};
+ghost use Rattle.std.specs.Prelude.{◌≡◌, None};
 ghost use Rattle.cl_model.specs.declared.verdict.Verdict.TheVariants as verdicts;
 ghost use Rattle.cl_model.specs.declared.answer.Answer.TheVariants as answers;
 ghost use Rattle.cl_findings.specs.Bases.{based};
-ghost use Rattle.cl_findings.specs.Findings.{IsLink, IsLoad, IsSettledFor, Rests};
+ghost use Rattle.cl_findings.specs.Findings.{IsLink, IsLoad, IsSettledFor, Rests, grounded};
 
 use crate::basis::Basis;
 use cl_model::{Answer, Class, LoaderId, Request, Settled, Told, Verdict};
@@ -44,16 +44,8 @@ impl<T: Told> Model for Finding<T> {
 impl<T: Told> Finding<T> {
     /// A verdict that rests on this (JVMS SE 8, 5.3 to 5.4.3).
     pub(crate) fn said(request: Request, verdict: Verdict, basis: Basis<T>) -> Finding<T>
-        requires { Rests T.told (record {
-          request = request;
-          answer = answers.Said verdict;
-          basis = Some (based request basis);
-        }) }
-        ensures { result ≡ record {
-          request = request;
-          answer = answers.Said verdict;
-          basis = Some (based request basis);
-        } }
+        requires { Rests T.told (grounded request verdict (based request basis)) }
+        ensures { result ≡ grounded request verdict (based request basis) }
     {
         Finding {
             request,

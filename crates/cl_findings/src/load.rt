@@ -1,12 +1,11 @@
 //! How a load ends.
 
 ghost use Rattle.std.specs.Prelude.{◌≡◌, None, Some};
-ghost use Rattle.cl_model.specs.Classes.{class};
-ghost use Rattle.cl_model.specs.declared.answer.Answer.TheVariants as answers;
+ghost use Rattle.cl_hierarchy.specs.Drafts.{home_class};
 ghost use Rattle.cl_model.specs.declared.verdict.Verdict.TheVariants as verdicts;
 ghost use Rattle.cl_model.specs.Views.{need_of};
 ghost use Rattle.cl_findings.specs.Bases.{IsSpeltIn, at_needs, at_refused};
-ghost use Rattle.cl_findings.specs.Findings.{Rests};
+ghost use Rattle.cl_findings.specs.Findings.{Rests, grounded};
 ghost use Rattle.cl_findings.specs.Loads.{ComesNext, IsFor, Stops, basis_at, kind_of, missing_kind, needs_at, next_need, next_needs, refused_at, verdict_at};
 
 use crate::basis::{At, Basis};
@@ -86,7 +85,7 @@ fn bring_row<T: Told>(target: &Target<T>)
 
 /// The class of a home.
 fn class_of<T: Told>(home: Home<T>) -> Class
-    ensures { result ≡ class home.name home.place }
+    ensures { result ≡ home_class home }
 {
     let loader = home.place();
     Class {
@@ -114,11 +113,8 @@ fn end_at<T: Told>(
     ensures verdict { result.verdict ≡ verdict_at target.now path.now end }
     ensures needs { at_needs path.now result.at ≡ needs_at path.now end }
     ensures refused { at_refused result.at ≡ None }
-    ensures rests { Rests T.told (record {
-      request = request.now;
-      answer = answers.Said result.verdict;
-      basis = Some (basis_at request.now target.now path.now end);
-    }) }
+    ensures rests { Rests T.told (grounded request.now result.verdict
+        (basis_at request.now target.now path.now end)) }
 {
     // brings what a path keeps
     let _ = path.config();
@@ -180,11 +176,8 @@ fn refused_at<T: Told>(
     requires need { need_of need.now ≡ next_need next }
     ensures needs { at_needs path.now result ≡ next_needs next }
     ensures refused { at_refused result ≡ Some (next_need next) }
-    ensures rests { Rests T.told (record {
-      request = request.now;
-      answer = answers.Said (verdicts.Linkage need.now);
-      basis = Some (refused_at request.now target.now path.now next);
-    }) }
+    ensures rests { Rests T.told (grounded request.now (verdicts.Linkage need.now)
+        (refused_at request.now target.now path.now next)) }
 {
     // brings what a path keeps
     let _ = path.config();
@@ -211,9 +204,8 @@ impl<T: Told> Finding<T> {
     ) -> Finding<T>
         requires path { IsFor request target path }
         requires stops { Stops path end }
-        ensures request { result.request ≡ request }
-        ensures answer { result.answer ≡ answers.Said (verdict_at target path end) }
-        ensures basis { result.basis ≡ Some (basis_at request target path end) }
+        ensures { result ≡ grounded request (verdict_at target path end)
+            (basis_at request target path end) }
     {
         let end = end_at(&request, &target, &path, end);
         let basis = Basis::Load {
@@ -235,9 +227,8 @@ impl<T: Told> Finding<T> {
         requires path { IsFor request target path }
         requires next { ComesNext T.told path next }
         requires need { need_of need ≡ next_need next }
-        ensures request { result.request ≡ request }
-        ensures answer { result.answer ≡ answers.Said (verdicts.Linkage need) }
-        ensures basis { result.basis ≡ Some (refused_at request target path next) }
+        ensures { result ≡ grounded request (verdicts.Linkage need)
+            (refused_at request target path next) }
     {
         let at = refused_at(&request, &target, &path, next, &need);
         Finding::said(

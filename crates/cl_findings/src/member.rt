@@ -1,9 +1,9 @@
 //! How entries that ask for members end.
 
-ghost use Rattle.std.specs.Prelude.{◌≡◌, Some};
-ghost use Rattle.cl_model.specs.declared.answer.Answer.TheVariants as answers;
+ghost use Rattle.std.specs.Prelude.{◌≡◌};
 ghost use Rattle.cl_model.specs.Views.{verdict_of};
 ghost use Rattle.cl_hierarchy.specs.Imposed.{OfReference};
+ghost use Rattle.cl_findings.specs.Findings.{grounded};
 ghost use Rattle.cl_findings.specs.References.{GoesTo, IsOfFound, IsLookupError, class_basis, index_of, member_basis};
 
 use crate::basis::Basis;
@@ -25,9 +25,8 @@ impl<T: Told> Finding<T> {
         requires origin { equalities.value.origin ≡ OfReference found.now.d found.now.c
             found.now.index }
         requires verdict { IsOfFound found.now (verdict_of verdict) }
-        ensures request { result.request ≡ request }
-        ensures answer { result.answer ≡ answers.Said verdict }
-        ensures basis { result.basis ≡ Some (member_basis request found.now equalities.value) }
+        ensures { result ≡ grounded request verdict
+            (member_basis request found.now equalities.value) }
     {
         // brings what is kept of the member, of its equalities, and of the classes' lineages
         let _ = found.index();
@@ -48,10 +47,8 @@ impl<T: Told> Finding<T> {
     ) -> Finding<T>
         requires reference { GoesTo request d c (index_of request) }
         requires lookup { IsLookupError d c (index_of request) verdict }
-        ensures request { result.request ≡ request }
-        ensures answer { result.answer ≡ answers.Said verdict }
-        ensures basis { result.basis
-            ≡ Some (class_basis d.config request d.own.class c.own.class) }
+        ensures { result ≡ grounded request verdict
+            (class_basis d.config request d.own.class c.own.class) }
     {
         // brings what is kept of the classes' lineages
         let _ = d.class();

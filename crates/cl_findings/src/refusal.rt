@@ -1,11 +1,11 @@
 //! Equalities that are refused (JVMS SE 8, 5.3.4).
 
 ghost use Rattle.std.specs.Prelude.{◌≡◌, Some, slice_get};
-ghost use Rattle.cl_model.specs.declared.answer.Answer.TheVariants as answers;
 ghost use Rattle.cl_model.specs.declared.verdict.Verdict.TheVariants as verdicts;
 ghost use Rattle.cl_model.specs.Views.{need_of};
 ghost use Rattle.cl_hierarchy.specs.Imposed.{needs_of};
 ghost use Rattle.cl_findings.specs.Bases.{IsListed};
+ghost use Rattle.cl_findings.specs.Findings.{grounded};
 ghost use Rattle.cl_findings.specs.References.{AreAsked, AreLinked, asked_basis, link_basis};
 
 use crate::basis::Basis;
@@ -40,10 +40,8 @@ impl<T: Told> Finding<T> {
     ) -> Finding<T>
         requires reference { AreAsked request equalities.value.origin }
         requires need { slice_get (needs_of equalities.value.needs) index ≡ Some (need_of need) }
-        ensures request { result.request ≡ request }
-        ensures answer { result.answer ≡ answers.Said (verdicts.Linkage need) }
-        ensures basis { result.basis ≡ Some (asked_basis request equalities.value index
-            (need_of need)) }
+        ensures { result ≡ grounded request (verdicts.Linkage need)
+            (asked_basis request equalities.value index (Some (need_of need))) }
     {
         bring_lineages(&equalities);
         let basis = Basis::Asked {
@@ -66,10 +64,8 @@ impl<T: Told> Finding<T> {
     ) -> Finding<T>
         requires link { AreLinked request lineage place equalities.value.origin }
         requires need { slice_get (needs_of equalities.value.needs) index ≡ Some (need_of need) }
-        ensures request { result.request ≡ request }
-        ensures answer { result.answer ≡ answers.Said (verdicts.Linkage need) }
-        ensures basis { result.basis
-            ≡ Some (link_basis request lineage place equalities.value index (need_of need)) }
+        ensures { result ≡ grounded request (verdicts.Linkage need)
+            (link_basis request lineage place equalities.value index (Some (need_of need))) }
     {
         bring_lineages(&equalities);
         // brings what is kept of the lineage

@@ -1,20 +1,21 @@
 //! Whether tables bear what an answer rests on.
 
-ghost use Rattle.std.specs.Prelude.{◌≡◌, ◌++◌, ◌∷◌, Contains, IfSome, map, slice_get, take};
+ghost use Rattle.std.specs.Prelude.{◌≡◌, Contains, IfSome, map, slice_get, take};
 ghost use Rattle.std.specs.List.{AllByRecursion};
 ghost use Rattle.std.specs.Option.{option_map};
-ghost use Rattle.cl_model.specs.Frames.{Keeps, KeepsAccepted, kept_of};
+ghost use Rattle.cl_model.specs.Frames.{KeepsAccepted, kept_of};
 ghost use Rattle.cl_model.specs.declared.request.Request.{Request};
-ghost use Rattle.cl_model.specs.States.{AllMet, Met, Refused};
+ghost use Rattle.cl_model.specs.States.{AllMet, Met, Refused, Keeps};
 ghost use Rattle.cl_hierarchy.specs.Frames.{frame_of};
 ghost use Rattle.cl_hierarchy.specs.Imposed.{needs_of};
 ghost use Rattle.cl_hierarchy.specs.Lineages.{rows_in};
 ghost use Rattle.cl_hierarchy.specs.Paths.{frames_of};
-ghost use Rattle.cl_findings.specs.Bases.{Carries, at_needs, at_refused, based};
-ghost use Rattle.cl_findings.specs.Findings.{IsBorne};
-ghost use Rattle.cl_findings.specs.Loads.{target_needs};
-ghost use Rattle.cl_findings.specs.References.{class_need, reference_needs, sprung_needs};
-ghost use Rattle.cl_findings.specs.Tables.{TellsOf, TellsStanding};
+ghost use Rattle.cl_constraints.specs.Books.{TellsOf};
+ghost use Rattle.cl_findings.specs.Bases.{at_needs, at_refused, based};
+ghost use Rattle.cl_findings.specs.Findings.{Carries, IsBorne};
+ghost use Rattle.cl_findings.specs.Loads.{load_basis, target_needs};
+ghost use Rattle.cl_findings.specs.References.{asked_basis, class_need, link_basis, reference_needs, sprung_needs};
+ghost use Rattle.cl_findings.specs.Tables.{TellsStanding};
 
 use crate::basis::{At, Basis};
 use crate::finding::Finding;
@@ -253,9 +254,8 @@ fn load_stands<T: Told, X: Tables>(
     at: &At<T>,
 ) -> bool
     ensures { TellsOf (X.stands_for tables.now) result (λ s.
-        AllMet s (target_needs request.now target.now ++ (kept_of (frames_of path.now)
-        ++ at_needs path.now at.now))
-        × IfSome (at_refused at.now) (Refused s)) }
+        Carries s (load_basis request.now target.now path.now (at_needs path.now at.now)
+        (at_refused at.now))) }
 {
     if !target_stands(tables, request, target) {
         return false;
@@ -274,9 +274,8 @@ fn asked_stands<T: Told, X: Tables>(
     met: usize,
 ) -> bool
     ensures { TellsOf (X.stands_for tables.now) result (λ s.
-        AllMet s (sprung_needs request.now equalities.now.origin ++ take met
-        (needs_of equalities.now.needs))
-        × IfSome (slice_get (needs_of equalities.now.needs) met) (Refused s)) }
+        Carries s (asked_basis request.now equalities.now met
+        (slice_get (needs_of equalities.now.needs) met))) }
 {
     origin_stands(tables, request, equalities) && imposed_stand(tables, equalities, met)
 }
@@ -291,11 +290,8 @@ fn link_stands<T: Told, X: Tables>(
     met: usize,
 ) -> bool
     ensures { TellsOf (X.stands_for tables.now) result (λ s.
-        AllMet s (class_need request.now lineage.now.own.class ∷ take met
-        (needs_of equalities.now.needs))
-        × AllByRecursion (Contains s.prepared) (map
-        (λ r. r.class) (take place (rows_in lineage.now)))
-        × IfSome (slice_get (needs_of equalities.now.needs) met) (Refused s)) }
+        Carries s (link_basis request.now lineage.now place equalities.now met
+        (slice_get (needs_of equalities.now.needs) met))) }
 {
     if !class_stands(tables, request, lineage.class())
         || !classes_are_prepared(tables, lineage, place)

@@ -12,9 +12,9 @@ use Rattle.cl_model.specs.Content.{Content}
 use Rattle.cl_model.specs.Homes.{World, home, is_java, is_loader, own_home, home_at, home_below}
 use Rattle.cl_model.specs.Classes.{class, Above, AtHome, Fitting, FitsAt, Good, IsGood, HasFile, IsAtHome, misfit, supers}
 use Rattle.cl_model.specs.Classes as classes
-use Rattle.cl_model.specs.States.{State, Entry, MayAdd, recorded}
+use Rattle.cl_model.specs.States.{State, Entry, MayAdd, recorded, Keeps}
 use Rattle.cl_model.specs.Plans.{Load}
-use Rattle.cl_model.specs.Frames.{Frame, Judged, Accepts, Keeps}
+use Rattle.cl_model.specs.Frames.{Frame, Judged, Accepts}
 use Rattle.cl_model.specs.Machine.{Setting, Define, Initiate, IsClosed, May}
 use Rattle.cl_model.proofs.Closed.{Stands, runs_are_closed}
 use Rattle.cl_model.proofs.Bind.{ok_same, none_not_some, some_same}
@@ -28,8 +28,9 @@ use Rattle.cl_config.specs.Views.{Configured}
 use Rattle.cl_config.specs.Loaders.{loader_of}
 use Rattle.cl_delegation.specs.Worlds.{world_of, setting_of}
 use Rattle.cl_hierarchy.specs.Drafts.{Drafted, IsDraft}
+use Rattle.cl_hierarchy.specs.Rows.{FitsAs}
 use Rattle.cl_hierarchy.proofs.Placed.{spelt_file}
-use Rattle.cl_registry.specs.Tables.{Shown, steps, state_of, records_of, looked, place_in, FitsAs, IsKept}
+use Rattle.cl_registry.specs.Tables.{Shown, steps, state_of, records_of, looked, place_in, IsKept}
 use Rattle.cl_registry.specs.Allowed.{AllowedIsEntered, EnteredIsAllowed, AllowedIsJoined, JoinedIsAllowed, RoundIsAllowed, OtherConfigIsStray}
 use Rattle.cl_registry.proofs.Running.{may_add, may_be_added}
 use Rattle.cl_registry.proofs.Placed.{HasRow, recorded_row}

@@ -8,12 +8,12 @@ use Rattle.cl_model.specs.Classes.{Above, supers}
 use Rattle.cl_model.specs.States.{recorded}
 use Rattle.cl_delegation.specs.Searches.{Located}
 use Rattle.cl_hierarchy.specs.Drafts.{Drafted}
-use Rattle.cl_hierarchy.specs.Rows.{Rowed}
+use Rattle.cl_hierarchy.specs.Rows.{FitsAs, Rowed}
 use Rattle.cl_registry.specs.declared.registry.RegistryFault.{RegistryFault}
 use Rattle.cl_registry.specs.declared.registry.RegistryFault.TheVariants.{Memory, Stray, Violates, AlreadyPosted, NotYet}
-use Rattle.cl_registry.specs.Refusals.{InitiateRefusedFor, JoinRefusedFor}
+use Rattle.cl_registry.specs.Refusals.{InitiateRefusedFor, MemoryOrStray}
 use Rattle.cl_registry.specs.Parts.{EachHas, place_by, row_by}
-use Rattle.cl_registry.specs.Tables.{Shown, records_of, IsKept, looked, row_for, place_in, Records, LacksRecord, MayEnter, FitsAs, SupertypesFit, MayJoin, Defines, DefinedAs, Initiates, InitiatedAs}
+use Rattle.cl_registry.specs.Tables.{Shown, records_of, IsKept, looked, row_for, place_in, Records, LacksRecord, MayEnter, SupertypesFit, MayJoin, Defines, DefinedAs, Initiates, InitiatedAs}
 use Rattle.cl_registry.proofs.Looked.{place_looked, looked_records, looked_lacks}
 
 is_some_map : {A B : Type 0} (f : A → B) (o : Option A) → is_some (option_map f o) ≡ is_some o
@@ -107,7 +107,7 @@ module _ {R : Type 0} (value : R → Rowed) (told : Option Content) (x : Shown) 
   home_looked now h (Some r) row = sym (rows h.place h.name) ∙ ap (option_map value) row
 
 -- a home whose class may not be joined, where the loader that was asked has no record
-pub join_refused : (x : Shown) (h : Located) (fault : RegistryFault) → LacksRecord x h.asked h.name → JoinRefusedFor x h fault → InitiateRefusedFor x h fault
+pub join_refused : (x : Shown) (h : Located) (fault : RegistryFault) → LacksRecord x h.asked h.name → MemoryOrStray (MayJoin x h) fault → InitiateRefusedFor x h fault
 join_refused x h Memory fresh r = λ none. r
 join_refused x h Stray fresh r = (fresh, r)
 join_refused x h (Violates n) fresh r = absurd r

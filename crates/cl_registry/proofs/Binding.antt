@@ -19,9 +19,8 @@ use Rattle.cl_model.specs.Classes.{class, same_class}
 use Rattle.cl_model.specs.Texts.{AnswerNames, VerdictNames}
 use Rattle.cl_model.specs.States.{State, IsRecorded, settled_to, recorded}
 use Rattle.cl_model.specs.States as states
-use Rattle.cl_model.specs.Machine.{Settle, May}
+use Rattle.cl_model.specs.Machine.{Settle, May, MayKeep}
 use Rattle.cl_model.specs.Machine as machine
-use Rattle.cl_model.specs.Tables.{MayKeep}
 use Rattle.cl_model.specs.Views.{verdict_of}
 use Rattle.cl_model.proofs.Ancestors.{same_self}
 use Rattle.cl_model.proofs.Sound.{runs_are_sound}
@@ -78,8 +77,7 @@ module _ (told : Option Content) (x : Shown) (f : Answered) (s : Settled) (k : I
   may_keep = record {
     recorded = own;
     unsettled = (unsettled_is_told x s.class s.index unsettled).verdict;
-    is_entry = (apart_is s.verdict).0 to.says.is_entry;
-    is_class_member = (apart_is s.verdict).1 to.says.is_class_member;
+    settling = record { is_entry = (apart_is s.verdict).0 to.says.kind.is_entry; is_class_member = (apart_is s.verdict).1 to.says.kind.is_class_member };
   }
 
 -- what a finding settles may be settled by the machine
@@ -88,14 +86,10 @@ pub settled_is_allowed : (content : Content) (x : Shown) (f : Answered) (s : Set
 settled_is_allowed content x f s k rests free to =
     let g = setting_of x.config x.script content in
     let sound = runs_are_sound g (steps x) k.run in
-    let may = may_keep (Some content) x f s k free to in
     let cited = is_cited (Some content) x f s k free to in
     record {
-      recorded = may.recorded;
-      unsettled = may.unsettled;
+      may_keep = may_keep (Some content) x f s k free to;
       answered = standing_settles content x.config x.script (state_of x) f s.verdict cited.loader s.class.loader s.index s.class.name (record { rests = rests; sound = sound; stands = to.stands; said = to.says.said }) cited.request cited.recorded;
-      is_entry = may.is_entry;
-      is_class_member = may.is_class_member;
     }
 
 may_settle : (told : Option Content) (x : Shown) (f : Answered) (s : Settled) → IsKept told x → Rests told f → settled_by x f.request ≡ None → IsToSettle x f s → (content : Content) → told ≡ Some content
@@ -211,10 +205,10 @@ unsettled_by x c i none = at (settled_at x c i) refl
 
 pub allowed_is_settled : AllowedIsSettled
 allowed_is_settled content x f s k cited said stands may = (
-  settled_cited x f.request (record { class = s.class; index = s.index }) cited ∙ unsettled_by x s.class s.index may.unsettled,
+  settled_cited x f.request (record { class = s.class; index = s.index }) cited ∙ unsettled_by x s.class s.index may.may_keep.unsettled,
   record {
     cited = cited;
-    says = record { said = said; is_entry = λ e. may.is_entry (ap verdict_of e); is_class_member = λ e. may.is_class_member (ap verdict_of e) };
+    says = record { said = said; kind = record { is_entry = λ e. may.may_keep.settling.is_entry (ap verdict_of e); is_class_member = λ e. may.may_keep.settling.is_class_member (ap verdict_of e) } };
     stands = stands;
   },
 )

@@ -6,10 +6,10 @@ use Rattle.cl_classfile.specs.Files.{file_of}
 use Rattle.cl_model.specs.declared.class.Class.{Class}
 use Rattle.cl_model.specs.declared.need.Equality.{Equality}
 use Rattle.cl_model.specs.Content.{Content}
-use Rattle.cl_model.specs.Classes.{Above, AtHome, supers}
+use Rattle.cl_model.specs.Classes.{Above, AllAtHome, supers}
 use Rattle.cl_model.specs.Lineages.{Kin, IsLineage}
 use Rattle.cl_model.specs.Preparation.{constraints_of}
-use Rattle.cl_model.specs.States.{State, Need, Entry, Met, Refused, AllMet, IsNext}
+use Rattle.cl_model.specs.States.{State, Need, Keeps, Met, Refused, AllMet, IsNext}
 use Rattle.cl_model.specs.Machine.{HasLineage, IsClosed, MayConstrain}
 use Rattle.cl_model.proofs.Bind.{some_same}
 use Rattle.cl_model.proofs.Planned.{one_lineage}
@@ -73,7 +73,7 @@ imposed_is_allowed content x e k n kept listed may at unmet free = imposed_by co
 -- ---- preparations
 
 prepared_at_home : (content : Content) (x : Shown) (c : Class) (others : List Above) → IsClosed (world_of x.config content) (state_of x) → AllByRecursion (IsPreparedAbove x c) others
-    → AllByRecursion (λ (a : Above). AtHome (world_of x.config content) c (Contains (state_of x).prepared) a.name) others
+    → AllAtHome (world_of x.config content) c (Contains (state_of x).prepared) others
 prepared_at_home content x c [] closed h = tt
 prepared_at_home content x c (a ∷ others) closed h =
     (record { place = h.0.place; found = closed.homes c.loader h.0.place a.name h.0.recorded; holds = h.0.prepared }, prepared_at_home content x c others closed h.1)
@@ -83,8 +83,8 @@ marked_is_allowed content x l needs kept listed ready free =
     may_prepare (setting_of x.config x.script content) (state_of x) l.own.class (kin_of l) ready.stands.recorded free (lineage_at content x l listed.lineages ready.stands.config)
     (prepared_at_home content x l.own.class (supers (file_of l.own.file)) (closed_of content x kept) ready.above) (listed.are.met (state_of x) ready.imposed)
 
-home_prepared : (content : Content) (x : Shown) (c : Class) (others : List Above) → AllByRecursion (λ (a : Above). AtHome (world_of x.config content) c (Contains (state_of x).prepared) a.name) others
-    → AllByRecursion (λ (a : Above). AtHome (world_of x.config content) c (λ t. Met (state_of x) (Entry c.loader a.name t.loader)) a.name) others → AllByRecursion (IsPreparedAbove x c) others
+home_prepared : (content : Content) (x : Shown) (c : Class) (others : List Above) → AllAtHome (world_of x.config content) c (Contains (state_of x).prepared) others
+    → AllAtHome (world_of x.config content) c (Keeps (state_of x) c.loader) others → AllByRecursion (IsPreparedAbove x c) others
 home_prepared content x c [] h m = tt
 home_prepared content x c (a ∷ others) h m =
     let same = some_same m.0.place h.0.place (sym m.0.found ∙ h.0.found) in
@@ -95,13 +95,13 @@ allowed_is_marked content x l needs kept listed config may =
     let w = world_of x.config content in
     let s = state_of x in
     let lin = lineage_at content x l listed.lineages config in
-    let same : may.kin ≡ kin_of l = one_lineage w l.own.class may.kin (kin_of l) may.lineage lin in
+    let same : may.preparable.kin ≡ kin_of l = one_lineage w l.own.class may.preparable.kin (kin_of l) may.preparable.lineage lin in
     let file = subst (λ (c : Configured). IsLineage (world_of c content) (kin_of l)) config listed.lineages.lineage in
-    let above = subst (λ (k : Kin). AllByRecursion (λ (a : Above). AtHome w l.own.class (Contains s.prepared) a.name) (supers k.file)) same may.above in (
+    let above = subst (λ (k : Kin). AllAtHome w l.own.class (Contains s.prepared) (supers k.file)) same may.preparable.above in (
       record {
-        stands = record { config = config; recorded = may.recorded };
-        above = home_prepared content x l.own.class (supers (file_of l.own.file)) above ((closed_of content x kept).above l.own.class (file_of l.own.file) may.recorded file.has_file);
-        imposed = met_among s (constraints_of (kin_of l)) (needs_of needs) listed.are.among (subst (λ (k : Kin). AllMet s (constraints_of k)) same may.imposed);
+        stands = record { config = config; recorded = may.preparable.recorded };
+        above = home_prepared content x l.own.class (supers (file_of l.own.file)) above ((closed_of content x kept).above l.own.class (file_of l.own.file) may.preparable.recorded file.has_file);
+        imposed = met_among s (constraints_of (kin_of l)) (needs_of needs) listed.are.among (subst (λ (k : Kin). AllMet s (constraints_of k)) same may.preparable.imposed);
       },
       may.unprepared,
     )

@@ -19,8 +19,8 @@ use Rattle.cl_config.specs.Views.{Configured}
 use Rattle.cl_delegation.specs.Searches.{Located, LeadsTo}
 use Rattle.cl_delegation.specs.Worlds.{setting_of}
 use Rattle.cl_hierarchy.specs.Drafts.{IsDraft, IsSpelt, Drafted}
-use Rattle.cl_hierarchy.specs.Rows.{Rowed}
-use Rattle.cl_hierarchy.specs.RowTables.{HasItsFile, IsFound, IsRowAfter, StandAbove}
+use Rattle.cl_hierarchy.specs.Rows.{FitsAs, Rowed}
+use Rattle.cl_hierarchy.specs.RowTables.{HasItsFile, IsRowAfter, StandAbove}
 use Rattle.cl_hierarchy.proofs.RowTables.{rows_grow}
 use Rattle.cl_hierarchy.proofs.Climbs.{row_more}
 use Rattle.cl_hierarchy.proofs.Placed.{spelt_file}
@@ -30,8 +30,8 @@ use Rattle.cl_registry.specs.declared.registry.RegistryFault.{RegistryFault}
 use Rattle.cl_registry.specs.declared.registry.RegistryFault.TheVariants.{Memory, Stray, Violates, AlreadyPosted, NotYet}
 use Rattle.cl_registry.specs.Kept.{Fields, IsRegistry}
 use Rattle.cl_registry.specs.Parts.{IsPut}
-use Rattle.cl_registry.specs.Refusals.{AddRefusedFor, Blames, BlamesIn, DefineRefusedFor, InitiateRefusedFor, JoinRefusedFor}
-use Rattle.cl_registry.specs.Tables.{Shown, state_of, records_of, IsKept, ArePlaced, with_define, with_initiate, looked, row_for, place_in, FitsAs, IsNew, LacksRecord, MayEnter, MayJoin, Records, Defines, DefinedAs, Initiates, InitiatedAs}
+use Rattle.cl_registry.specs.Refusals.{AddRefusedFor, Blames, BlamesIn, DefineRefusedFor, InitiateRefusedFor, MemoryOrStray, RecordRefusedFor}
+use Rattle.cl_registry.specs.Tables.{Shown, state_of, records_of, IsKept, ArePlaced, with_define, with_initiate, looked, row_for, place_in, IsNew, LacksRecord, MayEnter, MayJoin, Records, Defines, DefinedAs, Initiates, InitiatedAs}
 use Rattle.cl_registry.proofs.Running.{may_record}
 use Rattle.cl_registry.proofs.Looked.{looked_push, looked_some, looked_records, at_self, fresh_row, row_push}
 use Rattle.cl_registry.proofs.Allowed.{closed_of, draft_at_home, entered_is_allowed, joined_is_allowed, recorded_at, row_of_some}
@@ -63,7 +63,7 @@ state_define : (x : Shown) (d : Drafted) → state_of (with_define x d) ≡ afte
 state_define x d = state_event x (x.rows ++ row_for x d ∷ []) (events.Define d.class)
 
 -- where a content is told, what is recorded is where the search leads to
-found_by : (told : Option Content) (x : Shown) (c : Class) (a : Above) (p : ℕ) → IsKept told x → recorded (records_of x) c.loader a.name ≡ Some p → IsFound told x.config c a p
+found_by : (told : Option Content) (x : Shown) (c : Class) (a : Above) (p : ℕ) → IsKept told x → recorded (records_of x) c.loader a.name ≡ Some p → LeadsTo told x.config c.loader a.name (Some p)
 found_by None x c a p k at = tt
 found_by (Some content) x c a p k at = (closed_of content x k).homes c.loader p a.name at
 
@@ -254,22 +254,21 @@ add_refused x stands need (Violates n) at free blames = absurd (free (blames.1 (
 add_refused x stands need AlreadyPosted at free blames = absurd blames
 add_refused x stands need NotYet at free blames = absurd blames
 
+record_refused : (x : Shown) (lacks may : Type 0) (need : Need) (fault : RegistryFault) → lacks → may → AddRefusedFor x need fault → RecordRefusedFor x lacks may need fault
+record_refused x lacks may need Memory fresh allowed r = λ new. allowed
+record_refused x lacks may need Stray fresh allowed r = absurd r
+record_refused x lacks may need (Violates n) fresh allowed r = (fresh, allowed, r)
+record_refused x lacks may need AlreadyPosted fresh allowed r = r
+record_refused x lacks may need NotYet fresh allowed r = r
+
 pub define_refused : (x : Shown) (d : Drafted) (fault : RegistryFault) → IsNew x d → MayEnter x d → AddRefusedFor x (own_record d) fault → DefineRefusedFor x d fault
-define_refused x d Memory fresh may r = λ new. may
-define_refused x d Stray fresh may r = absurd r
-define_refused x d (Violates n) fresh may r = (fresh, may, r)
-define_refused x d AlreadyPosted fresh may r = r
-define_refused x d NotYet fresh may r = r
+define_refused x d fault fresh may r = record_refused x (IsNew x d) (MayEnter x d) (own_record d) fault fresh may r
 
 pub initiate_refused : (x : Shown) (h : Located) (fault : RegistryFault) → LacksRecord x h.asked h.name → MayJoin x h → AddRefusedFor x (asked_record h) fault → InitiateRefusedFor x h fault
-initiate_refused x h Memory fresh may r = λ new. may
-initiate_refused x h Stray fresh may r = absurd r
-initiate_refused x h (Violates n) fresh may r = (fresh, may, r)
-initiate_refused x h AlreadyPosted fresh may r = r
-initiate_refused x h NotYet fresh may r = r
+initiate_refused x h fault fresh may r = record_refused x (LacksRecord x h.asked h.name) (MayJoin x h) (asked_record h) fault fresh may r
 
 -- a row that could not be shared once more is refused for memory
-pub share_refused : (x : Shown) (h : Located) (fault : RegistryFault) → MayJoin x h → (Refused (state_of x) (asked_record h) → ⊥) → JoinRefusedFor x h fault → AddRefusedFor x (asked_record h) fault
+pub share_refused : (x : Shown) (h : Located) (fault : RegistryFault) → MayJoin x h → (Refused (state_of x) (asked_record h) → ⊥) → MemoryOrStray (MayJoin x h) fault → AddRefusedFor x (asked_record h) fault
 share_refused x h Memory may free r = free
 share_refused x h Stray may free r = absurd (r may)
 share_refused x h (Violates n) may free r = absurd r

@@ -11,8 +11,7 @@ use Rattle.cl_model.specs.Lineages.{Forest, Bare, Tree, Kin, upward, preorder, o
 use Rattle.cl_model.specs.Preparation.{Split, splits, shifted, overrides, overridden, takes_part, class_names, equals_of, equals_with, for_declared, for_inherited, inherited_from, with_inherited, constraints_of}
 use Rattle.cl_model.specs.States.{Need, Entry, Equal, Verdict, IsField, IsMethod}
 use Rattle.cl_model.specs.Works.{Work, Made, done, need, or_fail, unless_wrong, ◌>>=◌}
-use Rattle.cl_model.specs.Plans.{class_verdict, resolve_found, resolve_field, resolve_method}
-use Rattle.cl_model.specs.References.{resolve_in}
+use Rattle.cl_model.specs.Plans.{class_verdict, resolve_found, resolve_field, resolve_method, resolve_in}
 use Rattle.cl_model.proofs.Bind.{pieces, some_same, ok_same, ok_not_err}
 use Rattle.cl_hierarchy.specs.Imposed.{needs_of}
 use Rattle.cl_hierarchy.specs.Lineages.{Lined, kin_of, rows_in}

@@ -62,7 +62,7 @@ said_borne content x q f v kept asked is may =
     let s = state_of x in
     let n = round_at x.script.requests x.script.rounds_of q f.request kept.trusted.script.each asked in
     let here : MayAnswer g s (request_of f.request) (answer_of f.answer) =
-    subst (λ (e : Scheduled). MayAnswer g s e.request (answer_of f.answer)) (entry_is x q n.0 f may.scheduled asked n.1 may.asked) may.may_answer in
+    subst (λ (e : Scheduled). MayAnswer g s e.request (answer_of f.answer)) (entry_is x q n.0 f may.scheduled asked n.1 may.asked) may.fits in
     let say : MaySay g s (request_of f.request) (verdict_of v) = subst (λ (a : rust.Answer). MayAnswer g s (request_of f.request) (answer_of a)) is here in
     may_bear g s (request_of f.request) (verdict_of v) (runs_are_closed g (steps x) kept.run) say
 
@@ -109,9 +109,11 @@ allowed_is_posted content x q f v kept asked is grounded may =
     let bears = said_borne content x q f v kept asked is may in
     let backed : VerdictBacked x f v = record { grounded = grounded; borne = bears } in
     record {
-      asked = asked;
-      begun = not_later content x q f (answer_of f.answer) asked may;
-      unanswered = open_still content x q f (answer_of f.answer) kept.trusted asked may;
+      may = record {
+        asked = asked;
+        begun = not_later content x q f (answer_of f.answer) asked may;
+        unanswered = open_still content x q f (answer_of f.answer) kept.trusted asked may;
+      };
       backed = record { within = within x f v kept.named is grounded bears; answer = subst (AnswerBacked x f) (sym is) backed };
     }
 

@@ -12,8 +12,7 @@ use Rattle.cl_model.specs.Classes.{class, NoClassDef, class_accessible}
 use Rattle.cl_model.specs.Lineages.{Kin}
 use Rattle.cl_model.specs.States.{State, Need, Verdict, recorded, AllMet}
 use Rattle.cl_model.specs.Works.{Work, Made, after_made, ◌>>=◌}
-use Rattle.cl_model.specs.Plans.{derive, load, resolve}
-use Rattle.cl_model.specs.References.{resolve_in, through}
+use Rattle.cl_model.specs.Plans.{derive, load, resolve, resolve_in, through}
 use Rattle.cl_model.specs.Machine.{HasLineage}
 use Rattle.cl_model.proofs.Bind.{Bound, pieces, some_same, value_same}
 use Rattle.cl_model.proofs.Closed.{all_right}

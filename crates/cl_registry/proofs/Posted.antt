@@ -80,7 +80,7 @@ same_or a b below above = by_test (nat_lt a b) (nat_lt b a) refl refl
 load_said : (g : Setting) (s : State) (l : ℕ) (name : Name) (c : Class) → IsSound g s → Records s l name c → MaySay g s (Load l name) (IsClass c)
 load_said g s l name c sound rec =
     let a : AnswersPlan g s (Load l name) (IsClass c) = subst (λ (n : Name). AnswersPlan g s (Load l name) (IsClass (class n c.loader))) (sym rec.0) (recorded_answers g s l c.loader name sound.closed rec.1) in
-    record { plan = a.plan; planned = a.planned; answered = a.answered; rests = tt }
+    record { answers = a; rests = tt }
 
 -- that of a class that is linked
 link_said : (g : Setting) (s : State) (l : ℕ) (name : Name) (c : Class) → IsSound g s → Records s l name c → Contains s.prepared c → MaySay g s (Link l name) (IsLinked c)
@@ -152,11 +152,11 @@ borne x f (answers.SourceFault n l) backed = tt
 -- a request that fits is of the round that is served
 pub in_its_round : (x : Shown) (q : ℕ) (f : Answered) → IsTrusted x → Fits x q f → (n : ℕ) × (slice_get x.script.rounds_of q ≡ Some n) × (n ≡ round_of x)
 in_its_round x q f trusted fits =
-    let n = round_at x.script.requests x.script.rounds_of q f.request trusted.script.each fits.asked in
-    let none = open_answer x.answers q fits.unanswered in (
+    let n = round_at x.script.requests x.script.rounds_of q f.request trusted.script.each fits.may.asked in
+    let none = open_answer x.answers q fits.may.unanswered in (
       n.0,
       n.1,
-      same_or n.0 (round_of x) (λ before. lacks (answer_at (answers_of x.answers) q) none (trusted.earlier q n.0 n.1 before)) (λ later. fits.begun (record { round = n.0; of = n.1; later = later })),
+      same_or n.0 (round_of x) (λ before. lacks (answer_at (answers_of x.answers) q) none (trusted.earlier q n.0 n.1 before)) (λ later. fits.may.begun (record { round = n.0; of = n.1; later = later })),
     )
 
 pub fitting_is_allowed : FittingIsAllowed
@@ -164,8 +164,8 @@ fitting_is_allowed content x q f kept fits rests =
     let n = in_its_round x q f kept.trusted fits in
     record {
       scheduled = scheduled f.request n.0;
-      asked = scheduled_at x.script.requests x.script.rounds_of q f.request n.0 fits.asked n.1;
+      asked = scheduled_at x.script.requests x.script.rounds_of q f.request n.0 fits.may.asked n.1;
       in_round = n.2;
-      unposted = unposted_stays (answers_of x.answers) x.history start q (unposted x q kept.trusted fits.unanswered);
-      may_answer = may_answer x content f f.answer (runs_are_sound (setting_of x.config x.script content) (steps x) kept.run) refl fits.backed.answer rests;
+      unposted = unposted_stays (answers_of x.answers) x.history start q (unposted x q kept.trusted fits.may.unanswered);
+      fits = may_answer x content f f.answer (runs_are_sound (setting_of x.config x.script content) (steps x) kept.run) refl fits.backed.answer rests;
     }

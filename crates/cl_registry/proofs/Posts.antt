@@ -48,10 +48,10 @@ may_tell x q f trusted fits =
     let n = in_its_round x q f trusted fits in
     record {
       scheduled = scheduled f.request n.0;
-      asked = scheduled_at x.script.requests x.script.rounds_of q f.request n.0 fits.asked n.1;
+      asked = scheduled_at x.script.requests x.script.rounds_of q f.request n.0 fits.may.asked n.1;
       in_round = n.2;
-      unposted = unposted_stays (answers_of x.answers) x.history start q (unposted x q trusted fits.unanswered);
-      bears = borne x f f.answer fits.backed.answer;
+      unposted = unposted_stays (answers_of x.answers) x.history start q (unposted x q trusted fits.may.unanswered);
+      fits = borne x f f.answer fits.backed.answer;
     }
 
 -- ---- what is kept
@@ -78,7 +78,7 @@ kept : (told : Option Content) (x : Shown) (q : ℕ) (f : Answered) → IsKept t
 kept told x q f k fits rests =
     let a = f.answer in
     let y = with_post x q a in
-    let is = fits.unanswered in
+    let is = fits.may.unanswered in
     let out = unposted x q k.trusted is in
     let step = steps_posts x q a out is in
     let round : round_of y ≡ round_of x = ap (λ (s : State). s.round) (state_posts x q a out is) in
@@ -146,7 +146,7 @@ pub kept_post : {home : Name → ℕ → Option ℕ} {joins : Name → ℕ → �
     → IsRegistry told (with_post x q a.answer) (record f { events = events; room_for_events = room; left = left; unanswered = unanswered }) (IsBookOf home joins)
 kept_post {home} {joins} told x f q n a used room less unanswered k fits rests at lower one same left =
     let y = with_post x q a.answer in
-    let is = fits.unanswered in
+    let is = fits.may.unanswered in
     let out = unposted x q k.kept.trusted is in
     let state = state_posts x q a.answer out is in
     let records : records_of y ≡ records_of x = ap (λ (s : State). s.records) state in

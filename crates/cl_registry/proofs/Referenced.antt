@@ -13,12 +13,12 @@ use Rattle.cl_model.specs.States.{State}
 use Rattle.cl_model.proofs.Ancestors.{same_self}
 use Rattle.cl_model.proofs.Complete.{is_class}
 use Rattle.cl_findings.specs.Findings.{Decides}
-use Rattle.cl_registry.specs.References.{HasSameReferences}
+use Rattle.cl_registry.specs.Parts.{HasSame}
 use Rattle.cl_registry.specs.Tables.{reference_in}
 
 -- where what was written through a borrow is what stood, the table has what it had
 pub rewritten : {R S : Type 0} (m n : HashMap Class (HashMap ℕ R S) S) (c : Class) (one w : HashMap ℕ R S) → Some one ≡ get same_class m c → IsUnchanged one w → WritesThrough same_class (same_class c) m w n
-    → HasSameReferences (reference_in m) (reference_in n)
+    → HasSame (reference_in m) (reference_in n)
 rewritten {R} {S} m n c one w there same h d i = at (same_class c d) refl
   where
     in_table : Option (HashMap ℕ R S) → Option R

@@ -5,17 +5,18 @@ use Rattle.cl_classfile.specs.Files.{file_of}
 use Rattle.cl_model.specs.declared.class.Class.{Class}
 use Rattle.cl_model.specs.declared.event.Event.TheVariants as events
 use Rattle.cl_model.specs.declared.need.Equality.{Equality}
-use Rattle.cl_model.specs.Classes.{class, Above, supers, class_accessible}
+use Rattle.cl_model.specs.Classes.{class, Above, supers}
 use Rattle.cl_model.specs.Homes.{World, home}
 use Rattle.cl_model.specs.Machine.{IsResolution, MayConstrain, MayPrepare}
 use Rattle.cl_model.specs.Preparation.{constraints_of}
 use Rattle.cl_model.specs.Works.{Made}
-use Rattle.cl_model.specs.States.{State, Need, Verdict, recorded, IsRecorded, Met, Refused, AllMet}
+use Rattle.cl_model.specs.States.{State, Need, Verdict, recorded, IsRecorded, Keeps, Met, Refused, AllMet}
 use Rattle.cl_model.specs.Content.{Content}
 use Rattle.cl_config.specs.Views.{Configured}
 use Rattle.cl_hierarchy.specs.Imposed.{Listed, AreEnough, Sprung, OfPreparation, OfReference, equal_need, needs_of}
 use Rattle.cl_hierarchy.specs.Lineages.{Lined, kin_of}
-use Rattle.cl_registry.specs.Tables.{Shown, records_of, state_of, machine}
+use Rattle.cl_hierarchy.specs.Rows.{row_accessible}
+use Rattle.cl_registry.specs.Tables.{Shown, records_of, state_of, machine, with_event}
 
 -- a lineage is of this configuration, and its class is recorded by its loader (5.3)
 pub record IsStanding (x : Shown) (l : Lined) : Type 0 where
@@ -25,8 +26,8 @@ pub record IsStanding (x : Shown) (l : Lined) : Type 0 where
 -- the class of c is the one that the loader of d's class has recorded for its name, and is accessible to d (5.4.3.1, 5.4.4)
 pub record IsReached (x : Shown) (d c : Lined) : Type 0 where
   pub config : c.config ≡ x.config
-  pub recorded : recorded (records_of x) d.own.class.loader c.own.class.name ≡ Some c.own.class.loader
-  pub accessible : class_accessible (file_of c.own.file).flags c.own.class d.own.class ≡ true
+  pub recorded : Keeps (state_of x) d.own.class.loader c.own.class
+  pub accessible : row_accessible c.own d.own.class ≡ true
 
 -- what a list was made from stands in the tables (5.4.2, 5.4.3)
 abbrev pub StandsFor : Shown → Sprung → Type 0
@@ -45,7 +46,7 @@ IsNextOf e k holds = IfSome (slice_get e.needs k) (λ n. holds (equal_need n))
 
 -- an equality more (5.3.4)
 abbrev pub with_constrain : Shown → Equality → Shown
-with_constrain x e = record x { history = x.history ++ events.Constrain e ∷ [] }
+with_constrain x e = with_event x (events.Constrain e)
 
 -- an equality is met and nothing changes, or it is not and is imposed, where it is not refused (5.3.4)
 abbrev pub Constrains : Shown → Shown → Equality → Type 0
@@ -80,7 +81,7 @@ MayMark x e = IsReadyBy x e.origin (needs_of e.needs)
 
 -- a class more is prepared (5.4.2)
 abbrev pub with_prepare : Shown → Class → Shown
-with_prepare x c = record x { history = x.history ++ events.Prepare c ∷ [] }
+with_prepare x c = with_event x (events.Prepare c)
 
 -- a class is prepared and nothing changes, or it is not and now is (5.4.2)
 abbrev pub Prepares : Shown → Shown → Class → Type 0

@@ -1,12 +1,13 @@
 -- Which answers may be posted, by the tables of a registry (JVMS SE 8, 5.3 to 5.4.3).
-use Rattle.std.specs.Prelude.{◌≡◌, ◌⊎◌, ℕ, length, Some}
+use Rattle.std.specs.Prelude.{◌≡◌, ◌⊎◌, ℕ, length, Some, slice_get}
 use Rattle.cl_model.specs.declared.answer.Answer.{Answer}
 use Rattle.cl_model.specs.declared.answer.Answer.TheVariants as answers
+use Rattle.cl_model.specs.declared.request.Request.{Request}
 use Rattle.cl_model.specs.declared.verdict.Verdict.{Verdict}
 use Rattle.cl_model.specs.Tables.{Bears}
 use Rattle.cl_model.specs.Views.{request_of, verdict_of}
 use Rattle.cl_findings.specs.Findings.{Answered, IsLookedUp, IsWithin, Stands}
-use Rattle.cl_registry.specs.Tables.{Shown, state_of, IsAsked, IsLater, IsOpen}
+use Rattle.cl_registry.specs.Tables.{Shown, state_of, IsLater, IsOpen}
 use Rattle.cl_registry.specs.References.{settled_by}
 
 -- a verdict is one that is looked up, or what it rests on stands; and the tables bear it: what is loaded is recorded, a reference
@@ -28,9 +29,13 @@ pub record IsBacked (x : Shown) (f : Answered) : Type 0 where
   pub within : IsWithin (length x.config.loaders) f
   pub answer : AnswerBacked x f f.answer
 
--- the request of this number asks what was answered, is of no later round, has no answer yet, and the tables bear the answer (5.3 to 5.4.3)
-pub record Fits (x : Shown) (q : ℕ) (f : Answered) : Type 0 where
-  pub asked : IsAsked x q f
+-- an answer to this request may be posted under this number: the request is the script's, is of no later round, and has no answer yet
+pub record MayPost (x : Shown) (q : ℕ) (r : Request) : Type 0 where
+  pub asked : slice_get x.script.requests q ≡ Some r
   pub begun : IsLater x q → ⊥
   pub unanswered : IsOpen x q
+
+-- the request that was answered may be, under this number, and the tables bear the answer (5.3 to 5.4.3)
+pub record Fits (x : Shown) (q : ℕ) (f : Answered) : Type 0 where
+  pub may : MayPost x q f.request
   pub backed : IsBacked x f

@@ -1,5 +1,5 @@
 -- What references are settled to, by the tables of a registry (JVMS SE 8, 5.4.3).
-use Rattle.std.specs.Prelude.{◌≡◌, ◌==◌, ◌&&◌, ℕ, if◌then◌else◌, List, [], ◌∷◌, ◌++◌, Option, Some, None, option_and_then, option_map}
+use Rattle.std.specs.Prelude.{◌≡◌, ◌==◌, ◌&&◌, ℕ, List, [], ◌∷◌, ◌++◌, Option, Some, None, option_and_then, option_map}
 use Rattle.std.specs.declared.alloc.Global.{Global}
 use Rattle.std.specs.declared.sync.Arc.{Arc}
 use Rattle.cl_model.specs.declared.class.Class.{Class}
@@ -11,6 +11,7 @@ use Rattle.cl_model.specs.declared.settled.Settled.{Settled}
 use Rattle.cl_model.specs.Classes.{class, same_class}
 use Rattle.cl_model.specs.States.{recorded, settled_to}
 use Rattle.cl_model.specs.Views.{verdict_of}
+use Rattle.cl_registry.specs.Parts.{IsPutWhere}
 use Rattle.cl_registry.specs.Tables.{Shown, state_of, records_of, settled_at}
 
 -- an entry of a class's constant pool (4.4)
@@ -44,15 +45,7 @@ pub record IsUnsettled (x : Shown) (c : Class) (i : ℕ) : Type 0 where
 
 -- a table has this for an entry of a class, and for others what it had
 abbrev pub IsReferencePut : {R : Type 0} → (Class → ℕ → Option R) → (Class → ℕ → Option R) → Class → ℕ → R → Type 0
-IsReferencePut old new c index r = (d : Class) (i : ℕ) → new d i ≡ (if same_class c d && (index == i) then Some r else old d i)
-
--- two tables have the same
-abbrev pub HasSameReferences : {R : Type 0} → (Class → ℕ → Option R) → (Class → ℕ → Option R) → Type 0
-HasSameReferences old new = (d : Class) (i : ℕ) → new d i ≡ old d i
-
--- a table of handles, as one of what they share
-abbrev pub shared_references : {R V : Type 0} → (R → V) → (Class → ℕ → Option R) → Class → ℕ → Option V
-shared_references value table c index = option_map value (table c index)
+IsReferencePut old new c index r = IsPutWhere (λ d i. same_class c d && (index == i)) old new r
 
 -- a history has an event more, by which a reference is settled to this (5.4.3)
 pub record AddsSettled (old new : List Event) (s : Settled) : Type 0 where

@@ -1,9 +1,8 @@
 -- When a registry refuses a value, and why (JVMS SE 8, 5.3, 5.3.4, 5.3.5, 5.4.2).
 use Rattle.std.specs.Prelude.{◌≡◌, ◌⊎◌, ℕ, Option, None, Result, IfErr, OnOk}
 use Rattle.cl_model.specs.Content.{Content}
-use Rattle.cl_model.specs.declared.class.Class.{Class}
 use Rattle.cl_model.specs.declared.need.Need.{Need}
-use Rattle.cl_model.specs.States.{IsRecorded, Met, Refused}
+use Rattle.cl_model.specs.States.{Met, Refused}
 use Rattle.cl_model.specs.States as states
 use Rattle.cl_model.specs.Views.{need_of}
 use Rattle.cl_registry.specs.declared.registry.RegistryFault.{RegistryFault}
@@ -19,7 +18,7 @@ use Rattle.cl_registry.specs.Imposing.{Imposes, IsNextOf, IsPreparedBy, MayImpos
 use Rattle.cl_registry.specs.Tables.{Shown, IsKept, state_of, IsNew, LacksRecord, MayEnter, MayJoin, IsAsked, IsLater, IsOpen, MayGoOn}
 use Rattle.cl_registry.specs.References.{settled_by}
 use Rattle.cl_registry.specs.Settling.{MaySettle}
-use Rattle.cl_registry.specs.Posting.{IsBacked}
+use Rattle.cl_registry.specs.Posting.{IsBacked, MayPost}
 use Rattle.cl_findings.specs.Loads.{asked_record, own_record}
 
 -- this need, and no other, is refused: adding it would violate an equality (5.3.4)
@@ -48,31 +47,30 @@ abbrev pub fault_of : BookFault → Need → RegistryFault
 fault_of books.Memory need = Memory
 fault_of books.Violates need = Violates need
 
--- a class is strayed where its loader has no record of it and it may not be recorded; its record is blamed where it would
--- violate an equality; others are refused where memory ran out alone (5.3.4; 5.3.5, steps 1, 3 and 4)
+-- a record that a loader lacks is strayed where it may not be made; it is blamed where it would violate an equality; others are
+-- refused where memory ran out alone (5.3, 5.3.4)
+abbrev pub RecordRefusedFor : Shown → (lacks may : Type 0) → states.Need → RegistryFault → Type 0
+RecordRefusedFor x lacks may need Memory = lacks → may
+RecordRefusedFor x lacks may need Stray = lacks × (may → ⊥)
+RecordRefusedFor x lacks may need (Violates n) = lacks × may × Blames x n need
+RecordRefusedFor x lacks may need AlreadyPosted = ⊥
+RecordRefusedFor x lacks may need NotYet = ⊥
+
+-- so is the record of a class by its loader (5.3.4; 5.3.5, steps 1, 3 and 4)
 abbrev pub DefineRefusedFor : Shown → Drafted → RegistryFault → Type 0
-DefineRefusedFor x d Memory = IsNew x d → MayEnter x d
-DefineRefusedFor x d Stray = IsNew x d × (MayEnter x d → ⊥)
-DefineRefusedFor x d (Violates n) = IsNew x d × MayEnter x d × Blames x n (own_record d)
-DefineRefusedFor x d AlreadyPosted = ⊥
-DefineRefusedFor x d NotYet = ⊥
+DefineRefusedFor x d fault = RecordRefusedFor x (IsNew x d) (MayEnter x d) (own_record d) fault
 
--- a home is strayed where the loader that was asked has no record of it and may not be recorded; the record is blamed where it
--- would violate an equality; others are refused where memory ran out alone (5.3, 5.3.4)
+-- and the record of a home's class by the loader that was asked (5.3, 5.3.4)
 abbrev pub InitiateRefusedFor : Shown → Located → RegistryFault → Type 0
-InitiateRefusedFor x h Memory = LacksRecord x h.asked h.name → MayJoin x h
-InitiateRefusedFor x h Stray = LacksRecord x h.asked h.name × (MayJoin x h → ⊥)
-InitiateRefusedFor x h (Violates n) = LacksRecord x h.asked h.name × MayJoin x h × Blames x n (asked_record h)
-InitiateRefusedFor x h AlreadyPosted = ⊥
-InitiateRefusedFor x h NotYet = ⊥
+InitiateRefusedFor x h fault = RecordRefusedFor x (LacksRecord x h.asked h.name) (MayJoin x h) (asked_record h) fault
 
--- a home whose class stands is refused for memory alone, another is strayed (5.3)
-abbrev pub JoinRefusedFor : Shown → Located → RegistryFault → Type 0
-JoinRefusedFor x h Memory = MayJoin x h
-JoinRefusedFor x h Stray = MayJoin x h → ⊥
-JoinRefusedFor x h (Violates n) = ⊥
-JoinRefusedFor x h AlreadyPosted = ⊥
-JoinRefusedFor x h NotYet = ⊥
+-- what is so is refused for memory alone, and what is not is strayed
+abbrev pub MemoryOrStray : Type 0 → RegistryFault → Type 0
+MemoryOrStray holds Memory = holds
+MemoryOrStray holds Stray = holds → ⊥
+MemoryOrStray holds (Violates n) = ⊥
+MemoryOrStray holds AlreadyPosted = ⊥
+MemoryOrStray holds NotYet = ⊥
 
 -- an equality is strayed where it may not be imposed; it is blamed where it would violate one; others are refused where memory
 -- ran out alone, and one that is met is not (5.3.4, 5.4.2, 5.4.3)
@@ -100,14 +98,6 @@ MarkRefusedFor x e (Violates n) = ⊥
 MarkRefusedFor x e AlreadyPosted = ⊥
 MarkRefusedFor x e NotYet = ⊥
 
--- a class that is not recorded has no lineage; for others memory ran out (5.3.5)
-abbrev pub LineageRefusedFor : Shown → Class → RegistryFault → Type 0
-LineageRefusedFor x c Memory = IsRecorded (state_of x) c
-LineageRefusedFor x c Stray = IsRecorded (state_of x) c → ⊥
-LineageRefusedFor x c (Violates n) = ⊥
-LineageRefusedFor x c AlreadyPosted = ⊥
-LineageRefusedFor x c NotYet = ⊥
-
 -- a finding is strayed where the entry that its request resolves is not settled and it settles none; others are refused where
 -- memory ran out alone (5.4.3)
 abbrev pub SettleRefusedFor : Shown → Answered → RegistryFault → Type 0
@@ -117,19 +107,11 @@ SettleRefusedFor x f (Violates n) = ⊥
 SettleRefusedFor x f AlreadyPosted = ⊥
 SettleRefusedFor x f NotYet = ⊥
 
--- a finding that settles something is refused for memory alone, another is strayed (5.4.3)
-abbrev pub BindRefusedFor : Shown → Answered → RegistryFault → Type 0
-BindRefusedFor x f Memory = MaySettle x f
-BindRefusedFor x f Stray = MaySettle x f → ⊥
-BindRefusedFor x f (Violates n) = ⊥
-BindRefusedFor x f AlreadyPosted = ⊥
-BindRefusedFor x f NotYet = ⊥
-
 -- an answer is strayed where the request is another, or where what it rests on is not in the tables; between the two it is
 -- told that the request is of a later round, or has an answer
 abbrev pub PostRefusedFor : Shown → ℕ → Answered → RegistryFault → Type 0
 PostRefusedFor x q f Memory = ⊥
-PostRefusedFor x q f Stray = (IsAsked x q f → ⊥) ⊎ (IsAsked x q f × (IsLater x q → ⊥) × IsOpen x q × (IsBacked x f → ⊥))
+PostRefusedFor x q f Stray = (IsAsked x q f → ⊥) ⊎ (MayPost x q f.request × (IsBacked x f → ⊥))
 PostRefusedFor x q f (Violates n) = ⊥
 PostRefusedFor x q f AlreadyPosted = IsAsked x q f × (IsLater x q → ⊥) × (IsOpen x q → ⊥)
 PostRefusedFor x q f NotYet = IsAsked x q f × IsLater x q

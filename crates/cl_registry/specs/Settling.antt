@@ -1,5 +1,5 @@
 -- What a finding settles (JVMS SE 8, 5.4.3).
-use Rattle.std.specs.Prelude.{◌≡◌, ◌≢◌, [], ◌∷◌, ◌++◌, Option, Some, None}
+use Rattle.std.specs.Prelude.{◌≡◌, ◌≢◌, Option, Some, None}
 use Rattle.std.specs.declared.alloc.Global.{Global}
 use Rattle.std.specs.declared.sync.Arc.{Arc}
 use Rattle.cl_model.specs.declared.event.Event.TheVariants as events
@@ -8,14 +8,18 @@ use Rattle.cl_model.specs.declared.settled.Settled.{Settled}
 use Rattle.cl_model.specs.declared.verdict.Verdict.{Verdict}
 use Rattle.cl_model.specs.declared.verdict.Verdict.TheVariants as verdicts
 use Rattle.cl_findings.specs.Findings.{Answered, Stands}
-use Rattle.cl_registry.specs.Tables.{Shown, state_of}
+use Rattle.cl_registry.specs.Tables.{Shown, state_of, with_event}
 use Rattle.cl_registry.specs.References.{cited_by, settled_by}
 
--- a finding says this verdict, which is one that is settled (5.4.3)
-pub record Says (f : Answered) (v : Verdict) : Type 0 where
-  pub said : f.answer ≡ answers.Said v
+-- a verdict is one that is settled: of a reference, and not of a member of an array (5.4.3; own choice for members of arrays)
+pub record IsSettledKind (v : Verdict) : Type 0 where
   pub is_entry : v ≢ verdicts.BadEntry
   pub is_class_member : v ≢ verdicts.ArrayMember
+
+-- a finding says this verdict, which is such a one (5.4.3)
+pub record Says (f : Answered) (v : Verdict) : Type 0 where
+  pub said : f.answer ≡ answers.Said v
+  pub kind : IsSettledKind v
 
 -- it says none
 abbrev pub SaysNone : Answered → Type 0
@@ -34,7 +38,7 @@ MaySettle x f = (s : Settled) × IsToSettle x f s
 
 -- a reference more is settled (5.4.3)
 abbrev pub with_settle : Shown → Arc Settled Global → Shown
-with_settle x shared = record x { history = x.history ++ events.Settle shared ∷ [] }
+with_settle x shared = with_event x (events.Settle shared)
 
 -- an event more, by which a reference is settled to this (5.4.3)
 pub record AddsSettle (old new : Shown) (s : Settled) : Type 0 where

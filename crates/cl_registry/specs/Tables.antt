@@ -1,7 +1,9 @@
 -- What a registry keeps, and what a call does to it (JVMS SE 8, 5.3, 5.3.5).
-use Rattle.std.specs.Prelude.{◌≡◌, ◌<◌, ℕ, ◌&&◌, ◌==◌, nat_eq, List, [], ◌∷◌, ◌++◌, length, map, Option, Some, None, is_some, replicate, find, slice_get, slice_set, option_and_then, IsSome, IfSome, All}
+use Rattle.std.specs.Prelude.{◌≡◌, ◌<◌, ℕ, ◌&&◌, ◌==◌, nat_eq, List, [], ◌∷◌, ◌++◌, length, map, Option, Some, None, is_some, replicate, find, slice_get, slice_set, option_and_then, option_map, IsSome, IfSome, All}
+use Rattle.std.specs.declared.alloc.Global.{Global}
+use Rattle.std.specs.declared.sync.Arc.{Arc}
 use Rattle.std.specs.HashMap.{HashMap, get}
-use Rattle.std.specs.List.{AllByRecursion, list_any}
+use Rattle.std.specs.List.{AllByRecursion, AllZip, list_any}
 use Rattle.std.specs.Cmp.Lexicographic.{pointwise}
 use Rattle.cl_classfile.specs.Files.{file_of}
 use Rattle.cl_model.specs.declared.class.Class.{Class}
@@ -10,9 +12,9 @@ use Rattle.cl_model.specs.declared.event.Event.TheVariants as events
 use Rattle.cl_model.specs.declared.answer.Answer.{Answer}
 use Rattle.cl_model.specs.declared.settled.Settled.{Settled}
 use Rattle.cl_model.specs.Content.{Content}
-use Rattle.cl_model.specs.Classes.{class, same_class, Above, supers, misfit}
+use Rattle.cl_model.specs.Classes.{class, same_class, Above, supers}
 use Rattle.cl_model.specs.Texts.{AnswerNames, EventNames, VerdictNames}
-use Rattle.cl_model.specs.States.{State, Record, recorded, start, Refused}
+use Rattle.cl_model.specs.States.{State, IsRecorded, Record, recorded, start, Refused}
 use Rattle.cl_model.specs.Machine.{Step, state_after, Run, Setting, EndsRound}
 use Rattle.cl_model.specs.Tables as tables
 use Rattle.cl_model.specs.Views.{answers_of, answer_at, steps_of}
@@ -21,8 +23,8 @@ use Rattle.cl_config.specs.Loaders.{schedule_of}
 use Rattle.cl_config.specs.Scripts.{IsScript}
 use Rattle.cl_delegation.specs.Searches.{Located}
 use Rattle.cl_delegation.specs.Worlds.{setting_of}
-use Rattle.cl_hierarchy.specs.Drafts.{Drafted, IsSpelt}
-use Rattle.cl_hierarchy.specs.Rows.{Rowed}
+use Rattle.cl_hierarchy.specs.Drafts.{Drafted, IsSpelt, home_class}
+use Rattle.cl_hierarchy.specs.Rows.{FitsAs, Rowed}
 use Rattle.cl_hierarchy.specs.Lineages.{row_of}
 use Rattle.cl_hierarchy.specs.RowTables.{AreRows}
 use Rattle.cl_findings.specs.Findings.{Answered}
@@ -118,11 +120,7 @@ pub record NamesLoaders (x : Shown) : Type 0 where
 
 -- each direct supertype of a class is recorded by a loader as the class that this one defined (5.3; 5.3.5, steps 3 and 4)
 abbrev pub ArePlaced : List Record → ℕ → List Above → List ℕ → Type 0
-ArePlaced records loader [] [] = Unit {0}
-ArePlaced records loader [] (place ∷ places) = ⊥
-ArePlaced records loader (a ∷ above) [] = ⊥
-ArePlaced records loader (a ∷ above) (place ∷ places) =
-    (recorded records loader a.name ≡ Some place) × ArePlaced records loader above places
+ArePlaced records loader above places = AllZip (λ a place. recorded records loader a.name ≡ Some place) above places
 
 -- the direct supertypes of a row are recorded by its class's loader (5.3; 5.3.5, steps 3 and 4)
 abbrev pub IsPlaced : List Record → Rowed → Type 0
@@ -157,6 +155,10 @@ row_for x d = row_by (recorded (records_of x) d.class.loader) d
 abbrev pub row_at : {R S : Type 0} → List (HashMap (List ℕ) R S) → ℕ → List ℕ → Option R
 row_at rows loader name = option_and_then (λ m. get (pointwise nat_eq) m name) (slice_get rows loader)
 
+-- which loader defined the class that a table has for a loader and a name (5.3)
+abbrev pub placed_at : {S : Type 0} → List (HashMap (List ℕ) (Arc Rowed Global) S) → ℕ → List ℕ → Option ℕ
+placed_at rows loader name = option_map (λ r. r.value.class.loader) (row_at rows loader name)
+
 -- the entry in a table of the settled references of each class (5.4.3)
 abbrev pub reference_in : {R S : Type 0} → HashMap Class (HashMap ℕ R S) S → Class → ℕ → Option R
 reference_in table c index = option_and_then (λ m. get nat_eq m index) (get same_class table c)
@@ -180,10 +182,6 @@ LacksRecord x loader name = recorded (records_of x) loader name ≡ None
 abbrev pub IsNew : Shown → Drafted → Type 0
 IsNew x d = LacksRecord x d.class.loader d.class.name
 
--- the class of this row fits as a supertype of a class (5.3.5, steps 3 and 4)
-abbrev pub FitsAs : Class → Above → Rowed → Type 0
-FitsAs c a row = misfit c a.role row.class (file_of row.file) ≡ None
-
 -- each direct supertype of a draft that has a row in this table fits (5.3.5, steps 3 and 4)
 abbrev pub SupertypesFit : (ℕ → List ℕ → Option Rowed) → Drafted → Type 0
 SupertypesFit table d = AllByRecursion (λ (a : Above). IfSome (table d.class.loader a.name) (FitsAs d.class a)) (supers (file_of d.file))
@@ -196,9 +194,13 @@ pub record MayEnter (x : Shown) (d : Drafted) : Type 0 where
   pub above : AllByRecursion (λ (a : Above). IsSome (recorded (records_of x) d.class.loader a.name)) (supers (file_of d.file))
   pub fit : SupertypesFit (looked x) d
 
+-- an event more
+abbrev pub with_event : Shown → Event → Shown
+with_event x e = record x { history = x.history ++ e ∷ [] }
+
 -- a class and its row more, and the event (5.3.5, step 5)
 abbrev pub with_define : Shown → Drafted → Shown
-with_define x d = record x { rows = x.rows ++ row_for x d ∷ []; history = x.history ++ events.Define d.class ∷ [] }
+with_define x d = record (with_event x (events.Define d.class)) { rows = x.rows ++ row_for x d ∷ [] }
 
 -- an event more with its row, where its record is not refused; or no event and the row that stands, where the loader has
 -- recorded the name (5.3.4, 5.3.5)
@@ -216,11 +218,11 @@ Defines old new d row = DefinedAs old new d row (recorded (records_of old) d.cla
 pub record MayJoin (x : Shown) (h : Located) : Type 0 where
   pub config : h.config ≡ x.config
   pub loader : h.asked < length x.config.loaders
-  pub defined : recorded (records_of x) h.place h.name ≡ Some h.place
+  pub defined : IsRecorded (state_of x) (class h.name h.place)
 
 -- the loader that was asked is recorded as initiating (5.3)
 abbrev pub with_initiate : Shown → Located → Shown
-with_initiate x h = record x { history = x.history ++ events.Initiate (class h.name h.place) h.asked ∷ [] }
+with_initiate x h = with_event x (events.Initiate (home_class h) h.asked)
 
 -- an event more and the row of the home's class, where its record is not refused; or no event and the row that stands, where the
 -- loader has recorded the name (5.3, 5.3.4)
@@ -236,11 +238,11 @@ Initiates old new h row = InitiatedAs old new h row (recorded (records_of old) h
 
 -- an answer more, and its event
 abbrev pub with_post : Shown → ℕ → Answer → Shown
-with_post x q a = record x { history = x.history ++ events.Post q ∷ []; answers = slice_set x.answers q (Some a) }
+with_post x q a = record (with_event x (events.Post q)) { answers = slice_set x.answers q (Some a) }
 
 -- the next round begins
 abbrev pub with_round : Shown → Shown
-with_round x = record x { history = x.history ++ events.NextRound ∷ [] }
+with_round x = with_event x events.NextRound
 
 -- the request of this number asks what was answered
 abbrev pub IsAsked : Shown → ℕ → Answered → Type 0

@@ -1,15 +1,17 @@
 //! The steps of a definition and of an initiation, on plain tables.
 
-ghost use Rattle.std.specs.Prelude.{◌≡◌, ◌≢◌, ◌<◌, ◌≤◌, ◌+◌, ◌++◌, ◌∷◌, [], Some, None, IfErr, IfOk, IfSome, MatchOption, OnOk, OnErr, is_some, length, map, slice_get, vec_len, vec_capacity};
+ghost use Rattle.std.specs.Prelude.{◌≡◌, ◌≢◌, ◌<◌, ◌++◌, ◌∷◌, [], Some, None, IfErr, IfOk, IfSome, MatchOption, OnOk, OnErr, is_some, length, map, slice_get};
+ghost use Rattle.std.specs.Vec.{VecUnchanged};
 ghost use Rattle.std.specs.Option.{option_map};
 ghost use Rattle.cl_classfile.specs.Files.{file_of};
-ghost use Rattle.cl_model.specs.Classes.{class, supers};
+ghost use Rattle.cl_model.specs.Classes.{supers};
+ghost use Rattle.cl_hierarchy.specs.Drafts.{home_class};
 ghost use Rattle.cl_model.specs.declared.event.Event.TheVariants as events;
-ghost use Rattle.cl_registry.specs.Parts.{EachHas, HasSameRows, IsPut, is_there, place_by, place_there, row_by, shared_rows};
+ghost use Rattle.cl_registry.specs.Parts.{AddsEvent, EachHas, HasRoom, HasSame, IsPut, is_there, place_by, place_there, row_by, shared};
 ghost use Rattle.cl_model.specs.declared.need.Need.TheVariants as needs;
 ghost use Rattle.cl_constraints.specs.Books.{Adds};
 ghost use Rattle.cl_registry.specs.Refusals.{BlamesIn, fault_of};
-ghost use Rattle.cl_registry.specs.Tables.{row_at};
+ghost use Rattle.cl_registry.specs.Tables.{placed_at, row_at};
 ghost use Rattle.cl_findings.specs.Loads.{asked_record, own_record};
 ghost use Rattle.cl_findings.specs.Findings.{Decides};
 
@@ -50,8 +52,7 @@ pub fn has_supers<T: Told>(tables: &Rows<T>, draft: &Draft<T>) -> bool
 
 /// Which loader defined the direct supertype at a place, by the records of the draft's loader.
 fn place_there<T: Told>(tables: &Rows<T>, draft: &Draft<T>, at: usize) -> LoaderId
-    ensures { result ≡ place_there (λ n. option_map (λ r. r.value.class.loader)
-        (row_at tables.now.items draft.now.class.loader n))
+    ensures { result ≡ place_there (placed_at tables.now.items draft.now.class.loader)
         (slice_get (supers (file_of draft.now.file)) at) }
 {
     match draft.supertype(at) {
@@ -66,8 +67,9 @@ fn places_of<T: Told>(
     tables: &Rows<T>,
     draft: &Draft<T>,
 ) -> Result<Vec<LoaderId>, AllocError>
-    ensures { IfOk result (λ v. v.items ≡ map (place_by (λ n. option_map (λ r. r.value.class.loader)
-        (row_at tables.now.items draft.now.class.loader n))) (supers (file_of draft.now.file))) }
+    ensures { IfOk result (λ v. v.items ≡ map
+        (place_by (placed_at tables.now.items draft.now.class.loader))
+        (supers (file_of draft.now.file))) }
 {
     let count = draft.supertypes();
     let mut places = Vec::with_capacity(alloc, count)?;
@@ -104,8 +106,8 @@ fn parts_of<T: Told>(
 ) -> Result<Parts<T>, AllocError>
     ensures event { IfOk result (λ p. p.event ≡ events.Define draft.now.class) }
     ensures name { IfOk result (λ p. p.name ≡ draft.now.class.name) }
-    ensures row { IfOk result (λ p. p.row.value ≡ row_by (λ n. option_map
-        (λ r. r.value.class.loader) (row_at tables.now.items draft.now.class.loader n)) draft.now) }
+    ensures row { IfOk result (λ p. p.row.value
+        ≡ row_by (placed_at tables.now.items draft.now.class.loader) draft.now) }
     ensures listed { IfOk result (λ p. p.listed.value ≡ p.row.value) }
     ensures answered { IfOk result (λ p. p.answered.value ≡ p.row.value) }
 {
@@ -151,19 +153,18 @@ pub fn record<T: Told>(
     name: Name,
 ) -> Result<Arc<ClassRow<T>>, RegistryFault>
     requires loader { draft.now.class.loader < length tables.old.items }
-    requires room { vec_len history.old + left ≤ vec_capacity history.old }
+    requires room { HasRoom history.old left }
     requires named { name ≡ draft.now.class.name }
     requires fresh { ⟦<GroupedBook as ConstraintBook>⟧.record_of book.old draft.now.class.name
         draft.now.class.loader ≡ None }
     ensures width { length tables.new.items ≡ length tables.old.items }
-    ensures room { vec_len history.new + left ≤ vec_capacity history.new }
-    ensures row { IfOk result (λ r. r.value ≡ row_by (λ n. option_map (λ r. r.value.class.loader)
-        (row_at tables.old.items draft.now.class.loader n)) draft.now) }
-    ensures event { OnOk result (history.new.items ≡ history.old.items
-        ++ events.Define draft.now.class ∷ []) }
-    ensures used { OnOk result (vec_len history.new ≡ vec_len history.old + 1) }
-    ensures put { IfOk result (λ r. IsPut (shared_rows (λ c. c.value) (row_at tables.old.items))
-        (shared_rows (λ c. c.value) (row_at tables.new.items)) draft.now.class.loader
+    ensures room { HasRoom history.new left }
+    ensures row { IfOk result (λ r. r.value
+        ≡ row_by (placed_at tables.old.items draft.now.class.loader) draft.now) }
+    ensures event { OnOk result (AddsEvent history.old history.new
+        (events.Define draft.now.class)) }
+    ensures put { IfOk result (λ r. IsPut (shared (λ c. c.value) (row_at tables.old.items))
+        (shared (λ c. c.value) (row_at tables.new.items)) draft.now.class.loader
         draft.now.class.name r.value) }
     ensures rows { IfOk result (λ r. map (λ c. c.value) rows.new.items ≡ map
         (λ c. c.value) rows.old.items ++ r.value ∷ []) }
@@ -172,9 +173,8 @@ pub fn record<T: Told>(
     ensures blames { IfErr result
         (λ fault. BlamesIn (⟦<GroupedBook as ConstraintBook>⟧.stands_for book.old)
         (own_record draft.now) fault) }
-    ensures same_history { OnErr result (history.new.items ≡ history.old.items) }
-    ensures same_length { OnErr result (vec_len history.new ≡ vec_len history.old) }
-    ensures same_tables { OnErr result (HasSameRows (row_at tables.old.items)
+    ensures same_history { OnErr result (VecUnchanged history.old history.new) }
+    ensures same_tables { OnErr result (HasSame (row_at tables.old.items)
         (row_at tables.new.items)) }
     ensures same_rows { OnErr result (rows.new.items ≡ rows.old.items) }
     ensures same_book { OnErr result (book.new ≡ book.old) }
@@ -205,8 +205,8 @@ pub fn asked_row<'a, T: Told>(tables: &'a Rows<T>, home: &Home<T>) -> Option<&'a
 pub fn defined_row<'a, T: Told>(tables: &'a Rows<T>, home: &Home<T>) -> Option<&'a Arc<ClassRow<T>>>
     ensures row { IfSome result (λ r. row_at tables.now.items home.now.place home.now.name
         ≡ Some r.now) }
-    ensures own { MatchOption result (option_map (λ r. r.value.class.loader)
-        (row_at tables.now.items home.now.place home.now.name) ≢ Some home.now.place)
+    ensures own { MatchOption result
+        (placed_at tables.now.items home.now.place home.now.name ≢ Some home.now.place)
         (λ r. r.now.value.class.loader ≡ home.now.place) }
 {
     let row = find(tables, home.place(), home.name())?;
@@ -218,8 +218,7 @@ pub fn defined_row<'a, T: Told>(tables: &'a Rows<T>, home: &Home<T>) -> Option<&
 
 /// The event by which the loader that was asked is recorded as initiating.
 fn event_of<T: Told>(alloc: Global, home: &Home<T>) -> Result<Event, AllocError>
-    ensures { IfOk result (λ e. e ≡ events.Initiate (class home.now.name home.now.place)
-        home.now.asked) }
+    ensures { IfOk result (λ e. e ≡ events.Initiate (home_class home.now) home.now.asked) }
 {
     let class = Class {
         name: home.name().try_clone(alloc)?,
@@ -241,27 +240,25 @@ pub fn join<T: Told>(
     name: Name,
 ) -> Result<Arc<ClassRow<T>>, RegistryFault>
     requires loader { home.now.asked < length tables.old.items }
-    requires room { vec_len history.old + left ≤ vec_capacity history.old }
+    requires room { HasRoom history.old left }
     requires named { name ≡ home.now.name }
     requires fresh { ⟦<GroupedBook as ConstraintBook>⟧.record_of book.old home.now.name
         home.now.asked ≡ None }
     ensures width { length tables.new.items ≡ length tables.old.items }
-    ensures room { vec_len history.new + left ≤ vec_capacity history.new }
+    ensures room { HasRoom history.new left }
     ensures row { IfOk result (λ r. r.value ≡ row.value) }
-    ensures event { OnOk result (history.new.items ≡ history.old.items ++ events.Initiate
-        (class home.now.name home.now.place) home.now.asked ∷ []) }
-    ensures used { OnOk result (vec_len history.new ≡ vec_len history.old + 1) }
-    ensures put { OnOk result (IsPut (shared_rows (λ c. c.value) (row_at tables.old.items))
-        (shared_rows (λ c. c.value) (row_at tables.new.items)) home.now.asked home.now.name
+    ensures event { OnOk result (AddsEvent history.old history.new (events.Initiate
+        (home_class home.now) home.now.asked)) }
+    ensures put { OnOk result (IsPut (shared (λ c. c.value) (row_at tables.old.items))
+        (shared (λ c. c.value) (row_at tables.new.items)) home.now.asked home.now.name
         row.value) }
     ensures entered { OnOk result (Adds ⟦<GroupedBook as ConstraintBook>⟧.stands_for book.old
         book.new (asked_record home.now)) }
     ensures blames { IfErr result
         (λ fault. BlamesIn (⟦<GroupedBook as ConstraintBook>⟧.stands_for book.old)
         (asked_record home.now) fault) }
-    ensures same_history { OnErr result (history.new.items ≡ history.old.items) }
-    ensures same_length { OnErr result (vec_len history.new ≡ vec_len history.old) }
-    ensures same_tables { OnErr result (HasSameRows (row_at tables.old.items)
+    ensures same_history { OnErr result (VecUnchanged history.old history.new) }
+    ensures same_tables { OnErr result (HasSame (row_at tables.old.items)
         (row_at tables.new.items)) }
     ensures same_book { OnErr result (book.new ≡ book.old) }
 {

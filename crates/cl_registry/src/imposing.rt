@@ -1,6 +1,7 @@
 //! Loading constraints and preparation (JVMS SE 8, 5.3.4, 5.4.2).
 
-ghost use Rattle.std.specs.Prelude.{◌≡◌, ◌<◌, ◌≤◌, ◌+◌, ◌++◌, ◌∷◌, [], Contains, IfErr, IfSome, OnErr, OnOk, length, slice_get, vec_capacity, vec_len};
+ghost use Rattle.std.specs.Prelude.{◌≡◌, ◌<◌, ◌++◌, ◌∷◌, [], Contains, IfErr, IfSome, OnErr, OnOk, length, slice_get};
+ghost use Rattle.std.specs.Vec.{VecUnchanged};
 ghost use Rattle.std.specs.List.{AllByRecursion};
 ghost use Rattle.cl_classfile.specs.Files.{file_of};
 ghost use Rattle.cl_constraints.specs.Books.{Adds};
@@ -12,6 +13,7 @@ ghost use Rattle.cl_model.specs.declared.need.Need.TheVariants as needs;
 ghost use Rattle.cl_model.specs.States.{IsRecorded, Met, Refused};
 ghost use Rattle.cl_model.specs.Texts.{EqualityNames};
 ghost use Rattle.cl_registry.specs.Imposing.{IsPreparedAbove, IsPreparedBy, IsReached, IsReady, IsStanding, IsUnmetIn, Marks, MayConstrainAs, MayImpose, MayMark, MayPrepareAs, StandsFor, with_constrain, with_prepare};
+ghost use Rattle.cl_registry.specs.Parts.{AddsEvent, HasRoom};
 ghost use Rattle.cl_registry.specs.declared.registry.RegistryFault.TheVariants.{Memory};
 ghost use Rattle.cl_registry.specs.Refusals.{AddRefusedFor, BlamesIn, ImposeSays, MarkRefusedFor, fault_of};
 ghost use Rattle.cl_registry.specs.Tables.{IsKept, state_of};
@@ -55,21 +57,19 @@ fn add_equality(
     equality: &Equality,
     name: Name,
 ) -> Result<(), RegistryFault>
-    requires room { vec_len history.old + left ≤ vec_capacity history.old }
+    requires room { HasRoom history.old left }
     requires named { name ≡ equality.now.name }
     requires unmet { IsUnmetIn (⟦<GroupedBook as ConstraintBook>⟧.stands_for book.old)
         (equal_need equality.now) }
-    ensures room { vec_len history.new + left ≤ vec_capacity history.new }
-    ensures event { OnOk result (history.new.items ≡ history.old.items ++ events.Constrain
-        equality.now ∷ []) }
-    ensures used { OnOk result (vec_len history.new ≡ vec_len history.old + 1) }
+    ensures room { HasRoom history.new left }
+    ensures event { OnOk result (AddsEvent history.old history.new
+        (events.Constrain equality.now)) }
     ensures added { OnOk result (Adds ⟦<GroupedBook as ConstraintBook>⟧.stands_for book.old book.new
         (equal_need equality.now)) }
     ensures blames { IfErr result
         (λ fault. BlamesIn (⟦<GroupedBook as ConstraintBook>⟧.stands_for book.old)
         (equal_need equality.now) fault) }
-    ensures same_history { OnErr result (history.new.items ≡ history.old.items) }
-    ensures same_length { OnErr result (vec_len history.new ≡ vec_len history.old) }
+    ensures same_history { OnErr result (VecUnchanged history.old history.new) }
     ensures same_book { OnErr result (book.new ≡ book.old) }
 {
     let event = Event::Constrain(equality.try_clone(alloc)?);
@@ -92,15 +92,13 @@ fn add_prepared(
     left: usize,
     class: &Class,
 ) -> Result<(), AllocError>
-    requires room { vec_len history.old + left ≤ vec_capacity history.old }
+    requires room { HasRoom history.old left }
     requires absent { Contains prepared.old.keys class.now → ⊥ }
-    ensures room { vec_len history.new + left ≤ vec_capacity history.new }
-    ensures event { OnOk result (history.new.items ≡ history.old.items ++ events.Prepare class.now
-        ∷ []) }
-    ensures used { OnOk result (vec_len history.new ≡ vec_len history.old + 1) }
+    ensures room { HasRoom history.new left }
+    ensures event { OnOk result (AddsEvent history.old history.new
+        (events.Prepare class.now)) }
     ensures added { OnOk result (prepared.new.keys ≡ prepared.old.keys ++ class.now ∷ []) }
-    ensures same_history { OnErr result (history.new.items ≡ history.old.items) }
-    ensures same_length { OnErr result (vec_len history.new ≡ vec_len history.old) }
+    ensures same_history { OnErr result (VecUnchanged history.old history.new) }
     ensures same_prepared { OnErr result (prepared.new.keys ≡ prepared.old.keys) }
 {
     let event = Event::Prepare(class.try_clone(alloc)?);

@@ -6,7 +6,7 @@ ghost use Rattle.cl_hierarchy.specs.Lineages.{row_of};
 ghost use Rattle.cl_hierarchy.specs.RowTables.{IsMadeOf};
 ghost use Rattle.cl_model.specs.Classes.{class};
 ghost use Rattle.cl_model.specs.States.{IsRecorded};
-ghost use Rattle.cl_registry.specs.Refusals.{LineageRefusedFor};
+ghost use Rattle.cl_registry.specs.Refusals.{MemoryOrStray};
 ghost use Rattle.cl_registry.specs.Tables.{IsKept, state_of};
 ghost use Rattle.cl_registry.specs.Traced.{IsTraced};
 
@@ -38,7 +38,7 @@ impl<T: Told> Registry<T> {
         ensures recorded { OnOk result (IsRecorded (state_of self.now) class.now) }
         ensures made { IfOk result (λ l. IsMadeOf self.now.config self.now.rows class.now l) }
         ensures traced { IfOk result (λ l. IsTraced self.now class.now l) }
-        ensures refused { IfErr result (λ fault. LineageRefusedFor self.now class.now fault) }
+        ensures refused { IfErr result (MemoryOrStray (IsRecorded (state_of self.now) class.now)) }
         ensures kept { IsKept T.told self.now }
     {
         let table = Defined { registry: self };

@@ -5,7 +5,7 @@
 
 ghost use Rattle.std.specs.Prelude.{◌≡◌, Some, slice_get};
 ghost use Rattle.cl_findings.specs.Findings.{Decides};
-ghost use Rattle.cl_findings.specs.Tables.{TellsOf};
+ghost use Rattle.cl_constraints.specs.Books.{TellsOf};
 ghost use Rattle.cl_hierarchy.specs.Imposed.{equal_need, needs_of};
 ghost use Rattle.cl_model.specs.States.{AllMet, Met};
 ghost use Rattle.cl_registry.specs.Imposing.{IsNoted, StandsWith};

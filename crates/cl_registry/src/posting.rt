@@ -1,6 +1,6 @@
 //! The answers of requests (JVMS SE 8, 5.3 to 5.4.3).
 
-ghost use Rattle.std.specs.Prelude.{◌≡◌, ◌⊎◌, Contains, IfErr, OnOk, Some};
+ghost use Rattle.std.specs.Prelude.{◌≡◌, ◌⊎◌, IfErr, OnOk, Some};
 ghost use Rattle.cl_model.specs.Plans.{Link, Load, Resolve};
 ghost use Rattle.cl_model.specs.States.{ArrayMember, BadEntry};
 ghost use Rattle.cl_model.specs.Tables.{Bears, Records};
@@ -188,16 +188,9 @@ impl<T: Told> Registry<T> {
     {
         match verdict {
             Verdict::Linked(class) => {
-                self.records(loader, name, class) && self.has_prepared(class)
+                self.records(loader, name, class) && self.look_prepared(class)
             }
             _ => true,
         }
-    }
-
-    /// Whether a class is prepared.
-    fn has_prepared(&self, class: &Class) -> bool
-        ensures { Decides result (Contains (state_of self.now).prepared class.now) }
-    {
-        self.prepared.contains(class)
     }
 }

@@ -4,7 +4,7 @@ ghost use Rattle.std.specs.Prelude.{◌≡◌, ◌<◌, Some, None, IfErr, IfOk,
 ghost use Rattle.cl_delegation.specs.Searches.{LeadsTo};
 ghost use Rattle.cl_findings.specs.Findings.{Decides};
 ghost use Rattle.cl_registry.specs.declared.registry.RegistryFault.TheVariants.{Memory};
-ghost use Rattle.cl_registry.specs.Refusals.{AddRefusedFor, DefineRefusedFor, InitiateRefusedFor, JoinRefusedFor};
+ghost use Rattle.cl_registry.specs.Refusals.{AddRefusedFor, DefineRefusedFor, InitiateRefusedFor, MemoryOrStray};
 ghost use Rattle.cl_registry.specs.Tables.{DefinedAs, Defines, InitiatedAs, Initiates, IsKept, IsNew, LacksRecord, MayEnter, MayJoin, Records, looked};
 ghost use Rattle.cl_findings.specs.Loads.{asked_record, own_record};
 
@@ -269,7 +269,7 @@ impl<T: Told> Registry<T> {
         ensures may { IfOk result (λ r. MayJoin self.now home.now) }
         ensures row { IfOk result (λ r. looked self.now home.now.place home.now.name
             ≡ Some r.value) }
-        ensures refused { IfErr result (λ fault. JoinRefusedFor self.now home.now fault) }
+        ensures refused { IfErr result (MemoryOrStray (MayJoin self.now home.now)) }
         ensures leads { LeadsTo T.told home.now.config home.now.asked home.now.name
             (Some home.now.place) }
         ensures within { home.now.place < length home.now.config.loaders }

@@ -1,9 +1,11 @@
 //! The table of settled references, as a plain map.
 
-ghost use Rattle.std.specs.Prelude.{◌≡◌, ◌+◌, ◌≤◌, None, IfOk, OnOk, OnErr, option_map, vec_capacity, vec_len};
+ghost use Rattle.std.specs.Prelude.{◌≡◌, ◌+◌, None, IfOk, OnOk, OnErr, option_map, vec_len};
+ghost use Rattle.std.specs.Vec.{VecUnchanged};
 ghost use Rattle.indexmap.specs.IndexMap.{IsUnchanged, get};
 ghost use Rattle.cl_model.specs.Classes.{same_class};
-ghost use Rattle.cl_registry.specs.References.{AddsSettled, HasSameReferences, IsReferencePut, shared_references};
+ghost use Rattle.cl_registry.specs.Parts.{HasRoom, HasSame, shared};
+ghost use Rattle.cl_registry.specs.References.{AddsSettled, IsReferencePut};
 ghost use Rattle.cl_registry.specs.Tables.{reference_in};
 
 use crate::tables::References;
@@ -59,7 +61,7 @@ pub fn put_reference(
 ) -> Result<(), AllocError>
     ensures put { OnOk result (IsReferencePut (reference_in references.old)
         (reference_in references.new) class index settled) }
-    ensures unchanged { OnErr result (HasSameReferences (reference_in references.old)
+    ensures unchanged { OnErr result (HasSame (reference_in references.old)
         (reference_in references.new)) }
 {
     if let Some(one) = references.get_mut(&class) {
@@ -80,18 +82,17 @@ pub fn bind(
     seed: Seed,
     settled: Settled,
 ) -> Result<Arc<Settled>, AllocError>
-    requires room { vec_len history.old + left ≤ vec_capacity history.old }
-    ensures room { vec_len history.new + left ≤ vec_capacity history.new }
+    requires room { HasRoom history.old left }
+    ensures room { HasRoom history.new left }
     ensures value { IfOk result (λ s. s.value ≡ settled) }
     ensures event { OnOk result (AddsSettled history.old.items history.new.items settled) }
     ensures used { OnOk result (vec_len history.new ≡ vec_len history.old + 1) }
     ensures put { OnOk result (IsReferencePut
-        (shared_references (λ s. s.value) (reference_in references.old))
-        (shared_references (λ s. s.value) (reference_in references.new))
+        (shared (λ s. s.value) (reference_in references.old))
+        (shared (λ s. s.value) (reference_in references.new))
         settled.class settled.index settled) }
-    ensures same_history { OnErr result (history.new.items ≡ history.old.items) }
-    ensures same_length { OnErr result (vec_len history.new ≡ vec_len history.old) }
-    ensures same_references { OnErr result (HasSameReferences (reference_in references.old)
+    ensures same_history { OnErr result (VecUnchanged history.old history.new) }
+    ensures same_references { OnErr result (HasSame (reference_in references.old)
         (reference_in references.new)) }
 {
     let class = settled.class.try_clone(alloc)?;

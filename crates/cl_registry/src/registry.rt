@@ -100,7 +100,7 @@ impl<T: Told> Drop for Registry<T> {
 
 impl<T: Told> Model for Registry<T> {
     ghost use Rattle.std.specs.Prelude.{length, vec_len, vec_capacity};
-    ghost use Rattle.std.specs.Option.{option_map};
+    ghost use Rattle.cl_registry.specs.Parts.{shared};
     ghost use Rattle.cl_registry.specs.Tables.{Shown, reference_in, row_at};
     ghost use Rattle.cl_registry.specs.Kept.{IsRegistry};
 
@@ -110,7 +110,7 @@ impl<T: Told> Model for Registry<T> {
 
     ghost view = { shown };
 
-    ghost invariant = { λ r. IsRegistry T.told (shown r) (record { table = λ l n. option_map (λ c. c.value) (row_at r.tables.items l n); parts = length r.tables.items; references = λ c i. option_map (λ s. s.value) (reference_in r.references c i); prepared = r.prepared.keys; met = r.met.items; events = vec_len r.history; room_for_events = vec_capacity r.history; left = r.left; unanswered = r.unanswered.items; round = r.round; filled = vec_len r.room; room = vec_capacity r.room }) (⟦<GroupedBook as ConstraintBook>⟧.stands_for r.book) };
+    ghost invariant = { λ r. IsRegistry T.told (shown r) (record { table = shared (λ c. c.value) (row_at r.tables.items); parts = length r.tables.items; references = shared (λ s. s.value) (reference_in r.references); prepared = r.prepared.keys; met = r.met.items; events = vec_len r.history; room_for_events = vec_capacity r.history; left = r.left; unanswered = r.unanswered.items; round = r.round; filled = vec_len r.room; room = vec_capacity r.room }) (⟦<GroupedBook as ConstraintBook>⟧.stands_for r.book) };
 }
 
 /// A registry could not be made.

@@ -4,8 +4,8 @@ ghost use Rattle.std.specs.Prelude.{◌≡◌, Some, IfErr, IfOk, MatchOption};
 ghost use Rattle.std.specs.Option.{option_map};
 ghost use Rattle.cl_findings.specs.Findings.{Decides, Stands};
 ghost use Rattle.cl_registry.specs.References.{IsSettledIn, IsUnsettled, cited_by, settled_by};
-ghost use Rattle.cl_registry.specs.Refusals.{BindRefusedFor, SettleRefusedFor};
-ghost use Rattle.cl_registry.specs.Settling.{IsToSettle, Says, SaysNone, Settles};
+ghost use Rattle.cl_registry.specs.Refusals.{MemoryOrStray, SettleRefusedFor};
+ghost use Rattle.cl_registry.specs.Settling.{IsToSettle, MaySettle, Says, SaysNone, Settles};
 ghost use Rattle.cl_registry.specs.Tables.{IsKept, settled_at, state_of};
 
 use crate::references::{bind, find_reference};
@@ -122,7 +122,7 @@ impl<T: Told> Registry<T> {
     /// What a finding settles.
     fn to_settle(&self, alloc: Global, finding: &Finding<T>) -> Result<Settled, RegistryFault>
         ensures settled { IfOk result (λ s. IsToSettle self.now finding.now s) }
-        ensures refused { IfErr result (λ fault. BindRefusedFor self.now finding.now fault) }
+        ensures refused { IfErr result (MemoryOrStray (MaySettle self.now finding.now)) }
     {
         let Some((class, index)) = self.cited_by(finding.request()) else {
             return Err(RegistryFault::Stray);

@@ -3,8 +3,8 @@
 ghost use Rattle.std.specs.Prelude.{◌≡◌, ℕ, List, ◌<◌, None, Some, IfOk, OnOk, length};
 ghost use Rattle.std.specs.Option.{option_map};
 ghost use Rattle.cl_findings.specs.Findings.{Decides};
-ghost use Rattle.cl_registry.specs.Parts.{HasSameRows, HasSpare, IsPut};
-ghost use Rattle.cl_registry.specs.Tables.{row_at};
+ghost use Rattle.cl_registry.specs.Parts.{HasSame, HasSpare, IsPut};
+ghost use Rattle.cl_registry.specs.Tables.{placed_at, row_at};
 
 use cl_hierarchy::ClassRow;
 use cl_model::{Class, LoaderId, Settled, Told};
@@ -46,7 +46,7 @@ pub fn find<'a, T: Told>(
 pub fn reserve_row<T: Told>(tables: &mut Rows<T>, loader: LoaderId) -> Result<(), AllocError>
     requires { loader < length tables.old.items }
     ensures width { length tables.new.items ≡ length tables.old.items }
-    ensures same { HasSameRows (row_at tables.old.items) (row_at tables.new.items) }
+    ensures same { HasSame (row_at tables.old.items) (row_at tables.new.items) }
     ensures room { OnOk result (HasSpare tables.new.items loader) }
 {
     tables[loader.0 as usize].reserve(1)
@@ -72,8 +72,7 @@ pub fn insert_reserved<T: Told>(
 
 /// The loader that defined the class of a row.
 pub fn place<T: Told>(tables: &Rows<T>, loader: LoaderId, name: &Name) -> Option<LoaderId>
-    ensures { result ≡ option_map (λ r. r.value.class.loader)
-        (row_at tables.now.items loader name.now) }
+    ensures { result ≡ placed_at tables.now.items loader name.now }
 {
     match find(tables, loader, name) {
         None => None,
@@ -83,8 +82,7 @@ pub fn place<T: Told>(tables: &Rows<T>, loader: LoaderId, name: &Name) -> Option
 
 /// Whether a loader has recorded the class of a name that this loader defined.
 pub fn has<T: Told>(tables: &Rows<T>, loader: LoaderId, name: &Name, home: LoaderId) -> bool
-    ensures { Decides result (option_map (λ r. r.value.class.loader)
-        (row_at tables.now.items loader name.now) ≡ Some home) }
+    ensures { Decides result (placed_at tables.now.items loader name.now ≡ Some home) }
 {
     place(tables, loader, name) == Some(home)
 }

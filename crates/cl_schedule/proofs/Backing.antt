@@ -8,7 +8,7 @@ use Rattle.cl_findings.specs.Findings.{Answered, Based, BasisStands, IsLookedUp,
 use Rattle.cl_hierarchy.specs.Drafts.{Drafted}
 use Rattle.cl_hierarchy.specs.Imposed.{Sprung, OfReference, OfPreparation, needs_of}
 use Rattle.cl_hierarchy.specs.Lineages.{Lined}
-use Rattle.cl_hierarchy.specs.Rows.{Rowed}
+use Rattle.cl_hierarchy.specs.Rows.{FitsAs, Rowed}
 use Rattle.cl_model.specs.declared.answer.Answer as rust
 use Rattle.cl_model.specs.declared.class.Class.{Class}
 use Rattle.cl_model.specs.declared.request.Request.{Request}
@@ -26,7 +26,7 @@ use Rattle.cl_registry.specs.Imposing.{IsPreparedAbove, IsReadyBy, IsStanding, S
 use Rattle.cl_registry.specs.Posting.{AnswerBacked, IsBacked}
 use Rattle.cl_registry.specs.References.{Cited, cited_by, settled_by}
 use Rattle.cl_registry.specs.Settling.{MaySettle}
-use Rattle.cl_registry.specs.Tables.{Shown, FitsAs, IsKept, MayEnter, looked, records_of, settled_at, state_of, steps, machine}
+use Rattle.cl_registry.specs.Tables.{Shown, IsKept, MayEnter, looked, records_of, settled_at, state_of, steps, machine}
 use Rattle.cl_registry.proofs.Placed.{recorded_row}
 use Rattle.cl_registry.proofs.Tracing.{looked_row}
 use Rattle.cl_tasks.specs.Follows.{AnswerFollows, Backed}
@@ -131,9 +131,7 @@ basis_later : (told : Option Content) (old new : Shown) (o : Option Based) → I
 basis_later told old new None h is = is
 basis_later told old new (Some b) h is = record {
   config = is.config ∙ sym h.goes.config;
-  needs = all_met_later old new b.needs h.goes is.needs;
-  prepared = all_prepared_later old new b.prepared h.goes is.prepared;
-  refused = refusal_later told old new b.refused h is.refused;
+  carried = (all_met_later old new b.needs h.goes is.carried.0, all_prepared_later old new b.prepared h.goes is.carried.1, refusal_later told old new b.refused h is.carried.2);
 }
 
 within_later : (old new : Shown) (f : Answered) → GoesOn old new → IsWithin (length old.config.loaders) f → IsWithin (length new.config.loaders) f

@@ -14,13 +14,13 @@ use Rattle.cl_model.proofs.Bind.{some_same}
 use Rattle.cl_config.specs.Views.{Configured, Scripted}
 use Rattle.cl_delegation.specs.Worlds.{world_of}
 use Rattle.cl_registry.specs.Tables.{Shown, IsKept, machine}
-use Rattle.cl_tasks.specs.Blames.{AnswerBlames, AsksWhere, BlamesWhere}
+use Rattle.cl_tasks.specs.Blames.{AnswerBlames, AsksWhere, BlamesWhere, TurnBlames}
 use Rattle.cl_tasks.specs.Follows.{Tells}
 use Rattle.cl_tasks.specs.Tasks.{Tasked}
 use Rattle.cl_tasks.specs.declared.turn.Reply.{Reply}
 use Rattle.cl_tasks.specs.declared.turn.Turn.{Turn}
 use Rattle.cl_tasks.specs.declared.turn.Turn.TheVariants as turn
-use Rattle.cl_schedule.specs.Blames.{EachBlames, IsAskedFor, TurnBlames}
+use Rattle.cl_schedule.specs.Blames.{EachBlames, IsAskedFor}
 use Rattle.cl_schedule.specs.Rounds.{RoundsPassed}
 use Rattle.cl_schedule.proofs.Places.{other_set, same_or_apart, same_set}
 use Rattle.cl_schedule.proofs.Steps.{Turning, TurnSays, of_request, served_in}
@@ -44,24 +44,24 @@ asks_here (Some content) x c holds r kept config h a asks =
       asks g x p.0 (served_in (Some content) x c content refl kept config) p.1 h,
     )
 
-turn_blames : {A : Type 0} (told : Option Content) (x : Shown) (c : Configured) (holds : Shown → Type 0) (r : Request) (u : Turn A) → IsKept told x → x.config ≡ c → holds x → BlamesWhere told c holds r u → TurnBlames told c r u
+turn_blames : {A : Type 0} (told : Option Content) (x : Shown) (c : Configured) (holds : Shown → Type 0) (r : Request) (u : Turn A) → IsKept told x → x.config ≡ c → holds x → BlamesWhere told c holds r u → TurnBlames c (IsAskedFor told c r) u
 turn_blames told x c holds r (turn.Post f) kept config h b =
     answer_blames c (AsksWhere told c holds r) (IsAskedFor told c r) f.answer (asks_here told x c holds r kept config h) b
 turn_blames told x c holds r other kept config h b = tt
 
 -- a turn blames so in a registry of its task's configuration
 pub blames_here : {A : Type 0} (told : Option Content) (x : Shown) (r : Request) (t : Tasked) (given : Reply A) (u : Turn A) → IsKept told x → x.config ≡ t.config → t.request ≡ Some r → Tells x t given
-    → IfSome t.request (λ k. BlamesWhere told t.config (λ y. Tells y t given) k u) → TurnBlames told x.config r u
+    → IfSome t.request (λ k. BlamesWhere told t.config (λ y. Tells y t given) k u) → TurnBlames x.config (IsAskedFor told x.config r) u
 blames_here told x r t given u kept config is tells blames =
-    subst (λ (c : Configured). TurnBlames told c r u) (sym config)
+    subst (λ (c : Configured). TurnBlames c (IsAskedFor told c r) u) (sym config)
     (turn_blames told x t.config (λ y. Tells y t given) r u kept config tells
     (of_request t.request r (λ k. BlamesWhere told t.config (λ y. Tells y t given) k u) is blames))
 
 -- and since the first turn of its request
 pub blames_since : {A S : Type 0} (told : Option Content) (old x : Shown) (c : Configured) (r : Request) (t new : Tasked) (given : Reply A) (u : Turn A) (count since : ℕ) (source later : S) → Turning told old x c r t given count since source later → TurnSays told t new given u
-    → TurnBlames told old.config r u
+    → TurnBlames old.config (IsAskedFor told old.config r) u
 blames_since told old x c r t new given u count since source later k says =
-    subst (λ (d : Configured). TurnBlames told d r u) k.going.config
+    subst (λ (d : Configured). TurnBlames d (IsAskedFor told d r) u) k.going.config
     (blames_here told x r t given u k.going.kept (k.going.config ∙ k.base ∙ sym k.config) k.request k.tells.told says.blames)
 
 -- ---- all answers

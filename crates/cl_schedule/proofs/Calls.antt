@@ -22,7 +22,7 @@ use Rattle.cl_registry.specs.declared.registry.RegistryFault.{RegistryFault}
 use Rattle.cl_registry.specs.declared.registry.RegistryFault.TheVariants.{Memory, Stray, Violates, AlreadyPosted, NotYet}
 use Rattle.cl_registry.specs.Imposing.{Constrains, Imposes, MarksBy, MayImpose, MayMark}
 use Rattle.cl_registry.specs.References.{Cited, IsSettledIn, settled_by}
-use Rattle.cl_registry.specs.Refusals.{Blames, DefineRefusedFor, ImposeRefusedFor, InitiateRefusedFor, LineageRefusedFor, MarkRefusedFor, SettleRefusedFor}
+use Rattle.cl_registry.specs.Refusals.{Blames, DefineRefusedFor, ImposeRefusedFor, InitiateRefusedFor, MarkRefusedFor, MemoryOrStray, SettleRefusedFor}
 use Rattle.cl_registry.specs.Settling.{MaySettle, SettledAs, Settles}
 use Rattle.cl_registry.specs.Tables.{Shown, Defines, DefinedAs, Initiates, InitiatedAs, MayEnter, MayJoin, records_of, row_for, settled_at, state_of}
 use Rattle.cl_registry.proofs.Settled.{settled_is_told}
@@ -120,7 +120,7 @@ initiate_answered A x new h (Violates n) refused same = let b = blamed x new (as
 initiate_answered A x new h AlreadyPosted refused same = absurd refused
 initiate_answered A x new h NotYet refused same = absurd refused
 
-pub lineage_answered : (A : Type 0) (x : Shown) (c : Class) (fault : RegistryFault) → LineageRefusedFor x c fault → TellsRefused A (IsRecorded (state_of x) c) x (Tracing c) fault
+pub lineage_answered : (A : Type 0) (x : Shown) (c : Class) (fault : RegistryFault) → MemoryOrStray (IsRecorded (state_of x) c) fault → TellsRefused A (IsRecorded (state_of x) c) x (Tracing c) fault
 lineage_answered A x c Memory refused = record { fits = λ e. ended e; tells = tt; shows = tt }
   where
     ended : Tracing c ≡ Ended → ⊥

@@ -121,7 +121,7 @@ has_answer x q t below closed = answered x q t ∙ some_given x.answers q (subst
 -- where all requests below a number have their answers, and no further round may begin, that number is of the round
 first_round : (x : Shown) (first m : ℕ) → IsTrusted x → MayGather x first → (tables.MayGoOn x → ⊥) → first < length x.script.requests → slice_get x.script.rounds_of first ≡ Some m → m ≡ round_of x
 first_round x first m t g over below at = elim (cases_lt m (round_of x)) [
-  | inl less ↦ absurd (none_some (answer_at (answers_of x.answers) first) (open_answer x.answers first (g.open_later first (omega arith) below)) (t.earlier first m at less))
+  | inl less ↦ absurd (none_some (answer_at (answers_of x.answers) first) (open_answer x.answers first (g.front.open_later first (omega arith) below)) (t.earlier first m at less))
   | inr least ↦
       (elim (cases_lt (round_of x) m) [
         | inl after ↦ absurd (over (record { answered = λ p e there same. given p e there same after; later = let most = within x.script.rounds x.script.rounds_of first m t.script.within at in omega arith }))
@@ -173,12 +173,14 @@ gathered told x first ws next k g over a =
           a.numbers
           ∙ sym (waiting_there (state_of x) first 0 first (length ws) (schedule_of x.script) (omega arith) (let most = a.within in omega arith) (λ p q e is at less. before q e (there p q e is at) less)
           (λ p q e is at least less. those q e (there p q e is at) least (omega arith)) (λ p q e is at least. behind q e (there p q e is at) (omega arith)));
-      within = a.within;
-      begun = λ p below late. elim (cases_lt p first) [
-        | inl less ↦ g.begun p less late
-        | inr least ↦ not_later late (of_round x first ws next p t g over a least below)
-      ];
-      open_later = λ p least below. g.open_later p (omega arith) below;
+      front = record {
+        within = a.within;
+        begun = λ p below late. elim (cases_lt p first) [
+          | inl less ↦ g.front.begun p less late
+          | inr least ↦ not_later late (of_round x first ws next p t g over a least below)
+        ];
+        open_later = λ p least below. g.front.open_later p (omega arith) below;
+      };
       later = λ p least below. behind_round x first ws next p t g over a least below;
     }
   where
@@ -203,7 +205,7 @@ gathered told x first ws next k g over a =
     those q e at least less =
         let now : e.round ≡ round_of x = some_same e.round (round_of x) (sym (schedule_round x.script.requests x.script.rounds_of q e at) ∙ of_round x first ws next q k.trusted g over a least less) in
         two_true (nat_eq e.round (round_of x)) (is_none (answer_to (state_of x).answers q)) (subst (λ (n : ℕ). nat_eq e.round n ≡ true) now (nat_eq_equiv.refl e.round))
-        (ap is_none (none_there x q k.trusted (g.open_later q least (in_script x.script q e k.trusted.script at))))
+        (ap is_none (none_there x q k.trusted (g.front.open_later q least (in_script x.script q e k.trusted.script at))))
 
     other_round : (m n : ℕ) (b : Bool) → n < m → (nat_eq m n && b) ≡ false
     other_round m n b less = ap (λ (d : Bool). d && b) (apart m n less)

@@ -6,8 +6,8 @@ use Rattle.cl_model.specs.declared.class.Class.{Class}
 use Rattle.cl_model.specs.declared.answer.Answer as answers
 use Rattle.cl_model.specs.declared.request.Request as requests
 use Rattle.cl_model.specs.Content.{Content}
-use Rattle.cl_model.specs.Classes.{class, ClassCircularity}
-use Rattle.cl_model.specs.States.{State, Answer, Said, Verdict, Wrong, answer_to}
+use Rattle.cl_model.specs.Classes.{class}
+use Rattle.cl_model.specs.States.{State, Answer, Said, Verdict, answer_to}
 use Rattle.cl_model.specs.Plans.{Load, Resolve}
 use Rattle.cl_model.specs.Machine.{Setting, Scheduled, AnswersPlan, AnswersReference, IsSound}
 use Rattle.cl_model.specs.Tables.{IsConsistent, Records}
@@ -21,7 +21,7 @@ use Rattle.cl_model.proofs.Bind.{some_same}
 use Rattle.cl_registry.specs.Tables.{Shown, IsTrusted, IsKept, RunsAs, state_of, steps, machine}
 use Rattle.cl_registry.proofs.Placed.{recorded_row}
 use Rattle.cl_config.specs.Loaders.{schedule_of}
-use Rattle.cl_schedule.specs.Headline.{EachSpelt, Alike, SaysOf, ReferencesAlike, EndsInCircle, CirclesExact}
+use Rattle.cl_schedule.specs.Headline.{EachSpelt, Alike, SaysOf, ReferencesAlike, CirclesExact}
 use Rattle.cl_schedule.proofs.Rounds.{answer_there, scheduled_at}
 
 -- ---- an answer of the report is one of the state
@@ -84,7 +84,7 @@ answered_plan : (g : Setting) (s : State) (q l n : ℕ) (name : List ℕ) (v : V
 answered_plan g s q l n name v sound asked is =
     let a = sound.answered q (Said v) is in
     let same : a.scheduled ≡ record { request = Load l name; round = n } = some_same a.scheduled (record { request = Load l name; round = n }) (sym a.asked ∙ asked) in
-    subst (λ (e : Scheduled). AnswersPlan g s e.request v) same (record { plan = a.may_answer.plan; planned = a.may_answer.planned; answered = a.may_answer.answered })
+    subst (λ (e : Scheduled). AnswersPlan g s e.request v) same a.may_answer.answers
 
 pub circles_exact : (told : Option Content) (x : Shown) → IsTrusted x → RunsAs told x → CirclesExact told x
 circles_exact None x t run = tt
@@ -94,9 +94,6 @@ circles_exact (Some content) x t run =
     let at = asked_at x content q (requests.TheVariants.Load loader name) t says.asked in
     let plan = answered_plan g (state_of x) q loader at.0 name v (runs_are_sound g (steps x) run) at.1 (said_there x q v t says.answered) in
     record {
-      only = λ c e. only_there g (state_of x) loader name c (subst (λ (k : Verdict). AnswersPlan g (state_of x) (Load loader name) k) e plan);
-      there = λ c ends. circular_is_answered g (state_of x) loader ends.place name c v ends.found ends.returns plan;
+      only = λ c e. circle_is_answered g (state_of x) loader name c (subst (λ (k : Verdict). AnswersPlan g (state_of x) (Load loader name) k) e plan);
+      there = λ c ends. circular_is_answered g (state_of x) loader name c v ends plan;
     }
-  where
-    only_there : (g : Setting) (s : State) (loader : ℕ) (name : List ℕ) (c : Class) → AnswersPlan g s (Load loader name) (Wrong (ClassCircularity c)) → EndsInCircle g.world loader name c
-    only_there g s loader name c plan = let r = circle_is_answered g s loader name c plan in record { place = r.0; found = r.1; returns = r.2 }

@@ -4,7 +4,7 @@ use Rattle.std.proofs.lemmas.List.{map_push, append-nil}
 use Rattle.cl_model.specs.declared.event.Event.{Event}
 use Rattle.cl_model.specs.Views.{answers_of, step_of}
 use Rattle.cl_hierarchy.specs.Rows.{Rowed}
-use Rattle.cl_registry.specs.Tables.{Shown, steps, posts}
+use Rattle.cl_registry.specs.Tables.{Shown, steps, posts, with_event}
 use Rattle.cl_registry.proofs.Histories.{posts_then}
 use Rattle.cl_schedule.specs.Serving.{GoesBy}
 
@@ -32,5 +32,5 @@ goes_by old new e more is quiet = record {
 }
 
 -- an event more, and no row
-pub goes_event : (old new : Shown) (e : Event) → new ≡ record old { history = old.history ++ e ∷ [] } → IsQuiet e → GoesBy old new (step_of (answers_of old.answers) e)
+pub goes_event : (old new : Shown) (e : Event) → new ≡ with_event old e → IsQuiet e → GoesBy old new (step_of (answers_of old.answers) e)
 goes_event old new e is quiet = goes_by old new e [] (is ∙ ap (λ (rows : List Rowed). record old { rows = rows; history = old.history ++ e ∷ [] }) (sym (append-nil old.rows))) quiet

@@ -88,7 +88,7 @@ settle_next g x r f e s n same to is may =
     let at = cited_is x r n.class (record { class = s.class; index = s.index }) n.kept (ap (cited_by x) (sym same) ∙ to.cited) in
     let verdict : n.verdict ≡ s.verdict = said_is n.verdict s.verdict (sym n.said ∙ to.says.said) in
     let here : Settle n.class (index_of r) (verdict_of n.verdict) ≡ e = step_is n.class s.class (index_of r) s.index n.verdict s.verdict at.0 at.1 verdict ∙ sym is in
-    let unsettled = (subst (May g (state_of x)) (sym here) may).unsettled in
+    let unsettled = (subst (May g (state_of x)) (sym here) may).may_keep.unsettled in
     subst (IsNextStep g (state_of x) (request_of r)) here (n.step unsettled)
   where
     said_is : (v u : verdicts.Verdict) → answers.TheVariants.Said v ≡ answers.TheVariants.Said u → v ≡ u

@@ -41,7 +41,6 @@ use Rattle.cl_schedule.proofs.Rooming.{steps_posted}
 use Rattle.cl_schedule.proofs.Seated.{after_call, ready_again}
 use Rattle.cl_schedule.proofs.Steps.{of_request, served_in}
 use Rattle.cl_schedule.proofs.Takings.{IsMeasure, begun_nearer, keeps_none, keeps_rounds, keeps_turned}
-use Rattle.cl_registry.proofs.Schedules.{some_at}
 
 -- ---- numbers
 
@@ -158,18 +157,17 @@ plan_measure told c = record {
 
 -- memory ran out before a request was begun
 pub turned_memory : {A : Type 0} (told : Option Content) (old new : Shown) (q : ℕ) (before : Option (Seat A)) (a : rust.Answer) → IsKept told old → MayBeTaken old q → a ≡ rust.TheVariants.Memory → new ≡ with_post old q a → HasTurned told old new q before None
-turned_memory told old new q before a kept waits is posted =
-    let r = some_at old.script.requests q waits.asked in
+turned_memory told old new q before a kept r is posted =
     let did : HasPosted told old new q = record {
       request = r.0;
-      asked = r.1;
-      unanswered = waits.unanswered;
+      asked = r.1.asked;
+      unanswered = r.1.unanswered;
       answer = a;
       posted = posted;
       ends = λ content e. subst (λ (b : rust.Answer). MayEnd (machine old content) (state_of old) (request_of r.0) (answer_of b)) (sym is) tt;
       blames = subst (λ (b : rust.Answer). AnswerBlames old.config (IsAskedFor told old.config r.0) b) (sym is) tt;
     } in
-    record { did = did; known = memory_known told old new q a before kept waits.unanswered is posted; paid = posted_pays told old new q before kept did }
+    record { did = did; known = memory_known told old new q a before kept r.1.unanswered is posted; paid = posted_pays told old new q before kept did }
 
 -- a request was begun, and took its first turn
 pub turned_begun : {A : Type 0} (told : Option Content) (old new : Shown) (q : ℕ) (r : Request) (seat : Seat A) (after : Option (Seat A)) → slice_get old.script.requests q ≡ Some r → IsSeated told old seat.task seat.call q r

@@ -8,11 +8,11 @@ use Rattle.cl_model.specs.Machine.{Scheduled, Setting, Step, state_after}
 use Rattle.cl_model.specs.Service.{PassesRounds}
 use Rattle.cl_model.proofs.Views.{state_then}
 use Rattle.cl_registry.specs.Tables.{Shown, MayGoOn, state_of, steps, machine}
-use Rattle.cl_schedule.specs.Choices.{AreInTime, Plays, PlayedAs, ArePrompt, IsInTime, IsPieceOf, IsPrompt, Piece, piece, steps_in}
+use Rattle.cl_schedule.specs.Choices.{AreInTime, Plays, PlayedAs, ArePrompt, IsInTime, IsPieceOf, IsPrompt, Piece, piece, steps_in, IsPlayedBy}
 use Rattle.cl_schedule.specs.Counting.{debt}
 use Rattle.cl_schedule.specs.Nearing.{by_verdict}
 use Rattle.cl_schedule.specs.Paying.{by_plan}
-use Rattle.cl_schedule.specs.Rooms.{IsOpened, IsPlayedBy, KeepsTakings, PlayedPast, PlayedTo, PlaysIn, ServesOn}
+use Rattle.cl_schedule.specs.Rooms.{IsOpened, KeepsTakings, PlayedPast, PlayedTo, PlaysIn, ServesOn}
 use Rattle.cl_config.specs.Loaders.{schedule_of}
 use Rattle.cl_config.specs.Views.{Configured, Scripted}
 use Rattle.cl_schedule.specs.declared.choices.Room.{Room}
@@ -66,7 +66,7 @@ played_none (Some content) empty x e p =
 pub record IsPlayedIn {A : Type 0} (content : Content) (x : Shown) (room : Room A) (cs : List ℕ) : Type 0 where
   pub rounds : List Step
   pub pieces : List Piece
-  pub by : IsPlayedBy content x cs rounds pieces
+  pub by : IsPlayedBy (machine x content) cs (steps x) rounds pieces
   pub near : AreWithin by_verdict x room pieces
   pub paid : AreWithin (by_plan (Some content) x.config) x room pieces
 
@@ -156,7 +156,7 @@ between_on told config script first old new opened was now k l m Played Next bet
 
 pub played_as : (told : Option Content) (x : Shown) (cs : List ℕ) → PlayedPast told x cs → PlayedAs told (bare x) cs
 played_as None x cs played = tt
-played_as (Some content) x cs (more, (rounds, pieces, by)) = record { rounds = rounds; pieces = pieces; more = more; whole = by.whole; passed = by.passed; played = by.played; prompt = by.prompt; in_time = by.in_time }
+played_as (Some content) x cs (more, (rounds, pieces, by)) = record { rounds = rounds; pieces = pieces; more = more; by = by }
 
 -- ---- the choices of a schedule
 

@@ -26,9 +26,10 @@ use Rattle.cl_registry.proofs.Schedules.{some_at}
 use Rattle.cl_tasks.specs.Measures.{all_left}
 use Rattle.cl_tasks.specs.Tasks.{Tasked}
 use Rattle.cl_tasks.specs.declared.turn.Turn.{Turn}
+use Rattle.cl_tasks.specs.Blames.{TurnBlames}
 use Rattle.cl_schedule.specs.declared.choices.Room.{Room}
 use Rattle.cl_schedule.specs.declared.seats.Seat.{Seat}
-use Rattle.cl_schedule.specs.Blames.{EachBlames, TurnBlames}
+use Rattle.cl_schedule.specs.Blames.{EachBlames, IsAskedFor}
 use Rattle.cl_schedule.specs.Places.{seat_at}
 use Rattle.cl_schedule.specs.Replies.{Did}
 use Rattle.cl_schedule.specs.Rooms.{AllSeated, ChoosesIn, FirstFalls, HasTaken, IsRoom, IsServing, OpenSeats, PlaysIn, TakesFirst, WaitsAgain, first_left, left_at, left_of, room_sum}
@@ -64,7 +65,7 @@ seated_later told x y t u q r goes s = record {
   backed = λ z after. s.backed z (after_then told x y z goes after);
   follows = λ z after. s.follows z (after_then told x y z goes after);
   posts = λ z after. s.posts z (after_then told x y z goes after);
-  blames = subst (λ (c : Configured). TurnBlames told c r u) (sym goes.config) s.blames;
+  blames = subst (λ (c : Configured). TurnBlames c (IsAskedFor told c r) u) (sym goes.config) s.blames;
 }
 
 -- ---- a turn, in the registry

@@ -17,6 +17,7 @@ use Rattle.cl_registry.specs.declared.registry.RegistryFault.TheVariants.{Memory
 use Rattle.cl_registry.specs.References.{Cited, cited_by}
 use Rattle.cl_registry.specs.Refusals.{PostRefusedFor}
 use Rattle.cl_registry.specs.Tables.{Shown, IsAsked, IsKept, RunsAs, state_of, steps, with_post, machine}
+use Rattle.cl_registry.specs.Posting.{MayPost}
 use Rattle.cl_tasks.specs.Facts.{Holds}
 use Rattle.cl_tasks.specs.Measures.{all_left}
 use Rattle.cl_tasks.specs.Follows.{AreLeft, Backed, FollowsWhere, Tells, TellsOf, Unrecorded}
@@ -28,7 +29,7 @@ use Rattle.cl_tasks.specs.declared.turn.Reply.TheVariants as reply
 use Rattle.cl_tasks.specs.declared.turn.Turn.{Turn}
 use Rattle.cl_tasks.specs.declared.turn.Turn.TheVariants as turn
 use Rattle.cl_schedule.specs.Replies.{CallSays, Did, IsCall, IsRead, IsReplied, IsStepOf}
-use Rattle.cl_schedule.specs.Seats.{FollowsIn, GoesOn, HasAdvanced, HasPosted, IsAfter, IsCitedFor, IsFor, IsReady, IsSeated, IsSeatedAt, MayPost, NextIn, PostsIn}
+use Rattle.cl_schedule.specs.Seats.{FollowsIn, GoesOn, HasAdvanced, HasPosted, IsAfter, IsCitedFor, IsFor, IsReady, IsSeated, IsSeatedAt, NextIn, PostsIn}
 use Rattle.cl_schedule.specs.Serving.{GoesBy}
 use Rattle.cl_schedule.proofs.Blaming.{blames_here}
 use Rattle.cl_schedule.proofs.Backing.{call_backed_later, cited_later, post_backed_later}
@@ -230,7 +231,7 @@ post_refused (Some content) old t f q fault kept (r, may, seated) refused = absu
     never : (fault : RegistryFault) → PostRefusedFor old q f fault → ⊥
     never Memory refused = refused
     never Stray (inl stray) = stray asked
-    never Stray (inr stray) = stray.3 (seated.posts old (after_none (Some content) old kept) content refl may)
+    never Stray (inr stray) = stray.1 (seated.posts old (after_none (Some content) old kept) content refl may)
     never (Violates n) refused = refused
     never AlreadyPosted refused = refused.2 may.unanswered
     never NotYet refused = may.begun refused.1

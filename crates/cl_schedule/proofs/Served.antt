@@ -10,8 +10,9 @@ use Rattle.cl_model.specs.Machine.{Setting, Step, Post, May, Run, state_after}
 use Rattle.cl_model.specs.Service.{IsNextStep, MayEnd, IsBegun}
 use Rattle.cl_model.specs.Views.{answer_of, request_of}
 use Rattle.cl_model.proofs.Service.{begun_push, begun_ends, run_last}
-use Rattle.cl_registry.specs.Tables.{Shown, IsKept, IsLater, IsOpen, RunsAs, posts, round_of, steps, state_of, with_post, machine}
+use Rattle.cl_registry.specs.Tables.{Shown, IsKept, IsOpen, RunsAs, posts, round_of, steps, state_of, with_post, machine}
 use Rattle.cl_registry.proofs.Histories.{posts_then, steps_posts, unposted}
+use Rattle.cl_registry.specs.Posting.{MayPost}
 use Rattle.cl_tasks.specs.declared.turn.Turn.{Turn}
 use Rattle.cl_tasks.specs.Blames.{AnswerBlames}
 use Rattle.cl_tasks.specs.Follows.{AnswerFollows}
@@ -117,14 +118,17 @@ going_did told old x new r u g (inr did) next kept = let n = next did.0 did.1 in
 
 -- ---- the post
 
--- a request that was of no later round is of none
-pub still_now : (told : Option Content) (old x : Shown) (r : Request) (q : ℕ) → Going told old x r → (IsLater old q → ⊥) → IsLater x q → ⊥
-still_now told old x r q g now later =
-    now (record {
-      round = later.round;
-      of = ap (λ s. slice_get s.rounds_of q) (sym g.script) ∙ later.of;
-      later = subst (λ (k : ℕ). k < later.round) g.round later.later;
-    })
+-- what might be posted may be still
+pub may_still : (told : Option Content) (old x : Shown) (r : Request) (q : ℕ) → Going told old x r → MayPost old q r → MayPost x q r
+may_still told old x r q g may = record {
+  asked = ap (λ s. slice_get s.requests q) g.script ∙ may.asked;
+  begun = λ later. may.begun (record {
+    round = later.round;
+    of = ap (λ s. slice_get s.rounds_of q) (sym g.script) ∙ later.of;
+    later = subst (λ (k : ℕ). k < later.round) g.round later.later;
+  });
+  unanswered = ap (λ xs. slice_get xs q) g.answers ∙ may.unanswered;
+}
 
 pub may_end : (g : Setting) (s : State) (r : Request) (a : rust.Answer) → AnswerFollows g s r a → MayEnd g s (request_of r) (answer_of a)
 may_end g s r (rust.TheVariants.Said v) f = f

@@ -47,11 +47,11 @@ one_class s loader name c d kept named is =
     rw (n, at) refl
 
 has_of : (x : Shown) (r : Request) (v : Verdict) (row : Rowed) → Has (state_of x) (request_of r) v → IsRecordedAs x (loader_of r) (name_of r) row → HasOf (state_of x) (request_of r) row.class v
-has_of x (requests.Load loader name) v row h k = h.2 ∙ ap (λ (c : Class). IsClass c) (one_class (state_of x) loader name h.0 row.class h.1 k.named k.recorded)
+has_of x (requests.Load loader name) v row h k = h.2 ∙ ap (λ (c : Class). IsClass c) (one_class (state_of x) loader name h.0 row.class h.1 k.records.named k.records.recorded)
 has_of x (requests.Resolve loader name i) v row h k =
-    subst (λ (c : Class). settled_to (state_of x).settled c i ≡ Some v) (one_class (state_of x) loader name h.0 row.class h.1 k.named k.recorded) h.2
+    subst (λ (c : Class). settled_to (state_of x).settled c i ≡ Some v) (one_class (state_of x) loader name h.0 row.class h.1 k.records.named k.records.recorded) h.2
 has_of x (requests.Link loader name) v row h k =
-    let same = one_class (state_of x) loader name h.0 row.class h.1 k.named k.recorded in
+    let same = one_class (state_of x) loader name h.0 row.class h.1 k.records.named k.records.recorded in
     (subst (λ (c : Class). Contains (state_of x).prepared c) same h.2.0, h.2.1 ∙ ap (λ (c : Class). IsLinked c) same)
 
 has_record : (s : State) (r : Request) (v : Verdict) → Has s (request_of r) v → (place : ℕ) × (recorded s.records (loader_of r) (name_of r) ≡ Some place)

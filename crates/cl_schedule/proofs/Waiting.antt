@@ -189,9 +189,11 @@ gathered_same x new ws next script answers round posted h = record {
   waits =
       h.waits ∙ sym (waiting_same (state_of x) (state_of new) 0 (schedule_of x.script) round (λ p least. ap (λ (ps : List Posted). is_none (answer_to ps p)) posted))
       ∙ ap (λ (s : Scripted). waiting (schedule_of s) (state_of new)) (sym script);
-  within = subst (λ (s : Scripted). next ≤ length s.requests) (sym script) h.within;
-  begun = λ p below late. h.begun p below (later_down new x p (sym script) (at_most (round_of x) (round_of new) (sym round)) late);
-  open_later = λ p least below. subst (λ (xs : List (Option rust.Answer)). slice_get xs p ≡ Some None) (sym answers) (h.open_later p least (subst (λ (s : Scripted). p < length s.requests) script below));
+  front = record {
+    within = subst (λ (s : Scripted). next ≤ length s.requests) (sym script) h.front.within;
+    begun = λ p below late. h.front.begun p below (later_down new x p (sym script) (at_most (round_of x) (round_of new) (sym round)) late);
+    open_later = λ p least below. subst (λ (xs : List (Option rust.Answer)). slice_get xs p ≡ Some None) (sym answers) (h.front.open_later p least (subst (λ (s : Scripted). p < length s.requests) script below));
+  };
   later = λ p least below. later_down x new p script (at_most (round_of new) (round_of x) round) (h.later p least (subst (λ (s : Scripted). p < length s.requests) script below));
 }
 
@@ -259,9 +261,11 @@ gathered_post x ws next i q a t h at =
     let before : q < next = is_before w (cases_lt q next) in
     record {
       waits = ap (λ (xs : List ℕ). remove xs i) h.waits ∙ sym left ∙ ap (waiting (schedule_of x.script)) (sym there);
-      within = h.within;
-      begun = λ p below late. h.begun p below (later_down (with_post x q a) x p refl (at_most (round_of x) (round_of (with_post x q a)) (sym round)) late);
-      open_later = λ p least below. set_other x.answers q p (Some a) None (omega arith) (h.open_later p least below);
+      front = record {
+        within = h.front.within;
+        begun = λ p below late. h.front.begun p below (later_down (with_post x q a) x p refl (at_most (round_of x) (round_of (with_post x q a)) (sym round)) late);
+        open_later = λ p least below. set_other x.answers q p (Some a) None (omega arith) (h.front.open_later p least below);
+      };
       later = λ p least below. later_down x (with_post x q a) p refl (at_most (round_of (with_post x q a)) (round_of x) round) (h.later p least below);
     }
   where
@@ -303,14 +307,14 @@ round_grows x new p =
 -- where nobody waits, each of those that were gathered has its answer
 below_answered : (x : Shown) (next p : ℕ) → IsTrusted x → HasGathered x [] next → p < next → IsOpen x p → ⊥
 below_answered x next p t h below is =
-    let asked = some_at x.script.requests p (let most = h.within in omega arith) in
+    let asked = some_at x.script.requests p (let most = h.front.within in omega arith) in
     let e = scheduled_at x.script.requests x.script.rounds_of p asked.0 t.script.each asked.1 in
     let at : slice_get x.script.rounds_of p ≡ Some e.0 = schedule_round x.script.requests x.script.rounds_of p (record { request = request_of asked.0; round = e.0 }) e.1 in
     elim (cases_lt e.0 (round_of x)) [
       | inl less ↦ none_some (answer_at (answers_of x.answers) p) (open_answer x.answers p is) (t.earlier p e.0 at less)
       | inr least ↦
           (elim (cases_lt (round_of x) e.0) [
-            | inl after ↦ h.begun p below (record { round = e.0; of = at; later = after })
+            | inl after ↦ h.front.begun p below (record { round = e.0; of = at; later = after })
             | inr most ↦
                 (let same : e.0 ≡ round_of x = omega arith in
                 none_some (answer_to (state_of x).answers p) (none_there x p t is) (all_answered x h.waits p (record { request = request_of asked.0; round = e.0 }) e.1 same))
@@ -320,10 +324,12 @@ below_answered x next p t h below is =
 -- where nobody waits, the requests of the next round may be gathered once it began
 pub may_gather : (told : Option Content) (x new : Shown) (next : ℕ) → IsKept told x → RoundsPassed x new → HasGathered x [] next → MayGather new next
 may_gather told x new next k p h = record {
-  within = subst (λ (s : Scripted). next ≤ length s.requests) (sym p.script) h.within;
-  begun = λ q below late. h.begun q below (later_down new x q (sym p.script) (round_grows x new p) late);
+  front = record {
+    within = subst (λ (s : Scripted). next ≤ length s.requests) (sym p.script) h.front.within;
+    begun = λ q below late. h.front.begun q below (later_down new x q (sym p.script) (round_grows x new p) late);
+    open_later = λ q least below. subst (λ (xs : List (Option rust.Answer)). slice_get xs q ≡ Some None) (sym p.answers) (h.front.open_later q least (subst (λ (s : Scripted). q < length s.requests) p.script below));
+  };
   answered = λ q below is. below_answered x next q k.trusted h below (subst (λ (xs : List (Option rust.Answer)). slice_get xs q ≡ Some None) p.answers is);
-  open_later = λ q least below. subst (λ (xs : List (Option rust.Answer)). slice_get xs q ≡ Some None) (sym p.answers) (h.open_later q least (subst (λ (s : Scripted). q < length s.requests) p.script below));
 }
 
 none_given : (n p : ℕ) → p < n → slice_get (replicate n (let o : Option rust.Answer = None in o)) p ≡ Some None
@@ -337,12 +343,14 @@ may_gather_first config script empty new is p =
     let same : new.script ≡ script = p.script ∙ ap (λ (x : Shown). x.script) is in
     let none : new.answers ≡ replicate (length script.requests) None = p.answers ∙ ap (λ (x : Shown). x.answers) is in
     record {
-      within = omega arith;
-      begun = λ q below late. absurd (omega arith);
+      front = record {
+        within = omega arith;
+        begun = λ q below late. absurd (omega arith);
+        open_later = λ q least below.
+            subst (λ (xs : List (Option rust.Answer)). slice_get xs q ≡ Some None) (sym none)
+            (none_given (length script.requests) q (subst (λ (s : Scripted). q < length s.requests) same below));
+      };
       answered = λ q below is. absurd (omega arith);
-      open_later = λ q least below.
-          subst (λ (xs : List (Option rust.Answer)). slice_get xs q ≡ Some None) (sym none)
-          (none_given (length script.requests) q (subst (λ (s : Scripted). q < length s.requests) same below));
     }
 
 -- where nobody waits, and no further round may begin, nothing is left
@@ -363,7 +371,10 @@ none_left told x next k h over (inl one) =
 
 -- who waits may be served: it is a request of the script, open, and of no later round
 pub waiting_is : (told : Option Content) (x : Shown) (ws : List ℕ) (next i q : ℕ) → IsKept told x → HasGathered x ws next → slice_get ws i ≡ Some q → MayBeTaken x q
-waiting_is told x ws next i q k h at = let w = waits_there x ws i q k.trusted h.waits at in record { asked = w.below; begun = w.begun; unanswered = w.is_open }
+waiting_is told x ws next i q k h at =
+    let w = waits_there x ws i q k.trusted h.waits at in
+    let r = some_at x.script.requests q w.below in
+    (r.0, record { asked = r.1; begun = w.begun; unanswered = w.is_open })
 
 -- whom a choice takes of those that were gathered
 pub taken_is : (x : Shown) (ws : List ℕ) (next choice q : ℕ) → HasGathered x ws next → slice_get ws (choice % length ws) ≡ Some q → taken_by (schedule_of x.script) (state_of x) choice ≡ Some q

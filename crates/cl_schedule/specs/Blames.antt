@@ -11,8 +11,6 @@ use Rattle.cl_config.specs.Views.{Configured}
 use Rattle.cl_delegation.specs.Worlds.{world_of}
 use Rattle.cl_registry.specs.Tables.{Shown}
 use Rattle.cl_tasks.specs.Blames.{AnswerBlames}
-use Rattle.cl_tasks.specs.declared.turn.Turn.{Turn}
-use Rattle.cl_tasks.specs.declared.turn.Turn.TheVariants as turn
 
 -- where a content is told, a request's plan asks a loader for a name: that of its own class, of a direct supertype of one that it comes to,
 -- or of the class that its reference names (5.3.5, 5.4.3)
@@ -20,12 +18,7 @@ abbrev pub IsAskedFor : Option Content → Configured → Request → Ask → Ty
 IsAskedFor None c r a = Unit {0}
 IsAskedFor (Some content) c r a = (p : Plan) × IsPlan (world_of c content) (request_of r) p × Contains p.asked a
 
--- a turn that posts a fault of the source blames whom the search for such a name asks (5.3.2)
-abbrev pub TurnBlames : {A : Type 0} → Option Content → Configured → Request → Turn A → Type 0
-TurnBlames told c r (turn.Post f) = AnswerBlames c (IsAskedFor told c r) f.answer
-TurnBlames told c r other = Unit {0}
-
--- and so does each answer that is a fault of the source (5.3.2)
+-- each answer that is a fault of the source blames whom the search for such a name asks (5.3.2)
 abbrev pub EachBlames : Option Content → Shown → Type 0
 EachBlames told x =
     (q : ℕ) (r : Request) (a : Answer) → slice_get x.script.requests q ≡ Some r → slice_get x.answers q ≡ Some (Some a) → AnswerBlames x.config (IsAskedFor told x.config r) a

@@ -121,18 +121,22 @@ AreInTime g pieces = (before behind : List Piece) (p : Piece) → pieces ≡ bef
 
 -- ---- the history of a schedule
 
--- a history is that of a schedule: the rounds that may begin, then the pieces of the schedule's choices; after the last one the first
--- request that waits is taken again and again, so that what is left is served in order. A request whose verdict the tables have when it
--- is taken first has its answer by its third taking, and each has its own once it was taken as often as its plan costs
+-- a history is that of these choices: the rounds that may begin, then the pieces of the choices. A request whose verdict the tables
+-- have when it is taken first has its answer by its third taking, and each has its own once it was taken as often as its plan costs
+pub record IsPlayedBy (g : Setting) (choices : List ℕ) (es rounds : List Step) (pieces : List Piece) : Type 0 where
+  pub whole : es ≡ rounds ++ steps_in pieces
+  pub passed : PassesRounds g start rounds
+  pub played : Plays g (state_after start rounds) choices pieces
+  pub prompt : ArePrompt g.script pieces
+  pub in_time : AreInTime g pieces
+
+-- a history is that of a schedule: after the last choice the first request that waits is taken again and again, so that what is left
+-- is served in order
 pub record IsPlayed (g : Setting) (schedule : List ℕ) (es : List Step) : Type 0 where
   pub rounds : List Step
   pub pieces : List Piece
   pub more : ℕ
-  pub whole : es ≡ rounds ++ steps_in pieces
-  pub passed : PassesRounds g start rounds
-  pub played : Plays g (state_after start rounds) (schedule ++ replicate more 0) pieces
-  pub prompt : ArePrompt g.script pieces
-  pub in_time : AreInTime g pieces
+  pub by : IsPlayedBy g (schedule ++ replicate more 0) es rounds pieces
 
 -- ---- the report
 

@@ -1,12 +1,12 @@
 -- What a report says where a content is told: the headline, clause by clause (JVMS SE 8, 5.3 to 5.4.3).
-use Rattle.std.specs.Prelude.{◌≡◌, ◌⊎◌, ◌≤◌, ◌+◌, ℕ, List, [], length, Option, Some, None, slice_get}
+use Rattle.std.specs.Prelude.{◌≡◌, ◌⊎◌, ◌≤◌, ◌+◌, ℕ, List, length, Option, Some, None, slice_get}
 use Rattle.cl_classfile.specs.Structure.{Structure}
 use Rattle.cl_model.specs.declared.class.Class.{Class}
 use Rattle.cl_model.specs.declared.request.Request as requests
 use Rattle.cl_model.specs.Content.{Content}
-use Rattle.cl_model.specs.Homes.{World, home}
-use Rattle.cl_model.specs.Classes.{class, ClassCircularity, Returns}
-use Rattle.cl_model.specs.States.{IsRecorded, Need, Verdict, Wrong, Linkage, Said}
+use Rattle.cl_model.specs.Homes.{World}
+use Rattle.cl_model.specs.Classes.{ClassCircularity, EndsInCircle}
+use Rattle.cl_model.specs.States.{IsRecorded, Verdict, Wrong, IsLinkageError, Said}
 use Rattle.cl_model.specs.Tables.{IsConsistent, Records}
 use Rattle.cl_model.specs.Views.{answers_of, answer_at}
 use Rattle.cl_config.specs.Views.{Configured, Scripted}
@@ -46,21 +46,11 @@ ReferencesAlike None x = Unit {0}
 ReferencesAlike (Some content) x =
     (p q : ℕ) (d : Class) (i : ℕ) (v u : Verdict) → SaysOf x p d i v → SaysOf x q d i u → v ≡ u
 
--- a load ends in a circle of this class: its home's walk along first supertypes that are not good meets the class again (5.3.5)
-pub record EndsInCircle (w : World) (loader : ℕ) (name : List ℕ) (c : Class) : Type 0 where
-  pub place : ℕ
-  pub found : home w loader name ≡ Some place
-  pub returns : Returns w [] (class name place) c
-
--- a need before the end is refused (5.3.4)
-abbrev pub IsRefusal : Verdict → Type 0
-IsRefusal v = (n : Need) × (v ≡ Linkage n)
-
 -- ClassCircularityError is answered where the load ends in a circle, of that class, unless a need before is refused; and nowhere
 -- else (5.3.5)
 pub record CircleAnswer (w : World) (loader : ℕ) (name : List ℕ) (v : Verdict) : Type 0 where
   pub only : (c : Class) → v ≡ Wrong (ClassCircularity c) → EndsInCircle w loader name c
-  pub there : (c : Class) → EndsInCircle w loader name c → (v ≡ Wrong (ClassCircularity c)) ⊎ IsRefusal v
+  pub there : (c : Class) → EndsInCircle w loader name c → (v ≡ Wrong (ClassCircularity c)) ⊎ IsLinkageError v
 
 -- each load that is answered with a verdict is answered so (5.3.5)
 abbrev pub CirclesExact : Option Content → Shown → Type 0
@@ -68,29 +58,6 @@ CirclesExact None x = Unit {0}
 CirclesExact (Some content) x =
     (q loader : ℕ) (name : List ℕ) (v : Verdict) → Says x q (requests.TheVariants.Load loader name) v
     → CircleAnswer (machine x content).world loader name v
-
--- the report of a script that was served in order under a configuration. Where a content is told, the history is a run
--- of the linkage machine over it, in which each request is answered once, with what its plan yields in the state at that
--- point, or with a failure, and the next round begins as soon as it may; each class is spelt by its
--- defining loader's bytes, equal requests and equal references are answered alike, and circles are told exactly. Under any
--- source the last round has begun, the tables can be trusted, no loader records a name twice, no constraint is violated,
--- what the tables have of a request is its answer, and a fault of the source blames whom the search for a name asks, a name that its
--- request asks for where a content is told (5.3 to 5.4.3)
-pub record IsServedInOrder (told : Option Content) (config : Configured) (script : Scripted) (r : Report) : Type 0 where
-  pub of_script : r.script.value ≡ script
-  pub each_once : posts r.history ≡ upto (length script.requests)
-  pub named : IsNamed (length config.loaders) r
-  pub last : script.rounds ≤ round_of (reported config r) + 1
-  pub trusted : IsTrusted (reported config r)
-  pub consistent : IsConsistent (state_of (reported config r))
-  pub known : KnownStays (reported config r)
-  pub run : RunsAs told (reported config r)
-  pub in_order : InOrder told (reported config r)
-  pub spelt : EachSpelt told (reported config r)
-  pub alike : Alike told (reported config r)
-  pub references : ReferencesAlike told (reported config r)
-  pub circles : CirclesExact told (reported config r)
-  pub blames : EachBlames told (reported config r)
 
 -- the report of a script that was served in some order, or by threads, under a configuration. Where a content is told, the history is a run of the
 -- linkage machine over it, in which each request is answered once, in its round, with what its plan yields in the state at that
@@ -109,3 +76,13 @@ pub record IsServed (told : Option Content) (config : Configured) (script : Scri
   pub alike : Alike told (reported config r)
   pub references : ReferencesAlike told (reported config r)
   pub circles : CirclesExact told (reported config r)
+
+-- the report of a script that was served in order under a configuration: each request is posted in the script's order. Where a content is told,
+-- each one is served alone, and the next round begins as soon as it may. Under any source what the tables have of a request is its answer,
+-- and a fault of the source blames whom the search for a name asks, a name that its request asks for where a content is told (5.3 to 5.4.3)
+pub record IsServedInOrder (told : Option Content) (config : Configured) (script : Scripted) (r : Report) : Type 0 where
+  pub served : IsServed told config script r
+  pub posted : posts r.history ≡ upto (length script.requests)
+  pub known : KnownStays (reported config r)
+  pub in_order : InOrder told (reported config r)
+  pub blames : EachBlames told (reported config r)

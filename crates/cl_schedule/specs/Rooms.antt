@@ -1,21 +1,20 @@
 -- The room that requests wait in, and what a choice does to it.
 use Rattle.std.specs.Prelude.{◌≡◌, ◌⊎◌, ◌<◌, ◌+◌, ◌-◌, ◌*◌, ℕ, List, [], ◌∷◌, ◌++◌, length, replicate, Option, Some, None, MatchOption, slice_get, slice_set}
-use Rattle.cl_config.specs.Loaders.{schedule_of}
 use Rattle.cl_config.specs.Scripts.{HasLoaders}
 use Rattle.cl_config.specs.Views.{Configured, Scripted}
 use Rattle.cl_model.specs.declared.request.Request.{Request}
 use Rattle.cl_model.specs.Content.{Content}
 use Rattle.cl_model.specs.Machine.{Step, state_after}
 use Rattle.cl_model.specs.Service.{PassesRounds}
-use Rattle.cl_model.specs.States.{start}
-use Rattle.cl_registry.specs.Tables.{Shown, IsKept, IsLater, IsOpen, MayGoOn, state_of, steps, machine}
+use Rattle.cl_registry.specs.Tables.{Shown, IsKept, IsOpen, MayGoOn, state_of, steps, machine}
+use Rattle.cl_registry.specs.Posting.{MayPost}
 use Rattle.cl_tasks.specs.Measures.{all_left}
 use Rattle.cl_schedule.specs.declared.choices.Room.{Room}
 use Rattle.cl_schedule.specs.declared.seats.Seat.{Seat}
 use Rattle.cl_schedule.specs.declared.serve.ServeFault.{ServeFault}
 use Rattle.cl_schedule.specs.declared.serve.ServeFault.TheVariants as faults
 use Rattle.cl_schedule.specs.Blames.{EachBlames}
-use Rattle.cl_schedule.specs.Choices.{AreInTime, ArePrompt, Chooses, Piece, Plays, steps_in}
+use Rattle.cl_schedule.specs.Choices.{Chooses, Piece, IsPlayedBy}
 use Rattle.cl_schedule.specs.Counting.{CountGrows, debt}
 use Rattle.cl_schedule.specs.Nearing.{by_verdict}
 use Rattle.cl_schedule.specs.Paying.{by_plan}
@@ -51,11 +50,9 @@ pub record HasTaken {A : Type 0} (old new : Room A) (q : ℕ) : Type 0 where
 abbrev pub NoneSeated : {A : Type 0} → Room A → Type 0
 NoneSeated room = (q : ℕ) → seat_at room q ≡ None
 
--- the request of this number is one of the script, its round has begun, and it has no answer
-pub record MayBeTaken (x : Shown) (q : ℕ) : Type 0 where
-  pub asked : q < length x.script.requests
-  pub begun : IsLater x q → ⊥
-  pub unanswered : IsOpen x q
+-- the request of this number may be taken: its answer may be posted
+abbrev pub MayBeTaken : Shown → ℕ → Type 0
+MayBeTaken x q = (r : Request) × MayPost x q r
 
 -- memory ran out, or a stray was met, which no source that tells a content brings
 abbrev pub IsStrayUntold : Option Content → ServeFault → Type 0
@@ -71,18 +68,10 @@ PlaysIn (Some content) old new choice =
     × Chooses (machine old content) (state_of old) choice one
     × PassesRounds (machine old content) (state_after (state_of old) one) rounds
 
--- the history is that of the choices so far: these rounds, which began at first, and these pieces
-pub record IsPlayedBy (content : Content) (x : Shown) (cs : List ℕ) (rounds : List Step) (pieces : List Piece) : Type 0 where
-  pub whole : steps x ≡ rounds ++ steps_in pieces
-  pub passed : PassesRounds (machine x content) start rounds
-  pub played : Plays (machine x content) (state_after start rounds) cs pieces
-  pub prompt : ArePrompt (schedule_of x.script) pieces
-  pub in_time : AreInTime (machine x content) pieces
-
 -- the choices so far, after the rounds that began at first
 abbrev pub PlayedTo : Option Content → Shown → List ℕ → Type 0
 PlayedTo None x cs = Unit {0}
-PlayedTo (Some content) x cs = (rounds : List Step) × (pieces : List Piece) × IsPlayedBy content x cs rounds pieces
+PlayedTo (Some content) x cs = (rounds : List Step) × (pieces : List Piece) × IsPlayedBy (machine x content) cs (steps x) rounds pieces
 
 -- after the schedule the first request that waits was taken so often
 abbrev pub PlayedPast : Option Content → Shown → List ℕ → Type 0

@@ -11,10 +11,10 @@ use Rattle.cl_model.specs.Machine.{Step}
 use Rattle.cl_model.specs.Service.{IsNextStep, MayEnd}
 use Rattle.cl_model.specs.Views.{answer_of, request_of}
 use Rattle.cl_model.specs.Steps.{IsOfService}
-use Rattle.cl_registry.specs.Posting.{IsBacked}
+use Rattle.cl_registry.specs.Posting.{IsBacked, MayPost}
 use Rattle.cl_registry.specs.References.{Cited, cited_by}
 use Rattle.cl_registry.specs.Tables.{Shown, IsKept, IsLater, IsOpen, state_of, steps, with_post, machine}
-use Rattle.cl_tasks.specs.Blames.{AnswerBlames}
+use Rattle.cl_tasks.specs.Blames.{AnswerBlames, TurnBlames}
 use Rattle.cl_tasks.specs.Facts.{Holds}
 use Rattle.cl_tasks.specs.Follows.{AreLeft, Backed, Follows, TellsNow}
 use Rattle.cl_tasks.specs.Measures.{all_left}
@@ -25,7 +25,7 @@ use Rattle.cl_tasks.specs.declared.turn.Reply.{Reply}
 use Rattle.cl_tasks.specs.declared.turn.Reply.TheVariants as reply
 use Rattle.cl_tasks.specs.declared.turn.Turn.{Turn}
 use Rattle.cl_tasks.specs.declared.turn.Turn.TheVariants as turn
-use Rattle.cl_schedule.specs.Blames.{IsAskedFor, TurnBlames}
+use Rattle.cl_schedule.specs.Blames.{IsAskedFor}
 use Rattle.cl_schedule.specs.Choices.{waiting}
 use Rattle.cl_schedule.specs.Replies.{Did, IsCall, IsRead}
 use Rattle.cl_schedule.specs.Serving.{numbers_from}
@@ -60,12 +60,6 @@ IsFor t other r = t.request ≡ Some r
 abbrev pub FollowsIn : {A : Type 0} → Option Content → Shown → Request → Turn A → Type 0
 FollowsIn told y r u = (content : Content) → told ≡ Some content → Follows (machine y content) (state_of y) r u
 
--- the request of this number may be posted in a registry
-pub record MayPost (y : Shown) (q : ℕ) (r : Request) : Type 0 where
-  pub asked : slice_get y.script.requests q ≡ Some r
-  pub begun : IsLater y q → ⊥
-  pub unanswered : IsOpen y q
-
 -- where a content is told the tables bear the answer, if it may be posted (5.3 to 5.4.3)
 abbrev pub PostsIn : {A : Type 0} → Option Content → Shown → ℕ → Request → Turn A → Type 0
 PostsIn told y q r (turn.Post f) = (content : Content) → told ≡ Some content → MayPost y q r → IsBacked y f
@@ -84,7 +78,7 @@ pub record IsSeated {A : Type 0} (told : Option Content) (x : Shown) (t : Tasked
   pub backed : (y : Shown) → IsAfter told x y → IsCall u → Backed y u
   pub follows : (y : Shown) → IsAfter told x y → FollowsIn told y r u
   pub posts : (y : Shown) → IsAfter told x y → PostsIn told y q r u
-  pub blames : TurnBlames told x.config r u
+  pub blames : TurnBlames x.config (IsAskedFor told x.config r) u
 
 -- so it does in a registry in which its answer may be posted
 abbrev pub IsSeatedAt : {A : Type 0} → Option Content → Shown → Tasked → Turn A → ℕ → Type 0
@@ -132,20 +126,22 @@ pub record IsReady {A : Type 0} (told : Option Content) (x : Shown) (t : Tasked)
 
 -- ---- who waits
 
--- these are the numbers of those that wait; the requests from another number on are of later rounds
-pub record HasGathered (x : Shown) (ws : List ℕ) (next : ℕ) : Type 0 where
-  pub waits : ws ≡ waiting (schedule_of x.script) (state_of x)
+-- the requests below a number are of no later round, and none from it on has an answer
+pub record IsFront (x : Shown) (next : ℕ) : Type 0 where
   pub within : next ≤ length x.script.requests
   pub begun : (p : ℕ) → p < next → IsLater x p → ⊥
   pub open_later : (p : ℕ) → next ≤ p → p < length x.script.requests → IsOpen x p
+
+-- these are the numbers of those that wait; the requests from another number on are of later rounds
+pub record HasGathered (x : Shown) (ws : List ℕ) (next : ℕ) : Type 0 where
+  pub waits : ws ≡ waiting (schedule_of x.script) (state_of x)
+  pub front : IsFront x next
   pub later : (p : ℕ) → next ≤ p → p < length x.script.requests → IsLater x p
 
 -- the requests below a number are answered, and no other is
 pub record MayGather (x : Shown) (next : ℕ) : Type 0 where
-  pub within : next ≤ length x.script.requests
-  pub begun : (p : ℕ) → p < next → IsLater x p → ⊥
+  pub front : IsFront x next
   pub answered : (p : ℕ) → p < next → IsOpen x p → ⊥
-  pub open_later : (p : ℕ) → next ≤ p → p < length x.script.requests → IsOpen x p
 
 -- these are the numbers of all requests of one round that stand from one number on; the next one is of another round
 pub record AreOfRound (s : Scripted) (first : ℕ) (ws : List ℕ) (next : ℕ) : Type 0 where

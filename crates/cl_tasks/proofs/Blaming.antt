@@ -74,7 +74,7 @@ fault_blames {A} told j s f u job search path posts =
       from = at_loader j.path;
       asked = λ g x p served plan tells. in_contains (sought_ask j.path) p.asked (asks told j job path g x served p plan (record { frames = tells.before.frames; facts = tells.before.facts }));
       on_way =
-          subst (λ (way : List ℕ). Contains way (next_place s)) (way_is j.path s search.seeks.config search.seeks.loader search.seeks.name)
+          subst (λ (way : List ℕ). Contains way (next_place s)) (way_is j.path s search.seeks.config search.seeks.asked search.seeks.name)
           (let at = reads_place s search.next in get_contains (route_of s) at.0 (next_place s) at.1);
     }
 

@@ -1,5 +1,5 @@
 -- A load that ended with a finding.
-use Rattle.std.proofs.Common.{◌≡◌, ℕ, inl, List, Option, Some, refl, sym, subst}
+use Rattle.std.proofs.Common.{◌≡◌, ℕ, inl, List, Option, refl, sym, subst}
 use Rattle.cl_model.specs.declared.answer.Answer.TheVariants as answers
 use Rattle.cl_model.specs.declared.need.Need as rust
 use Rattle.cl_model.specs.declared.request.Request.{Request}
@@ -7,7 +7,7 @@ use Rattle.cl_model.specs.declared.request.Request.TheVariants as requests
 use Rattle.cl_model.specs.declared.verdict.Verdict as verdict
 use Rattle.cl_model.specs.declared.verdict.Verdict.TheVariants as verdicts
 use Rattle.cl_model.specs.Content.{Content}
-use Rattle.cl_findings.specs.Findings.{Answered, Based}
+use Rattle.cl_findings.specs.Findings.{Answered, Based, grounded}
 use Rattle.cl_registry.specs.Tables.{Shown}
 use Rattle.cl_tasks.specs.Ends.{ConcludesBy, IsAftermath}
 use Rattle.cl_tasks.specs.Follows.{EndsAsRefused, LooksAgain, NoFault}
@@ -19,16 +19,11 @@ use Rattle.cl_tasks.specs.declared.ends.Aftermath.TheVariants as aftermaths
 use Rattle.cl_tasks.specs.declared.stage.Job.{Job}
 use Rattle.cl_tasks.specs.declared.stage.Next.{Next}
 use Rattle.cl_tasks.proofs.Ending.{Ended, concludes}
-use Rattle.cl_tasks.proofs.Said.{found_is}
-use Rattle.cl_findings.proofs.Plain.{grounded}
 
 -- of this finding
-by_said : {A : Type 0} (q : ℕ) (a : Aftermath A) (f : Answered) (r : Request) (v : verdict.Verdict) (b : Based) (n : Next A) → f.request ≡ r → f.answer ≡ answers.Said v → f.basis ≡ Some b → ConcludesBy q a f n → ConcludesBy q a (grounded r v b) n
-by_said q a f r v b n request answer basis h = subst (λ (u : Answered). ConcludesBy q a u n) (found_is f r v b request answer basis) h
-
 pub concludes_found : {A : Type 0} (told : Option Content) (j : Job A) (f : Answered) (v : verdict.Verdict) (b : Based) (holds : Shown → Type 0) (a : Aftermath A) (n : Next A) → IsJob told j.path.config j → Ended told j v b holds → IsAftermath j a
-    → f.request ≡ j.request → f.answer ≡ answers.Said v → f.basis ≡ Some b → ConcludesBy j.q a f n → Leads told j (past_room j) holds n
-concludes_found told j f v b holds a n job ended is request answer basis by = concludes told j v b holds a n job ended is (by_said j.q a f j.request v b n request answer basis by)
+    → f ≡ grounded j.request v b → ConcludesBy j.q a f n → Leads told j (past_room j) holds n
+concludes_found told j f v b holds a n job ended is same by = concludes told j v b holds a n job ended is (subst (λ (u : Answered). ConcludesBy j.q a u n) same by)
 
 -- it reads nothing, and posts no fault
 pub concludes_plain : {A : Type 0} (q : ℕ) (f : Answered) (v : verdict.Verdict) (a : Aftermath A) (n : Next A) → f.answer ≡ answers.Said v → ConcludesBy q a f n → IsPlain n.turn

@@ -7,12 +7,12 @@ use Rattle.cl_config.specs.Views.{Configured}
 use Rattle.cl_delegation.specs.Searches.{Located}
 use Rattle.cl_hierarchy.specs.Drafts.{Drafted}
 use Rattle.cl_hierarchy.specs.Frames.{Framed, frame_of, with_place}
-use Rattle.cl_hierarchy.specs.Paths.{Accepts, Completes, Pathed, at_loader, at_name, fresh, frames_of, with_frame}
+use Rattle.cl_hierarchy.specs.Paths.{Accepts, Completes, Pathed, at_loader, at_name, fresh, frames_of, sought_class, with_frame}
 use Rattle.cl_findings.specs.Findings.{Answered}
 use Rattle.cl_findings.specs.Loads.{IsSought}
 use Rattle.cl_tasks.specs.Deriving.{Derives, IsAtHome, IsNone, IsPast, IsSoughtHere, IsUnfound}
 use Rattle.cl_tasks.specs.Ends.{ConcludesBy}
-use Rattle.cl_tasks.specs.Stages.{sought_class, task_at}
+use Rattle.cl_tasks.specs.Stages.{task_at}
 use Rattle.cl_tasks.specs.Steps.{DefinesBy}
 use Rattle.cl_tasks.specs.Tasks.{Tasked}
 use Rattle.cl_tasks.specs.Turns.{AsksDerived, Asks, DerivesUnrecorded, IsDerived, WasAbsent, AreDerived}

@@ -10,7 +10,7 @@ use Rattle.cl_model.specs.Plans.{Plan}
 use Rattle.cl_model.specs.States.{State, recorded}
 use Rattle.cl_findings.specs.declared.load.Target.{Target}
 use Rattle.cl_findings.specs.declared.load.Target.TheVariants as targets
-use Rattle.cl_findings.specs.Findings.{Based, Rests, loader_of, name_of}
+use Rattle.cl_findings.specs.Findings.{Based, Rests, loader_of, name_of, grounded}
 use Rattle.cl_registry.specs.Tables.{Shown, records_of, state_of}
 use Rattle.cl_tasks.specs.Calls.{calls_in, past_loads}
 use Rattle.cl_tasks.specs.Ends.{ConcludesBy, IsAftermath, IsCheck, IsForEntry, IsNoResolution, IsOwnTarget}
@@ -30,8 +30,7 @@ use Rattle.cl_tasks.specs.declared.stage.Stage.TheVariants as stages
 use Rattle.cl_tasks.specs.declared.turn.Turn.TheVariants as turn
 use Rattle.cl_tasks.proofs.Facts.{basis_so}
 use Rattle.cl_tasks.proofs.Lead.{leads_post, past_has}
-use Rattle.cl_tasks.proofs.Said.{IsRecordIn, OwnFails, Settling, Stood, failure_backed, failure_entry, failure_member, may_settle, own_comes, settled_next}
-use Rattle.cl_findings.proofs.Plain.{grounded}
+use Rattle.cl_tasks.proofs.Said.{IsRecordIn, OwnFails, Settling, Stood, failure_backed, failure_kind, may_settle, own_comes, settled_next}
 
 -- what a load ends in, where this holds
 pub record Ended {A : Type 0} (told : Option Content) (j : Job A) (v : verdict.Verdict) (b : Based) (holds : Shown → Type 0) : Type 0 where
@@ -122,8 +121,7 @@ settles_so told j v b holds e job ended is =
     let may : Settling j.request d e.index v holds = record {
       resolves = resolves;
       kept = kept;
-      is_entry = failure_entry v ended.failure;
-      is_class_member = failure_member v ended.failure;
+      kind = failure_kind v ended.failure;
     } in
     record {
       kept = record { of = is.of; asked = subst (λ (q : Request). loader_of q < length c.loaders) (sym is.same) job.asked };

@@ -31,15 +31,16 @@ use Rattle.cl_model.proofs.Service.{resolve_wants, said_comes}
 use Rattle.cl_model.proofs.Tables.{recorded_reached}
 use Rattle.cl_model.proofs.Bind.{some_same}
 use Rattle.cl_config.specs.Views.{Configured}
-use Rattle.cl_findings.specs.Findings.{Answered, Based, Rests, loader_of}
+use Rattle.cl_findings.specs.Findings.{Answered, Based, Rests, loader_of, grounded}
 use Rattle.cl_hierarchy.specs.Rows.{Rowed}
 use Rattle.cl_registry.proofs.Named.{recorded_is_named}
 use Rattle.cl_findings.specs.References.{EndsAtClass, EndsAtOnce, IsAtClass, IsAtOnce, class_basis, entry_basis}
 use Rattle.cl_registry.specs.References.{IsSettledIn, settled_by}
 use Rattle.cl_registry.specs.Tables.{Shown, records_of, settled_at, state_of}
 use Rattle.cl_registry.proofs.Backed.{settled_named}
+use Rattle.cl_registry.specs.Settling.{IsSettledKind}
 use Rattle.cl_tasks.specs.Calls.{calls_in, past_loads}
-use Rattle.cl_tasks.specs.Resolving.{EntryTold, IsNoneSettled, IsSame, IsSettledKind, NamedTold, SettledTold}
+use Rattle.cl_tasks.specs.Resolving.{EntryTold, IsNoneSettled, IsSame, NamedTold, SettledTold}
 use Rattle.cl_tasks.specs.Rooms.{Room, named_room, reference_room}
 use Rattle.cl_tasks.specs.declared.stage.Next.{Next}
 use Rattle.cl_tasks.specs.Stages.{IsEntry}
@@ -50,9 +51,8 @@ use Rattle.cl_tasks.specs.declared.stage.Stage.TheVariants as stages
 use Rattle.cl_tasks.specs.declared.turn.Turn.TheVariants as turn
 use Rattle.cl_tasks.specs.Waits as waits
 use Rattle.cl_tasks.proofs.Lead.{HasPost, Holding, leads_by, leads_post}
-use Rattle.cl_tasks.proofs.Said.{Settling, Stood, borne, found_is, may_settle, settled_next, stood_answers}
+use Rattle.cl_tasks.proofs.Said.{Settling, Stood, borne, may_settle, settled_next, stood_answers}
 use Rattle.cl_tasks.proofs.MemberFacts.{same_entry, same_told}
-use Rattle.cl_findings.proofs.Plain.{grounded}
 
 -- ---- rooms
 
@@ -68,7 +68,7 @@ settles_within told c now r room h = λ g x p served is k. let two = h g.world p
 never_bears : (s : State) (l : ℕ) (n : List ℕ) (i : ℕ) (v : verdict.Verdict) → IsNoneSettled v → Bears s (plans.Resolve l n i) (verdict_of v)
 never_bears s l n i verdicts.BadEntry never = λ d kept. inl refl
 never_bears s l n i verdicts.ArrayMember never = λ d kept. inr (inl refl)
-never_bears s l n i other never = absurd never
+never_bears s l n i other never = absurd (never (record { is_entry = λ e. cc; is_class_member = λ e. cc }))
 
 -- of a request that resolves an entry
 resolving : (r : Request) (d : Class) (i : ℕ) (P : Request → Type 0) → r ≡ requests.Resolve (loader_of r) d.name i → P (requests.Resolve (loader_of r) d.name i) → P r
@@ -233,19 +233,14 @@ class_stood A told c config e k v entry same ends rests = record {
 
 -- a finding that says this, on this basis
 pub record IsFound (told : Option Content) (f : Answered) (r : Request) (v : verdict.Verdict) (b : Based) : Type 0 where
-  pub request : f.request ≡ r
-  pub answer : f.answer ≡ answers.Said v
-  pub basis : f.basis ≡ Some b
+  pub is : f ≡ grounded r v b
   pub rests : Rests told f
-
-found : (told : Option Content) (f : Answered) (r : Request) (v : verdict.Verdict) (b : Based) → IsFound told f r v b → f ≡ grounded r v b
-found told f r v b h = found_is f r v b h.request h.answer h.basis
 
 pub posts_entry : (A : Type 0) (told : Option Content) (c config : Configured) (e : entries.Entry A) (v : verdict.Verdict) (f : Answered) (n : Next A) → IsEntry c e → config ≡ c → IsAtOnce e.request e.d.value (verdict_of v) → IsNoneSettled v
     → IsFound told f e.request v (entry_basis config e.request e.d.value.class) → n ≡ record { stage = stages.Done e.q; turn = turn.Post f } → LeadsBy told c e.q e.request reference_room (EntryTold e) n
 posts_entry A told c config e v f n entry same ends never h is =
     let b = entry_basis config e.request e.d.value.class in
-    let whole = found told f e.request v b h in
+    let whole = h.is in
     subst (λ (m : Next A). LeadsBy told c e.q e.request reference_room (EntryTold e) m) (sym (is ∙ ap (λ (k : Answered). record { stage = stages.Done e.q; turn = turn.Post k }) whole))
     (leads_never A told c e.q e.request e.d.value.class e.index v b reference_room (EntryTold e) (entry_stood A told c config e v entry same ends (subst (Rests told) whole h.rests)) entry.of never (omega arith) (λ w p s. omega arith))
 
@@ -253,20 +248,20 @@ pub settles_entry : (A : Type 0) (told : Option Content) (c config : Configured)
     → IsFound told f e.request v (entry_basis config e.request e.d.value.class) → n ≡ record { stage = stages.Resolve (resolutions.Settling kept); turn = turn.Settle f } → LeadsBy told c e.q e.request reference_room (EntryTold e) n
 settles_entry A told c config e kept v f n entry same_kept same ends kind h is =
     let b = entry_basis config e.request e.d.value.class in
-    let whole = found told f e.request v b h in
+    let whole = h.is in
     subst (λ (m : Next A). LeadsBy told c e.q e.request reference_room (EntryTold e) m) (sym (is ∙ ap (λ (k : Answered). record { stage = stages.Resolve (resolutions.Settling kept); turn = turn.Settle k }) whole))
     (leads_settles A told c e.q e.request e.d.value.class e.index v b reference_room (EntryTold e) kept (entry_stood A told c config e v entry same ends (subst (Rests told) whole h.rests))
-    (record { resolves = entry.of; kept = λ x k. k.0; is_entry = kind.is_entry; is_class_member = kind.is_class_member })
+    (record { resolves = entry.of; kept = λ x k. k.0; kind = kind })
     (same_entry c e kept entry same_kept) same_kept.number same_kept.request (λ x k. same_told x e kept same_kept k) (omega arith) (λ w p s. omega arith))
 
 pub settles_class : (A : Type 0) (told : Option Content) (c config : Configured) (e kept : entries.Entry A) (k : Rowed) (v : verdict.Verdict) (f : Answered) (n : Next A) → IsEntry c e → IsSame e kept → config ≡ c → IsAtClass e.request e.d.value k (verdict_of v) → IsSettledKind v
     → IsFound told f e.request v (class_basis config e.request e.d.value.class k.class) → n ≡ record { stage = stages.Resolve (resolutions.Settling kept); turn = turn.Settle f } → LeadsBy told c e.q e.request named_room (NamedTold e k) n
 settles_class A told c config e kept k v f n entry same_kept same ends kind h is =
     let b = class_basis config e.request e.d.value.class k.class in
-    let whole = found told f e.request v b h in
+    let whole = h.is in
     subst (λ (m : Next A). LeadsBy told c e.q e.request named_room (NamedTold e k) m) (sym (is ∙ ap (λ (k : Answered). record { stage = stages.Resolve (resolutions.Settling kept); turn = turn.Settle k }) whole))
     (leads_settles A told c e.q e.request e.d.value.class e.index v b named_room (NamedTold e k) kept (class_stood A told c config e k v entry same ends (subst (Rests told) whole h.rests))
-    (record { resolves = entry.of; kept = λ x t. t.0; is_entry = kind.is_entry; is_class_member = kind.is_class_member })
+    (record { resolves = entry.of; kept = λ x t. t.0; kind = kind })
     (same_entry c e kept entry same_kept) same_kept.number same_kept.request (λ x t. same_told x e kept same_kept (t.0, tt)) (omega arith) (λ w p s. omega arith))
 
 -- what the entry was found to be settled to is the answer

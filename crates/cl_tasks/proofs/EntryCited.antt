@@ -1,7 +1,7 @@
 -- What entries ask for, by the texts that they name (JVMS SE 8, 4.4.1, 4.4.2, 5.4.3).
 use Rattle.std.proofs.Common.{◌≡◌, ℕ, Bool, true, false, List, Option, Some, None, Result, Ok, Err, inl, inr, refl, sym, ap, subst, ◌∙◌}
 use Rattle.std.specs.Prelude.{option_map, IfOk, IfSome, if◌then◌else◌}
-use Rattle.cl_descriptors.specs.Answers.{Gives}
+use Rattle.cl_descriptors.specs.Answers.{Gives, IsArrayDescriptor}
 use Rattle.cl_descriptors.specs.Reading.{whole_field, whole_method, within_field}
 use Rattle.cl_descriptors.specs.Types.{SpellsField, is_shallow}
 use Rattle.cl_descriptors.specs.declared.types.DescriptorFault.{DescriptorFault}
@@ -9,12 +9,12 @@ use Rattle.cl_descriptors.specs.declared.types.DescriptorFault.TheVariants.{Memo
 use Rattle.cl_descriptors.specs.declared.types.FieldType.{FieldType}
 use Rattle.cl_descriptors.proofs.Methods.{whole_field_again, whole_method_again}
 use Rattle.cl_classfile.specs.Files.{Key, Name, Reference, Symbol, ToField, ToMethod, ToInterfaceMethod, CitesField, CitesMethod, CitesInterfaceMethod, field_key, method_key, class_type, is_array_name, named_type, typed, typed_by}
-use Rattle.cl_classfile.specs.Pool.{IsArray, NamesType}
+use Rattle.cl_classfile.specs.Pool.{NamesType}
 use Rattle.cl_classfile.specs.References.{IsFieldSymbol, IsMethodSymbol}
 use Rattle.cl_classfile.proofs.Classes.{class_begins}
 use Rattle.cl_classfile.proofs.Judging.{differ}
 use Rattle.cl_model.specs.Plans.{member_target}
-use Rattle.cl_tasks.specs.Cited.{AsksMember, AsksTarget, IsKind, TargetsClass, TellsEntry, TellsReference, made_by}
+use Rattle.cl_tasks.specs.Cited.{AsksMember, AsksTarget, IsKind, TellsEntry, TellsReference, made_by}
 use Rattle.cl_tasks.specs.declared.cited.Asked.{Asked}
 use Rattle.cl_tasks.specs.declared.cited.Asked.TheVariants as asked
 use Rattle.cl_tasks.specs.declared.cited.Kind.{Kind}
@@ -22,7 +22,7 @@ use Rattle.cl_tasks.specs.declared.cited.Kind.TheVariants as kinds
 
 -- ---- names of arrays
 
-array_of : (text : List ℕ) → NamesType text → is_array_name text ≡ true → IsArray text
+array_of : (text : List ℕ) → NamesType text → is_array_name text ≡ true → IsArrayDescriptor text
 array_of text (inl h) e = absurd (differ (is_array_name text) e (class_begins text h))
 array_of text (inr h) e = h
 
@@ -89,17 +89,17 @@ pub member_tells_ok : {E : Type 0} (kind : Kind) (text : Name) (o : Option Refer
 member_tells_ok kind text o (Ok a) typed asks = member_tells kind text o a typed asks
 member_tells_ok kind text o (Err e) typed asks = tt
 
-member_kind : (kind k : Kind) (text name : Name) (o : Option Reference) → IsTyped kind text o → k ≡ kind → TargetsClass text name → IsKind o name k
+member_kind : (kind k : Kind) (text name : Name) (o : Option Reference) → IsTyped kind text o → k ≡ kind → AsksMember text (asked.Class name) → IsKind o name k
 member_kind kind k text name o typed same targets =
     subst (λ (j : Kind). IsKind o name j) (sym same)
     (record {
       target = targets.target;
       key = typed.key;
-      refers = typed.is ∙ ap (λ (t : Option FieldType). typed_by (made_by kind) t (Some typed.key)) targets.is;
-      named = targets.named;
+      refers = typed.is ∙ ap (λ (t : Option FieldType). typed_by (made_by kind) t (Some typed.key)) targets.named;
+      named = targets.asks;
     })
 
-pub member_kind_ok : {E : Type 0} (kind : Kind) (text name : Name) (o : Option Reference) (r : Result (Option Kind) E) → IsTyped kind text o → IfOk r (λ k. IfSome k (λ j. (j ≡ kind) × TargetsClass text name)) → IfOk r (λ k. IfSome k (IsKind o name))
+pub member_kind_ok : {E : Type 0} (kind : Kind) (text name : Name) (o : Option Reference) (r : Result (Option Kind) E) → IsTyped kind text o → IfOk r (λ k. IfSome k (λ j. (j ≡ kind) × AsksMember text (asked.Class name))) → IfOk r (λ k. IfSome k (IsKind o name))
 member_kind_ok kind text name o (Ok None) typed h = tt
 member_kind_ok kind text name o (Ok (Some k)) typed h = member_kind kind k text name o typed h.0 h.1
 member_kind_ok kind text name o (Err e) typed h = tt

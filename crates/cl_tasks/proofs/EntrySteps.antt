@@ -20,7 +20,7 @@ use Rattle.cl_model.specs.Views.{request_of, verdict_of}
 use Rattle.cl_model.proofs.Gone.{borne_said, unrecorded_bears}
 use Rattle.cl_model.proofs.Service.{resolve_wants, said_comes}
 use Rattle.cl_config.specs.Views.{Configured}
-use Rattle.cl_findings.specs.Findings.{Answered, Based, Decides, IsWithin, Rests, loader_of, name_of}
+use Rattle.cl_findings.specs.Findings.{Answered, Based, Decides, IsWithin, Rests, loader_of, name_of, grounded}
 use Rattle.cl_hierarchy.specs.declared.row.ClassRow.{ClassRow}
 use Rattle.cl_registry.specs.Tables.{Shown, state_of}
 use Rattle.cl_tasks.specs.Facts.{AreSo}
@@ -49,7 +49,6 @@ use Rattle.cl_tasks.proofs.Reaching.{reached_left, reaches}
 use Rattle.cl_tasks.proofs.Said.{Stood, borne, concludes_at, found_is, stood_answers, unrecorded}
 use Rattle.std.proofs.lemmas.Option.{none-some}
 use Rattle.cl_model.proofs.Bind.{some_same}
-use Rattle.cl_findings.proofs.Plain.{grounded}
 use Rattle.cl_findings.proofs.Answered.{answered_by}
 
 same_room : (m : ℕ) → m ≤ m
@@ -110,7 +109,7 @@ failed_unrecorded told c f failed g x served facts =
 
 -- so nothing is found there
 found_never : {A : Type 0} (told : Option Content) (c : Configured) (f : Failed A) → IsFailed told c f → (row : Arc (ClassRow A) Global) (g : Setting) (x : Shown) → ServedIn told c g (state_of x) → Tells {A = A} x (resolving_at c (resolutions.Checking f)) (reply.Looked (Some row)) → ⊥
-found_never told c f failed row g x served h = none-some _ (sym (failed_unrecorded told c f failed g x served h.before.facts) ∙ h.now.recorded)
+found_never told c f failed row g x served h = none-some _ (sym (failed_unrecorded told c f failed g x served h.before.facts) ∙ h.now.records.recorded)
 
 pub found_steps : {A : Type 0} (told : Option Content) (c : Configured) (f : Failed A) (row : Arc (ClassRow A) Global) (n : Next A) → IsFailed told c f → row.value.class.name ≡ name_of f.request → ReachesBy f.q f.request row n
     → GoesOnWith f.request row.value.class (task_at c n.stage) n.turn → IsPlain n.turn → IsPast n.stage → Steps told (resolving_at c (resolutions.Checking f)) (reply.Looked (Some row)) n

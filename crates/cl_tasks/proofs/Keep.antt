@@ -6,10 +6,10 @@ use Rattle.cl_classfile.specs.Files.{Name, File, file_of}
 use Rattle.cl_model.specs.declared.class.Class.{Class}
 use Rattle.cl_model.specs.Content.{Content}
 use Rattle.cl_model.specs.Classes.{class, Above, supers, misfit}
-use Rattle.cl_model.specs.States.{recorded}
-use Rattle.cl_model.specs.Frames.{Frame, wanted, asking, accepting, Keeps, KeepsAccepted, AllKept, NamedAs}
+use Rattle.cl_model.specs.States.{recorded, Keeps}
+use Rattle.cl_model.specs.Frames.{Frame, wanted, asking, accepting, KeepsAccepted, AllKept, NamedAs}
 use Rattle.cl_config.specs.Views.{Configured}
-use Rattle.cl_hierarchy.specs.Rows.{Rowed}
+use Rattle.cl_hierarchy.specs.Rows.{FitsAs, Rowed}
 use Rattle.cl_hierarchy.specs.Drafts.{Drafted}
 use Rattle.cl_hierarchy.specs.Frames.{Framed, accepted_of, frame_of, with_place}
 use Rattle.cl_hierarchy.specs.Paths.{Pathed, frames_of, fresh, name_of, sought, at_loader, at_name, Stands, AllStand, IsPath, with_frame, misfit_in, misfit_under, Accepts, Completes}
@@ -29,7 +29,7 @@ Has x f = HaveAccepted x f.class f.accepted (supers f.file)
 one_kept : (x : Shown) (c t : Class) (a : Above) → HasAccepted x c t a → Keeps (state_of x) c.loader t
 one_kept x c t a h =
     subst (λ (k : Class). Keeps (state_of x) c.loader k) h.is
-    (subst (λ (n : Name). recorded (records_of x) c.loader n ≡ Some h.row.class.loader) (sym h.recorded.named) h.recorded.recorded)
+    (subst (λ (n : Name). recorded (records_of x) c.loader n ≡ Some h.row.class.loader) (sym h.recorded.records.named) h.recorded.records.recorded)
 
 accepted_kept : (x : Shown) (c : Class) (ts : List Class) (others : List Above) → HaveAccepted x c ts others → AllByRecursion (Keeps (state_of x) c.loader) ts
 accepted_kept x c [] others h = tt
@@ -46,7 +46,7 @@ all_kept x (f ∷ fs) h = (frame_kept x f h.0, all_kept x fs h.1)
 accepted_named : (x : Shown) (c : Class) (ts : List Class) (others : List Above) → HaveAccepted x c ts others → NamedAs ts others
 accepted_named x c [] others h = tt
 accepted_named x c (t ∷ ts) [] h = absurd h
-accepted_named x c (t ∷ ts) (a ∷ others) h = (sym (ap (λ (k : Class). k.name) h.0.is) ∙ h.0.recorded.named, accepted_named x c ts others h.1)
+accepted_named x c (t ∷ ts) (a ∷ others) h = (sym (ap (λ (k : Class). k.name) h.0.is) ∙ h.0.recorded.records.named, accepted_named x c ts others h.1)
 
 pub frame_named : (x : Shown) (f : Frame) → Has x f → NamedAs f.accepted (supers f.file)
 frame_named x f h = accepted_named x f.class f.accepted (supers f.file) h
@@ -120,7 +120,7 @@ takes x p before last row top h told fits =
     subst (λ (z : Frame). Has x z) (sym f) (accepting_has x (frame_of last) a (class a.name row.class.loader) h top.wants (record {
       row = row;
       recorded = by_loader;
-      is = class_at row.class a.name by_loader.named;
+      is = class_at row.class a.name by_loader.records.named;
       fits = sym (top.judged row.class (file_of row.file)) ∙ fits;
     }))
 
@@ -182,14 +182,14 @@ whole_recorded x f h none = complete_is_kept (state_of x) f (frame_named x f h) 
 
 -- and the row that is kept of it fits
 abbrev pub RowFits : Shown → Class → Above → Type 0
-RowFits x c a = IfSome (looked x c.loader a.name) (λ row. misfit c a.role row.class (file_of row.file) ≡ None)
+RowFits x c a = IfSome (looked x c.loader a.name) (FitsAs c a)
 
 accepted_fit : (x : Shown) (c : Class) (ts : List Class) (others : List Above) → HaveAccepted x c ts others → slice_get others (length ts) ≡ None → AllByRecursion (RowFits x c) others
 accepted_fit x c [] [] h e = tt
 accepted_fit x c [] (a ∷ others) h e = absurd cc
 accepted_fit x c (t ∷ ts) [] h e = absurd h
 accepted_fit x c (t ∷ ts) (a ∷ others) h e =
-    (subst (λ (o : Option Rowed). IfSome o (λ row. misfit c a.role row.class (file_of row.file) ≡ None)) (sym h.0.recorded.kept) h.0.fits, accepted_fit x c ts others h.1 e)
+    (subst (λ (o : Option Rowed). IfSome o (FitsAs c a)) (sym h.0.recorded.kept) h.0.fits, accepted_fit x c ts others h.1 e)
 
 pub whole_fits : (x : Shown) (f : Frame) → Has x f → wanted f ≡ None → AllByRecursion (RowFits x f.class) (supers f.file)
 whole_fits x f h none = accepted_fit x f.class f.accepted (supers f.file) h none

@@ -13,7 +13,7 @@ use Rattle.cl_registry.specs.Tables.{Shown}
 use Rattle.cl_registry.specs.Traced.{IsRowOf, IsTraced}
 use Rattle.cl_tasks.specs.Linking.{ChainTold, LineageTold}
 use Rattle.cl_tasks.specs.Rooms.{chain_room, listed_room}
-use Rattle.cl_tasks.specs.Stages.{IsChain, IsOf, behind, chain_calls, class_in}
+use Rattle.cl_tasks.specs.Stages.{IsChain, behind, chain_calls, class_in}
 use Rattle.cl_tasks.specs.Measures.{chain_left}
 use Rattle.cl_tasks.specs.Steps.{LeadsBy}
 use Rattle.cl_tasks.specs.declared.stage.Chain.{Chain}
@@ -21,6 +21,7 @@ use Rattle.cl_tasks.specs.declared.stage.Next.{Next}
 use Rattle.cl_tasks.proofs.Lead.{leads_by}
 use Rattle.cl_tasks.proofs.LinkFacts.{all_at, chain_whole}
 use Rattle.cl_tasks.proofs.LinkLeads.{fewer_calls, row_class}
+use Rattle.cl_tasks.specs.Turns.{IsOf}
 
 module _ (whole part : Lined) (place : ℕ) (f : IsLineageAt whole place part) where
   -- it is of the class at the place

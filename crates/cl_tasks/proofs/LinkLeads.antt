@@ -30,7 +30,7 @@ use Rattle.cl_tasks.specs.Follows.{CallsWithin, ServedIn}
 use Rattle.cl_tasks.specs.Linking.{ChainTold, DoneTold, GoalTold, MarkedTold, PreparedTold, WholeTold}
 use Rattle.cl_tasks.specs.Measures.{chain_left, each_left, linking_left, most, prepared_left, whole_left}
 use Rattle.cl_tasks.specs.Rooms.{asking_room, chain_room, last_room, listed_room, prepared_room}
-use Rattle.cl_tasks.specs.Stages.{IsChain, IsGoal, IsOf, behind, chain_calls, class_in, classes_in}
+use Rattle.cl_tasks.specs.Stages.{IsChain, IsGoal, behind, chain_calls, class_in, classes_in}
 use Rattle.cl_tasks.specs.Steps.{LeadsBy}
 use Rattle.cl_tasks.specs.declared.stage.Chain.{Chain}
 use Rattle.cl_tasks.specs.declared.stage.Goal.{Goal}
@@ -42,6 +42,7 @@ use Rattle.cl_tasks.proofs.Lead.{HasPost, leads_post}
 use Rattle.cl_tasks.proofs.LinkFacts.{chain_goal, chain_of, chain_prepared, chain_whole, class_last, class_there, none, own_recorded, taken_more, whole_length}
 use Rattle.cl_tasks.proofs.LinkPlan.{chain_within}
 use Rattle.cl_tasks.proofs.MemberFacts.{traced_as}
+use Rattle.cl_tasks.specs.Turns.{IsOf}
 use Rattle.cl_model.proofs.Tables.{one_linked}
 
 -- ---- in general

@@ -8,7 +8,7 @@ use Rattle.cl_model.specs.declared.event.Event.{Event}
 use Rattle.cl_model.specs.declared.need.Need as rust
 use Rattle.cl_model.specs.declared.need.Need.TheVariants as needs
 use Rattle.cl_model.specs.declared.event.Event.TheVariants as events
-use Rattle.cl_model.specs.States.{State, Record, Equality, start, Answer, recorded, IsPath, Refused, Differs, Divides}
+use Rattle.cl_model.specs.States.{State, Record, Equality, start, Answer, recorded, IsPath, Refused, Entry, Equal, Clashes}
 use Rattle.cl_model.specs.Machine.{after, state_after}
 use Rattle.cl_model.specs.Texts.{EventNames, NeedNames}
 use Rattle.cl_model.specs.Views.{answers_of, answer_at, need_of, post_of, step_of, steps_of}
@@ -76,10 +76,10 @@ path_named count s name a b (c ∷ cs) named along below =
     let e = named.equalities along.0.equality along.0.imposed in
     elim (along.0.ends) [ inl k ↦ subst (λ (l : ℕ). l < count) k.0 e.0 | inr k ↦ subst (λ (l : ℕ). l < count) k.1 e.1 ]
 
-differs_named : (count : ℕ) (s : State) (name : Name) (loader place : ℕ) → AreNamed count s → Differs s name loader place → loader < count
+differs_named : (count : ℕ) (s : State) (name : Name) (loader place : ℕ) → AreNamed count s → Clashes s (Entry loader name place) → loader < count
 differs_named count s name loader place named d = path_named count s name loader d.other d.joined.path named d.joined.along (named.records d.other d.other_place name d.recorded_there)
 
-divides_named : (count : ℕ) (s : State) (name : Name) (a b : ℕ) → AreNamed count s → Divides s name a b → (a < count) × (b < count)
+divides_named : (count : ℕ) (s : State) (name : Name) (a b : ℕ) → AreNamed count s → Clashes s (Equal name a b) → (a < count) × (b < count)
 divides_named count s name a b named d =
     (path_named count s name a d.one d.joined.path named d.joined.along (named.records d.one d.place name d.recorded_there), differs_named count s name b d.place named d.differs)
 

@@ -95,7 +95,7 @@ chain_within g s r l p sound is kept lin plan =
     let goes = link_goes_on w s (loader_of r) l.own.class.loader l.own.class.name (kin_of l) sound.closed kept has in
     let of : IsPlan w q p = subst (λ (x : request.Request). IsPlan w (request_of x) p) is plan in
     let same : goes.plan ≡ p = one_plan w q goes.plan p goes.planned of in
-    let reached : p.reached ≡ Some l.own.class = subst (λ (x : Plan). x.reached ≡ Some l.own.class) same goes.reached in
+    let reached : p.reached ≡ Some l.own.class = subst (λ (x : Plan). x.reached ≡ Some l.own.class) same goes.past.0 in
     links_within w (loader_of r) l.own.class.name p l.own.class (kin_of l) of reached has
 
 module _ (g : Setting) (s : State) (r : request.Request) (l at : Lined) (place : ℕ) (sound : IsSound g s) (is : r ≡ requests.Link (loader_of r) l.own.class.name) (here : IsThere g s (loader_of r) l at place) where
@@ -111,11 +111,11 @@ module _ (g : Setting) (s : State) (r : request.Request) (l at : Lined) (place :
       record {
         need = subst (λ (q : request.Request). IsNextNeed g.world s (request_of q) n) (sym is) (gone_on_next g.world s (Link (loader_of r) l.own.class.name) l.own.class (flat_map constraints_of (lineage (kin_of l))) (IsLinked l.own.class) n goes all);
         step = λ may. subst (λ (q : request.Request). IsNextStep g s (request_of q) (step_for n)) (sym is)
-            (link_need_next g s (loader_of r) l.own.class.name goes.plan l.own.class (kin_of l) (kin_of at) here.front here.behind n goes.planned goes.reached goes.own here.has here.split here.linked next may);
+            (link_need_next g s (loader_of r) l.own.class.name goes.plan l.own.class (kin_of l) (kin_of at) here.front here.behind n goes.planned goes.past.0 goes.past.1 here.has here.split here.linked next may);
       }
 
   -- its preparation comes next, where all its equalities are met
   pub preparation_next : AllMet s (constraints_of (kin_of at)) → (Contains s.prepared at.own.class → ⊥) → IsNextStep g s (request_of r) (Prepare at.own.class)
   preparation_next met free =
       subst (λ (q : request.Request). IsNextStep g s (request_of q) (Prepare at.own.class)) (sym is)
-      (prepare_next g s (loader_of r) l.own.class.name goes.plan l.own.class (kin_of l) (kin_of at) here.front here.behind goes.planned goes.reached goes.own here.has here.split here.linked met free)
+      (prepare_next g s (loader_of r) l.own.class.name goes.plan l.own.class (kin_of l) (kin_of at) here.front here.behind goes.planned goes.past.0 goes.past.1 here.has here.split here.linked met free)

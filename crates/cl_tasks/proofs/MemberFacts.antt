@@ -1,5 +1,5 @@
 -- What a resolution that asks for a member was told, and what follows of it.
-use Rattle.std.proofs.Common.{◌≡◌, ◌≢◌, ◌<◌, ℕ, List, [], ◌∷◌, length, Some, refl, sym, subst}
+use Rattle.std.proofs.Common.{◌≡◌, ◌<◌, ℕ, List, [], ◌∷◌, length, Some, refl, sym, subst}
 use Rattle.std.specs.Prelude.{Err, take}
 use Rattle.std.proofs.lemmas.List.{length-map}
 use Rattle.cl_classfile.specs.Files.{Reference, ToClass, ToField, ToMethod, ToInterfaceMethod, file_of, reference}
@@ -24,15 +24,17 @@ use Rattle.cl_findings.proofs.References.{whole_taken}
 use Rattle.cl_registry.specs.Tables.{Shown, NamesLoaders, state_of}
 use Rattle.cl_registry.specs.Traced.{IsRowOf, IsTraced}
 use Rattle.cl_registry.proofs.Named.{recorded_is_named}
+use Rattle.cl_registry.specs.Settling.{IsSettledKind}
 use Rattle.cl_tasks.specs.Cited.{IsKind}
 use Rattle.cl_tasks.specs.Resolving.{Cites, EntryTold, ImposedTold, IsSame, TracedTold}
-use Rattle.cl_tasks.specs.Stages.{IsEntry, IsMember, IsOf}
+use Rattle.cl_tasks.specs.Stages.{IsEntry, IsMember}
 use Rattle.cl_tasks.specs.declared.cited.Kind.{Kind}
 use Rattle.cl_tasks.specs.declared.cited.Kind.TheVariants as kinds
 use Rattle.cl_tasks.specs.declared.stage.Entry as entries
 use Rattle.cl_tasks.specs.declared.stage.Member.{Member}
 use Rattle.cl_tasks.proofs.Facts.{met_stand, stand_met}
 use Rattle.cl_tasks.proofs.LinkFacts.{traced_own}
+use Rattle.cl_tasks.specs.Turns.{IsOf}
 
 -- ---- entries
 
@@ -124,16 +126,15 @@ all_taken e = whole_taken (needs_of e.needs) (length e.needs) (sym (length-map e
 
 -- a verdict that is settled, of a class
 pub record IsOfOwner (v : verdict.Verdict) (owner : Class) : Type 0 where
-  pub is_entry : v ≢ verdicts.BadEntry
-  pub is_class_member : v ≢ verdicts.ArrayMember
+  pub kind : IsSettledKind v
   pub names : (count : ℕ) → owner.loader < count → VerdictNames count v
 
 field_owner : (v : verdict.Verdict) (owner : Class) (key : _) → verdict_of v ≡ IsField owner key → IsOfOwner v owner
-field_owner (verdicts.Field c k) owner key e = let same : c ≡ owner = cc in record { is_entry = λ h. cc; is_class_member = λ h. cc; names = λ count lt. rw (same) lt }
+field_owner (verdicts.Field c k) owner key e = let same : c ≡ owner = cc in record { kind = record { is_entry = λ h. cc; is_class_member = λ h. cc }; names = λ count lt. rw (same) lt }
 field_owner other owner key e = absurd cc
 
 method_owner : (v : verdict.Verdict) (owner : Class) (key : _) → verdict_of v ≡ IsMethod owner key → IsOfOwner v owner
-method_owner (verdicts.Method c k) owner key e = let same : c ≡ owner = cc in record { is_entry = λ h. cc; is_class_member = λ h. cc; names = λ count lt. rw (same) lt }
+method_owner (verdicts.Method c k) owner key e = let same : c ≡ owner = cc in record { kind = record { is_entry = λ h. cc; is_class_member = λ h. cc }; names = λ count lt. rw (same) lt }
 method_owner other owner key e = absurd cc
 
 asked_owner : (r : Reference) (v : verdict.Verdict) (owner : Class) (key : _) → asked_key r ≡ Some key → verdict_of v ≡ asking.verdict_of r owner key → IsOfOwner v owner
@@ -147,7 +148,7 @@ pub found_owner : (f : Located) (v : verdict.Verdict) → IsLocated f → IsOfFo
 found_owner f v is of = asked_owner is.refers v f.owner.class f.key is.asks (of is.refers is.at)
 
 error_names : (kind : _) (c owner : Class) → owner ≡ c → IsOfOwner (verdicts.Error kind c) owner
-error_names kind c owner same = record { is_entry = λ h. cc; is_class_member = λ h. cc; names = λ count lt. subst (λ (k : Class). k.loader < count) same lt }
+error_names kind c owner same = record { kind = record { is_entry = λ h. cc; is_class_member = λ h. cc }; names = λ count lt. subst (λ (k : Class). k.loader < count) same lt }
 
 -- an error of a class names it
 pub error_owner : (kind : _) (c : Class) (v : verdict.Verdict) → Some (verdicts.Error kind c) ≡ Some v → IsOfOwner v c

@@ -1,9 +1,8 @@
 -- What the resolution of an entry that asks for a member leads to (JVMS SE 8, 5.4.3.2 to 5.4.3.4).
-use Rattle.std.proofs.Common.{Global, ◌≡◌, ◌≢◌, ◌∙◌, ◌<◌, ◌≤◌, ◌+◌, ◌-◌, ℕ, List, ◌++◌, length, Option, Some, Err, refl, sym, ap, subst, arith}
+use Rattle.std.proofs.Common.{Global, ◌≡◌, ◌∙◌, ◌<◌, ◌≤◌, ◌+◌, ◌-◌, ℕ, List, ◌++◌, length, Option, Some, Err, refl, sym, ap, subst, arith}
 use Rattle.std.specs.Prelude.{slice_get, take, option_map, IfSome}
 use Rattle.std.proofs.lemmas.Option.{slice_get-map}
 use Rattle.std.specs.declared.sync.Arc.{Arc}
-use Rattle.cl_model.specs.declared.answer.Answer.TheVariants as answers
 use Rattle.cl_model.specs.declared.class.Class.{Class}
 use Rattle.cl_model.specs.declared.need.Equality.{Equality}
 use Rattle.cl_model.specs.declared.need.Need as rust
@@ -29,17 +28,18 @@ use Rattle.cl_hierarchy.specs.Rows.{Rowed}
 use Rattle.cl_members.specs.Asking.{IsDeniedIn, IsLocated}
 use Rattle.cl_members.specs.declared.fault.LookupFault.{LookupFault}
 use Rattle.cl_findings.specs.Bases.{IsListed}
-use Rattle.cl_findings.specs.Findings.{Answered, Based, Rests, loader_of}
+use Rattle.cl_findings.specs.Findings.{Answered, Based, Rests, grounded, loader_of}
 use Rattle.cl_findings.specs.References.{AreAsked, IsOfFound, asked_basis, class_basis, config_of, fault_verdict, member_basis, reference_needs, sprung_needs}
 use Rattle.cl_findings.proofs.References.{asked_rests}
 use Rattle.cl_registry.specs.Imposing.{IsNextOf, IsReached, IsStanding, MayImpose, StandsFor}
 use Rattle.cl_registry.specs.Tables.{NamesLoaders, Shown, state_of}
 use Rattle.cl_registry.proofs.Schedules.{some_at}
+use Rattle.cl_registry.specs.Settling.{IsSettledKind}
 use Rattle.cl_tasks.specs.Follows.{IsWanted, ServedIn}
 use Rattle.cl_tasks.specs.Measures.{imposing_left, most, tracing_named_left}
 use Rattle.cl_tasks.specs.Resolving.{EntryTold, ImposedTold, IsInaccessible, IsSame, OwnTold, RefusedTold, TracedTold}
 use Rattle.cl_tasks.specs.Rooms.{Room, imposing_room, settle_room, tracing_named_room, tracing_own_room}
-use Rattle.cl_tasks.specs.Stages.{IsEntry, IsMember, IsOf}
+use Rattle.cl_tasks.specs.Stages.{IsEntry, IsMember}
 use Rattle.cl_tasks.specs.Steps.{LeadsBy}
 use Rattle.cl_tasks.specs.declared.member.Inaccessible.{Inaccessible}
 use Rattle.cl_tasks.specs.declared.stage.Entry as entries
@@ -53,56 +53,60 @@ use Rattle.cl_tasks.proofs.Lead.{Holding}
 use Rattle.cl_tasks.proofs.LinkNamed.{refused_named}
 use Rattle.cl_tasks.proofs.MemberCounts.{member_few}
 use Rattle.cl_tasks.proofs.MemberFacts.{all_taken, fault_of, found_owner, member_entry, member_imposed, member_needs, member_through, member_told, own_within, row_within, same_entry, same_told, traced_as, traced_entry, traced_needs}
-use Rattle.cl_tasks.proofs.Said.{Settling, Stood, concludes_at, found_is}
+use Rattle.cl_tasks.proofs.Said.{Settling, Stood, concludes_at}
 use Rattle.cl_tasks.proofs.LinkLeads.{within_same}
+use Rattle.cl_tasks.specs.Turns.{IsOf}
 
 -- an entry is settled to what a finding says, where that stands
 pub leads_settle : {A : Type 0} (told : Option Content) (c : Configured) (e kept : entries.Entry A) (f : Answered) (v : verdict.Verdict) (b : Based) (room : Room) (holds : Shown → Type 0) → IsEntry c e → IsSame e kept
-    → f.request ≡ e.request → f.answer ≡ answers.Said v → f.basis ≡ Some b → Stood told c e.request v b holds → v ≢ verdicts.BadEntry → v ≢ verdicts.ArrayMember → ((x : Shown) → holds x → EntryTold e x) → 1 < room.turns → HasSettle room
+    → f ≡ grounded e.request v b → Stood told c e.request v b holds → IsSettledKind v → ((x : Shown) → holds x → EntryTold e x) → 1 < room.turns → HasSettle room
     → LeadsBy told c e.q e.request room holds (record { stage = stages.Resolve (resolutions.Settling kept); turn = turn.Settle f })
-leads_settle {A} told c e kept f v b room holds entry same asked said rests stood is_entry is_member entry_told more two =
-    let may : Settling e.request e.d.value.class e.index v holds = record { resolves = entry.of; kept = λ x h. (entry_told x h).0; is_entry = is_entry; is_class_member = is_member } in
-    subst (λ (a : Answered). LeadsBy {A = A} told c e.q e.request room holds (record { stage = stages.Resolve (resolutions.Settling kept); turn = turn.Settle a })) (sym (found_is f e.request v b asked said rests))
+leads_settle {A} told c e kept f v b room holds entry same is stood kind entry_told more two =
+    let may : Settling e.request e.d.value.class e.index v holds = record { resolves = entry.of; kept = λ x h. (entry_told x h).0; kind = kind } in
+    subst (λ (a : Answered). LeadsBy {A = A} told c e.q e.request room holds (record { stage = stages.Resolve (resolutions.Settling kept); turn = turn.Settle a })) (sym is)
     (leads_settles A told c e.q e.request e.d.value.class e.index v b room holds kept stood may (same_entry c e kept entry same) same.number same.request (λ x h. same_told x e kept same (entry_told x h)) more two)
 
 -- ---- an end at the class that the entry names
 
 -- what rests on the two classes alone
 pub class_leads : {A : Type 0} (told : Option Content) (c : Configured) (e kept : entries.Entry A) (own named : Lined) (config : Configured) (f : Answered) (v : verdict.Verdict) → IsEntry c e → IsOf c e.d.value.class own → IsSame e kept
-    → config ≡ c → f.request ≡ e.request → f.answer ≡ answers.Said v → f.basis ≡ Some (class_basis config e.request own.own.class named.own.class) → Rests told f → v ≢ verdicts.BadEntry → v ≢ verdicts.ArrayMember
+    → config ≡ c → f ≡ grounded e.request v (class_basis config e.request own.own.class named.own.class) → Rests told f → IsSettledKind v
     → ((x : Shown) → NamesLoaders x → TracedTold e own named x → VerdictNames (length x.config.loaders) v)
     → LeadsBy told c e.q e.request tracing_named_room (TracedTold e own named) (record { stage = stages.Resolve (resolutions.Settling kept); turn = turn.Settle f })
-class_leads {A} told c e kept own named config f v entry of same here asked said basis rests is_entry is_member names =
+class_leads {A} told c e kept own named config f v entry of same here is rests kind names =
     let b : Based = class_basis config e.request own.own.class named.own.class in
     let stood : Stood told c e.request v b (TracedTold e own named) = record {
-      rests = subst (λ (a : Answered). Rests told a) (found_is f e.request v b asked said basis) rests;
+      rests = subst (λ (a : Answered). Rests told a) is rests;
       config = here;
       unprepared = refl;
       needs = λ x h. traced_needs c x e own named of h;
       refused = λ x h. tt;
       within = λ x config loaders h. record { loader = within_same c x (loader_of e.request) config entry.asked; answer = names x loaders h };
     } in
-    leads_settle {A = A} told c e kept f v b tracing_named_room (TracedTold e own named) entry same asked said basis stood is_entry is_member (λ x h. traced_entry x e own named h) (more most) (λ w p s. omega arith)
+    leads_settle {A = A} told c e kept f v b tracing_named_room (TracedTold e own named) entry same is stood kind (λ x h. traced_entry x e own named h) (more most) (λ w p s. omega arith)
   where
     more : (n : ℕ) → 1 < n + 2
     more n = omega arith
 
 -- the class that the entry names is not accessible
 pub inaccessible_leads : {A : Type 0} (told : Option Content) (c : Configured) (e kept : entries.Entry A) (own named : Lined) (end : Inaccessible A) (f : Answered) → IsEntry c e → IsOf c e.d.value.class own → IsSame e kept → IsInaccessible c own named end
-    → f.request ≡ e.request → f.answer ≡ answers.Said end.verdict → f.basis ≡ Some (class_basis end.config.value e.request end.d.value.class end.named.value.class) → Rests told f
+    → f ≡ grounded e.request end.verdict (class_basis end.config.value e.request end.d.value.class end.named.value.class) → Rests told f
     → LeadsBy told c e.q e.request tracing_named_room (TracedTold e own named) (record { stage = stages.Resolve (resolutions.Settling kept); turn = turn.Settle f })
-inaccessible_leads told c e kept own named end f entry of same is asked said basis rests =
-    class_leads told c e kept own named end.config.value f (verdicts.Error kinds.IllegalAccessError named.own.class) entry of same is.config_is asked (said ∙ ap (λ (v : verdict.Verdict). answers.Said v) is.verdict_is)
-    (basis ∙ ap (λ (d : Rowed). Some (class_basis end.config.value e.request d.class end.named.value.class)) is.own_is ∙ ap (λ (d : Rowed). Some (class_basis end.config.value e.request own.own.class d.class)) is.named_is) rests
-    (λ h. cc) (λ h. cc) (λ x loaders h. own_within x named.own.class named loaders h.now)
+inaccessible_leads told c e kept own named end f entry of same is said rests =
+    let v : verdict.Verdict = verdicts.Error kinds.IllegalAccessError named.own.class in
+    class_leads told c e kept own named end.config.value f v entry of same is.config_is
+    (said ∙ ap (λ (u : verdict.Verdict). grounded e.request u (class_basis end.config.value e.request end.d.value.class end.named.value.class)) is.verdict_is
+    ∙ ap (λ (d : Rowed). grounded e.request v (class_basis end.config.value e.request d.class end.named.value.class)) is.own_is
+    ∙ ap (λ (d : Rowed). grounded e.request v (class_basis end.config.value e.request own.own.class d.class)) is.named_is) rests
+    (record { is_entry = λ h. cc; is_class_member = λ h. cc }) (λ x loaders h. own_within x named.own.class named loaders h.now)
 
 -- the member was not found
 pub fault_leads : {A : Type 0} (told : Option Content) (c : Configured) (e kept : entries.Entry A) (own named : Lined) (fault : LookupFault) (f : Answered) (v : verdict.Verdict) → IsEntry c e → IsOf c e.d.value.class own → IsSame e kept
-    → fault_verdict named.own.class fault ≡ Some v → IsDeniedIn named (Err fault) → f.request ≡ e.request → f.answer ≡ answers.Said v → f.basis ≡ Some (class_basis own.config e.request own.own.class named.own.class) → Rests told f
+    → fault_verdict named.own.class fault ≡ Some v → IsDeniedIn named (Err fault) → f ≡ grounded e.request v (class_basis own.config e.request own.own.class named.own.class) → Rests told f
     → LeadsBy told c e.q e.request tracing_named_room (TracedTold e own named) (record { stage = stages.Resolve (resolutions.Settling kept); turn = turn.Settle f })
-fault_leads told c e kept own named fault f v entry of same error denied asked said basis rests =
+fault_leads told c e kept own named fault f v entry of same error denied is rests =
     let owner = fault_of named fault v error denied in
-    class_leads told c e kept own named own.config f v entry of same of.config asked said basis rests owner.of.is_entry owner.of.is_class_member
+    class_leads told c e kept own named own.config f v entry of same of.config is rests owner.of.kind
     (λ x loaders h. owner.of.names (length x.config.loaders) (owner.within x loaders h.now))
 
 -- ---- the lineages
@@ -141,7 +145,7 @@ module _ {A : Type 0} (told : Option Content) (c : Configured) (m : Member A) (m
   -- the equality at a place comes next, where those before it are imposed
   next : IsListed told m.equalities.value → (g : Setting) (x : Shown) (i : ℕ) (need : rust.Need) → slice_get (needs_of m.equalities.value.needs) i ≡ Some (need_of need) → ServedIn told c g (state_of x) → ImposedTold m i x → IsNextNeed g.world (state_of x) (request_of m.entry.request) (need_of need)
   next known g x i need is served h =
-      (concludes_at told c g (state_of x) m.entry.request (verdicts.Linkage need) (asked_basis m.entry.request m.equalities.value i (need_of need)) served
+      (concludes_at told c g (state_of x) m.entry.request (verdicts.Linkage need) (asked_basis m.entry.request m.equalities.value i (Some (need_of need))) served
       (asked_rests told m.entry.request m.equalities.value i need asked known.lineages known.are is) config_is refl (needs_met x i h)).next
 
   wanted : IsListed told m.equalities.value → (g : Setting) (x : Shown) (i : ℕ) (y : Equality) → slice_get (needs_of m.equalities.value.needs) i ≡ Some (equal_need y) → ServedIn told c g (state_of x) → ImposedTold m i x → IsWanted g (state_of x) m.entry.request (equal_need y)
@@ -192,33 +196,33 @@ module _ {A : Type 0} (told : Option Content) (c : Configured) (m : Member A) (m
 
   -- ---- one of them is refused
 
-  pub refused_leads : (i : ℕ) (kept : entries.Entry A) (f : Answered) (need : rust.Need) → IsSame m.entry kept → f.request ≡ m.entry.request → f.answer ≡ answers.Said (verdicts.Linkage need)
-      → f.basis ≡ Some (asked_basis m.entry.request m.equalities.value i (need_of need)) → Rests told f
+  pub refused_leads : (i : ℕ) (kept : entries.Entry A) (f : Answered) (need : rust.Need) → IsSame m.entry kept
+      → f ≡ grounded m.entry.request (verdicts.Linkage need) (asked_basis m.entry.request m.equalities.value i (Some (need_of need))) → Rests told f
       → LeadsBy told c m.entry.q m.entry.request settle_room (RefusedTold m i (need_of need)) (record { stage = stages.Resolve (resolutions.Settling kept); turn = turn.Settle f })
-  refused_leads i kept f need same is_asked said basis rests =
-      let b : Based = asked_basis m.entry.request m.equalities.value i (need_of need) in
+  refused_leads i kept f need same is rests =
+      let b : Based = asked_basis m.entry.request m.equalities.value i (Some (need_of need)) in
       let v : verdict.Verdict = verdicts.Linkage need in
       let stood : Stood told c m.entry.request v b (RefusedTold m i (need_of need)) = record {
-        rests = subst (λ (a : Answered). Rests told a) (found_is f m.entry.request v b is_asked said basis) rests;
+        rests = subst (λ (a : Answered). Rests told a) is rests;
         config = config_is;
         unprepared = refl;
         needs = λ x h. needs_met x i h.before;
         refused = λ x h. h.now;
         within = λ x config loaders h. record { loader = within_same c x (loader_of m.entry.request) config member.entry.asked; answer = refused_named x need loaders h.now };
       } in
-      leads_settle {A = A} told c m.entry kept f v b settle_room (RefusedTold m i (need_of need)) member.entry same is_asked said basis stood (λ h. cc) (λ h. cc) (λ x h. member_entry c x m i member h.before) (omega arith) (λ w p s. omega arith)
+      leads_settle {A = A} told c m.entry kept f v b settle_room (RefusedTold m i (need_of need)) member.entry same is stood (record { is_entry = λ h. cc; is_class_member = λ h. cc }) (λ x h. member_entry c x m i member h.before) (omega arith) (λ w p s. omega arith)
 
 -- ---- the member
 
-pub found_leads : {A : Type 0} (told : Option Content) (c : Configured) (m : Member A) (kept : entries.Entry A) (f : Answered) (v : verdict.Verdict) → IsMember c m → IsSame m.entry kept → f.request ≡ m.entry.request → f.answer ≡ answers.Said v
-    → f.basis ≡ Some (member_basis m.entry.request m.found m.equalities.value) → Rests told f → IsLocated m.found → IsOfFound m.found (verdict_of v)
+pub found_leads : {A : Type 0} (told : Option Content) (c : Configured) (m : Member A) (kept : entries.Entry A) (f : Answered) (v : verdict.Verdict) → IsMember c m → IsSame m.entry kept
+    → f ≡ grounded m.entry.request v (member_basis m.entry.request m.found m.equalities.value) → Rests told f → IsLocated m.found → IsOfFound m.found (verdict_of v)
     → LeadsBy told c m.entry.q m.entry.request settle_room (ImposedTold m (length m.equalities.value.needs)) (record { stage = stages.Resolve (resolutions.Settling kept); turn = turn.Settle f })
-found_leads {A} told c m kept f v member same asked said basis rests located found =
+found_leads {A} told c m kept f v member same is rests located found =
     let owner = found_owner m.found v located found in
     let b : Based = member_basis m.entry.request m.found m.equalities.value in
     let all : ℕ = length m.equalities.value.needs in
     let stood : Stood told c m.entry.request v b (ImposedTold m all) = record {
-      rests = subst (λ (a : Answered). Rests told a) (found_is f m.entry.request v b asked said basis) rests;
+      rests = subst (λ (a : Answered). Rests told a) is rests;
       config = member.own.config;
       unprepared = refl;
       needs = λ x h.
@@ -227,7 +231,7 @@ found_leads {A} told c m kept f v member same asked said basis rests located fou
       refused = λ x h. tt;
       within = λ x config loaders h. record { loader = within_same c x (loader_of m.entry.request) config member.entry.asked; answer = owner.names (length x.config.loaders) (row_within x m.found.c.own.class m.found.c m.found.owner loaders (member_through x m all h) located.row) };
     } in
-    leads_settle {A = A} told c m.entry kept f v b settle_room (ImposedTold m all) member.entry same asked said basis stood owner.is_entry owner.is_class_member (λ x h. member_entry c x m all member h) (omega arith) (λ w p s. omega arith)
+    leads_settle {A = A} told c m.entry kept f v b settle_room (ImposedTold m all) member.entry same is stood owner.kind (λ x h. member_entry c x m all member h) (omega arith) (λ w p s. omega arith)
 
 -- ---- how many turns are left
 

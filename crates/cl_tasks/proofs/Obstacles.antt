@@ -20,7 +20,7 @@ use Rattle.cl_findings.specs.declared.load.Obstacle.{Obstacle}
 use Rattle.cl_findings.specs.declared.load.Obstacle.TheVariants as obstacles
 use Rattle.cl_findings.specs.declared.load.Target.{Target}
 use Rattle.cl_findings.specs.declared.load.Target.TheVariants as targets
-use Rattle.cl_findings.specs.Findings.{Based, IsWithin, Rests, loader_of}
+use Rattle.cl_findings.specs.Findings.{Based, IsWithin, Rests, loader_of, grounded}
 use Rattle.cl_findings.specs.Loads.{IsFor, Stops, basis_at, needs_at, next_need, next_needs, refused_at, target_needs, verdict_at}
 use Rattle.cl_registry.specs.Allowed.{RecordedIsNamed}
 use Rattle.cl_registry.specs.Tables.{Shown, NamesLoaders, records_of, state_of}
@@ -32,7 +32,6 @@ use Rattle.cl_tasks.specs.declared.stage.Job.{Job}
 use Rattle.cl_tasks.proofs.Ending.{Ended}
 use Rattle.cl_tasks.proofs.Keep.{all_kept}
 use Rattle.cl_tasks.proofs.Said.{IsRecordIn}
-use Rattle.cl_findings.proofs.Plain.{grounded}
 
 -- what a job was told, as needs
 pub target_met : {A : Type 0} (x : Shown) (r : Request) (t : Target A) → AreSo x (target_facts r t) → AllMet (state_of x) (target_needs r t)
@@ -70,7 +69,7 @@ end_met x j (obstacles.Missing u) stops told = tt
 end_met x j (obstacles.Unreadable u) stops told = tt
 end_met x j (obstacles.Circle h) stops told = tt
 end_met x j (obstacles.Misfit row c kind) stops told =
-    (subst (λ (n : List ℕ). recorded (records_of x) (at_loader j.path) n ≡ Some c.loader) (sym stops.1) (told.recorded ∙ ap (λ (k : Class). Some k.loader) stops.0), tt)
+    (subst (λ (n : List ℕ). recorded (records_of x) (at_loader j.path) n ≡ Some c.loader) (sym stops.1) (told.records.recorded ∙ ap (λ (k : Class). Some k.loader) stops.0), tt)
 
 moved : {c d : Configured} {n : ℕ} → c ≡ d → n < length c.loaders → n < length d.loaders
 moved {n = n} e h = subst (λ (k : Configured). n < length k.loaders) e h
@@ -80,14 +79,14 @@ end_within : {A : Type 0} (x : Shown) (r : Request) (t : Target A) (p : Pathed) 
     → EndWithin (length p.config.loaders) e → EndTold x p e → IsWithin (length x.config.loaders) (grounded r (verdict_at t p e) (basis_at r t p e))
 end_within x r t p (obstacles.Missing u) law named config asked at stops within told = record {
   loader = moved config asked;
-  answer = subst (λ (l : ℕ). l < length x.config.loaders) (sym stops.1) (moved config at);
+  answer = subst (λ (l : ℕ). l < length x.config.loaders) (sym stops.asked) (moved config at);
 }
 end_within x r t p (obstacles.Unreadable u) law named config asked at stops within told = record { loader = moved config asked; answer = moved config within }
 end_within x r t p (obstacles.Circle h) law named config asked at stops within told = record { loader = moved config asked; answer = moved config within }
 end_within x r t p (obstacles.Misfit row c kind) law named config asked at stops within told = record {
   loader = moved config asked;
   answer =
-      subst (λ (k : Class). k.loader < length x.config.loaders) stops.0 (law x (at_loader p) row.value.class.loader (at_name p) named told.recorded);
+      subst (λ (k : Class). k.loader < length x.config.loaders) stops.0 (law x (at_loader p) row.value.class.loader (at_name p) named told.records.recorded);
 }
 
 -- an obstacle is the end of a load

@@ -255,7 +255,7 @@ accepts_last old new place o x e h = subst (λ (k : Option Framed). MatchOption 
 
 home_records : (x : Shown) (p : Pathed) (h : Located) (row : Rowed) → IsSought p h → IsRecordedAs x h.place (at_name p) row → row.class.loader ≡ h.place → recorded (records_of x) h.place h.name ≡ Some h.place
 home_records x p h row sought told own =
-    subst (λ (n : List ℕ). recorded (records_of x) h.place n ≡ Some h.place) (sym sought.name) (told.recorded ∙ ap (λ (l : ℕ). Some l) own)
+    subst (λ (n : List ℕ). recorded (records_of x) h.place n ≡ Some h.place) (sym sought.name) (told.records.recorded ∙ ap (λ (l : ℕ). Some l) own)
 
 away_wanted : {A : Type 0} (told : Option Content) (j : Job A) (h : Arc (Home A) Global) → IsJob told j.path.config j → IsPath told j.path → IsSought j.path h.value → h.value.place ≢ at_loader j.path → LeadsTo told h.value.config h.value.asked h.value.name (Some h.value.place)
     → (g : Setting) (y : Shown) → ServedIn told j.path.config g (state_of y) → HoldsOn j y → recorded (records_of y) h.value.place h.value.name ≡ Some h.value.place → IsWanted g (state_of y) j.request (Entry h.value.asked h.value.name h.value.place)
@@ -272,7 +272,7 @@ pub leads_initiate : {A : Type 0} (told : Option Content) (j : Job A) (h kept : 
     → LeadsTo told h.value.config h.value.asked h.value.name (Some h.value.place) → h.value.place ≢ at_loader j.path → row.class.loader ≡ h.value.place
     → LeadsFrom told phases.Defining j h.value.place (FindsAt j h.value.place row) (record { stage = stages.Load (loads.Initiating j kept); turn = turn.Initiate h })
 leads_initiate told j h kept row same job path sought lead other own = record {
-  kept = (job, subst (λ (i : Located). IsSought j.path i) (sym same) sought, subst (λ (i : Located). i.place ≢ at_loader j.path) (sym same) other);
+  kept = (job, (subst (λ (i : Located). IsSought j.path i) (sym same) sought, subst (λ (i : Located). i.place ≢ at_loader j.path) (sym same) other));
   number = refl;
   asks = ap (λ (i : Located). waits.Initiating i) same;
   serves = refl;

@@ -6,8 +6,6 @@ use Rattle.std.proofs.lemmas.List.{length-map, take-map}
 use Rattle.std.proofs.lemmas.Option.{slice_get-map}
 use Rattle.std.specs.declared.sync.Arc.{Arc}
 use Rattle.cl_classfile.specs.Files.{file_of}
-use Rattle.cl_model.specs.declared.answer.Answer as answer
-use Rattle.cl_model.specs.declared.answer.Answer.TheVariants as answers
 use Rattle.cl_model.specs.declared.class.Class.{Class}
 use Rattle.cl_model.specs.declared.need.Equality.{Equality}
 use Rattle.cl_model.specs.declared.need.Need as rust
@@ -21,7 +19,6 @@ use Rattle.cl_model.specs.Preparation.{constraints_of}
 use Rattle.cl_model.specs.Service.{ComesTo}
 use Rattle.cl_model.specs.States.{State, Need, IsLinked, Linkage, AllMet, recorded}
 use Rattle.cl_model.specs.Tables.{Bears}
-use Rattle.cl_model.specs.Texts.{AnswerNames}
 use Rattle.cl_model.specs.Views.{need_of, request_of}
 use Rattle.cl_model.proofs.Bind.{some_same}
 use Rattle.cl_model.proofs.Gone.{link_refusal_comes}
@@ -30,11 +27,11 @@ use Rattle.cl_hierarchy.specs.Imposed.{AreEnough, AreOf, Listed, OfPreparation, 
 use Rattle.cl_hierarchy.specs.Lineages.{IsInOrder, IsLined, IsLineageOf, Lined, kin_of, rows_in, row_of}
 use Rattle.cl_hierarchy.specs.Rows.{Rowed}
 use Rattle.cl_findings.specs.Bases.{AreLineages, IsListed}
-use Rattle.cl_findings.specs.Findings.{Answered, Based, BasisStands, IsWithin, loader_of}
+use Rattle.cl_findings.specs.Findings.{Answered, BasisStands, IsWithin, grounded, loader_of}
 use Rattle.cl_findings.specs.References.{link_basis}
 use Rattle.cl_findings.proofs.References.{next_at, whole_taken}
 use Rattle.cl_registry.specs.Imposing.{IsNextOf, IsPreparedAbove, IsReady, IsReadyBy, IsStanding, MayImpose, MayMark, StandsFor}
-use Rattle.cl_registry.specs.Posting.{AnswerBacked, IsBacked}
+use Rattle.cl_registry.specs.Posting.{IsBacked}
 use Rattle.cl_registry.specs.Tables.{NamesLoaders, Shown, records_of, state_of}
 use Rattle.cl_registry.specs.Traced.{IsRowOf}
 use Rattle.cl_registry.proofs.Schedules.{some_at}
@@ -44,7 +41,7 @@ use Rattle.cl_tasks.specs.Follows.{AnswerFollows, CallsWithin, IsPreparedNext, I
 use Rattle.cl_tasks.specs.Linking.{LineageTold, ListTold, RefusedTold}
 use Rattle.cl_tasks.specs.Measures.{chain_left, each_left, linking_left, most}
 use Rattle.cl_tasks.specs.Rooms.{last_room, linking_room, listed_room}
-use Rattle.cl_tasks.specs.Stages.{IsAtPlace, IsChain, IsOf, behind, chain_calls, class_in, list_calls}
+use Rattle.cl_tasks.specs.Stages.{IsAtPlace, IsChain, behind, chain_calls, class_in, list_calls}
 use Rattle.cl_tasks.specs.Steps.{LeadsBy}
 use Rattle.cl_tasks.specs.declared.stage.Chain.{Chain}
 use Rattle.cl_tasks.specs.declared.stage.Link.TheVariants as links
@@ -59,6 +56,7 @@ use Rattle.cl_tasks.proofs.LinkLeads.{each_more, fewer_calls, goal_at, in_world,
 use Rattle.cl_tasks.proofs.LinkNamed.{refused_named}
 use Rattle.cl_tasks.proofs.LinkPlan.{IsThere, chain_step, equality_next, preparation_next, there}
 use Rattle.cl_tasks.proofs.MemberFacts.{traced_as}
+use Rattle.cl_tasks.specs.Turns.{IsOf}
 
 -- ---- the list of a class
 
@@ -232,24 +230,19 @@ module _ {A : Type 0} (told : Option Content) (c : Configured) (k : Chain A) (e 
   refused_borne : (s : State) (n : Need) → Bears s (request_of k.goal.request) (Linkage n)
   refused_borne s n = subst (λ (q : request.Request). Bears s (request_of q) (Linkage n)) (sym known.place.of) (λ d h. absurd (not_linked n d h))
 
-  refused_backed : (x : Shown) (i : ℕ) (f : Answered) (need : rust.Need) → x.config ≡ c → NamesLoaders x → f.request ≡ k.goal.request → f.answer ≡ answers.Said (verdicts.Linkage need)
-      → f.basis ≡ Some (link_basis k.goal.request k.whole k.place e i (need_of need)) → RefusedTold k e i (need_of need) x → IsBacked x f
-  refused_backed x i f need config names asked said rests h =
-      let loader : loader_of f.request < length x.config.loaders = subst (λ (q : request.Request). loader_of q < length x.config.loaders) (sym asked) (within_same c x (loader_of k.goal.request) config chain.goal.asked) in
-      let named = refused_named x need names h.now in
-      let before = subst (λ (cs : List Class). AllByRecursion (Contains (state_of x).prepared) cs) (take-map (λ (y : Rowed). y.class) k.place (rows_in k.whole)) (chain_prepared x k (list_chain x k e i h.before)) in
-      let within : IsWithin (length x.config.loaders) f = record { loader = loader; answer = subst (λ (a : answer.Answer). AnswerNames (length x.config.loaders) a) (sym said) named } in
-      let basis : BasisStands x.config (state_of x) f.basis = subst (λ (o : Option Based). BasisStands x.config (state_of x) o) (sym rests)
-      (record { config = chain.whole.config ∙ sym config; needs = (goal_recorded x i h.before, list_imposed x k e i h.before); prepared = before; refused = h.now }) in
-      record {
-        within = within;
-        answer = subst (λ (a : answer.Answer). AnswerBacked x f a) (sym said)
-            (record { grounded = inr (record { within = within; basis = basis }); borne = subst (λ (q : request.Request). Bears (state_of x) (request_of q) (Linkage (need_of need))) (sym asked) (refused_borne (state_of x) (need_of need)) });
-      }
+  -- its finding
+  abbrev found : ℕ → rust.Need → Answered
+  found i need = grounded k.goal.request (verdicts.Linkage need) (link_basis k.goal.request k.whole k.place e i (Some (need_of need)))
 
-  pub refused_leads : (i : ℕ) (f : Answered) (need : rust.Need) → slice_get (needs_of e.needs) i ≡ Some (need_of need) → f.request ≡ k.goal.request → f.answer ≡ answers.Said (verdicts.Linkage need)
-      → f.basis ≡ Some (link_basis k.goal.request k.whole k.place e i (need_of need))
+  refused_backed : (x : Shown) (i : ℕ) (need : rust.Need) → x.config ≡ c → NamesLoaders x → RefusedTold k e i (need_of need) x → IsBacked x (found i need)
+  refused_backed x i need config names h =
+      let before = subst (λ (cs : List Class). AllByRecursion (Contains (state_of x).prepared) cs) (take-map (λ (y : Rowed). y.class) k.place (rows_in k.whole)) (chain_prepared x k (list_chain x k e i h.before)) in
+      let within : IsWithin (length x.config.loaders) (found i need) = record { loader = within_same c x (loader_of k.goal.request) config chain.goal.asked; answer = refused_named x need names h.now } in
+      let basis : BasisStands x.config (state_of x) (found i need).basis = record { config = chain.whole.config ∙ sym config; carried = ((goal_recorded x i h.before, list_imposed x k e i h.before), before, h.now) } in
+      record { within = within; answer = record { grounded = inr (record { within = within; basis = basis }); borne = refused_borne (state_of x) (need_of need) } }
+
+  pub refused_leads : (i : ℕ) (f : Answered) (need : rust.Need) → slice_get (needs_of e.needs) i ≡ Some (need_of need) → f ≡ found i need
       → LeadsBy {A = A} told c k.goal.q k.goal.request last_room (RefusedTold k e i (need_of need)) (record { stage = stages.Done k.goal.q; turn = turn.Post f })
-  refused_leads i f need is asked said rests =
-      leads_post asked (omega arith) (λ w p s. omega arith) (λ x config names fine h. refused_backed x i f need config names asked said rests h)
-      (λ g x served h. subst (λ (a : answer.Answer). AnswerFollows g (state_of x) k.goal.request a) (sym said) (refused_comes g x i (need_of need) is served h))
+  refused_leads i f need at is =
+      leads_post (ap (λ (a : Answered). a.request) is) (omega arith) (λ w p s. omega arith) (λ x config names fine h. subst (λ (a : Answered). IsBacked x a) (sym is) (refused_backed x i need config names h))
+      (λ g x served h. subst (λ (a : Answered). AnswerFollows g (state_of x) k.goal.request a.answer) (sym is) (refused_comes g x i (need_of need) at served h))

@@ -1,12 +1,12 @@
 -- A search asks loaders of the configuration alone, and no more of them than there are.
 use Rattle.std.proofs.Common.{◌≡◌, ◌≢◌, ◌<◌, ◌≤◌, ◌+◌, ◌*◌, ◌-◌, lit<, ℕ, zero, suc, Bool, true, false, List, [], ◌∷◌, ◌++◌, length, Option, Some, None, refl, sym, ap, ◌∙◌, subst, slice_get, arith, append-nil, length-append}
-use Rattle.std.specs.Prelude.{◌==◌, nat_lt, flat_map, option_map, unwrap_or, if◌then◌else◌}
+use Rattle.std.specs.Prelude.{◌==◌, nat_lt, flat_map, option_map, option_to_list, unwrap_or, if◌then◌else◌}
 use Rattle.std.specs.List.{AllByRecursion}
 use Rattle.cl_classfile.specs.Files.{Name}
 use Rattle.cl_model.specs.Homes.{is_java, decisive, Order, ParentFirst, ChildFirst, Loader}
 use Rattle.cl_config.specs.Views as views
 use Rattle.cl_config.specs.Views.{Configured}
-use Rattle.cl_config.specs.Loaders.{loaders_of, loader_of, parents_of, order_of}
+use Rattle.cl_config.specs.Loaders.{loaders_of, loader_of, order_of}
 use Rattle.cl_source.specs.Views.{Found}
 use Rattle.cl_delegation.specs.Searches.{Searched, begun, next_of, next_on, route_of, with_bytes, with_probe}
 use Rattle.cl_model.specs.Frames.{Frame}
@@ -16,7 +16,7 @@ use Rattle.cl_tasks.specs.Measures.{loading, most, turns, left_at}
 use Rattle.cl_tasks.specs.Measures as phases
 use Rattle.cl_tasks.specs.Stages.{next_place, probes_left, Seeks}
 use Rattle.cl_tasks.specs.Steps.{IsPlain, ReadsAt, reads_on, reads_left, way_on}
-use Rattle.cl_model.specs.Probes.{in_turn, route_at, routed, route_below, route_from, route}
+use Rattle.cl_model.specs.Probes.{in_turn, route_at, route_below, route_from, route}
 use Rattle.cl_hierarchy.specs.Paths.{Pathed, at_loader, at_name}
 use Rattle.cl_tasks.specs.Turns.{IsBehind}
 use Rattle.cl_tasks.specs.declared.stage.Job.{Job}
@@ -49,26 +49,26 @@ plus_own n ChildFirst above h = record {
 none_short : (n : ℕ) → IsShort n []
 none_short n = record { short = omega arith; below = tt }
 
-above_short : (n : ℕ) (earlier : ℕ → List ℕ) (parent : Option ℕ) → ((l : ℕ) → IsShort n (earlier l)) → IsShort n (flat_map earlier (parents_of parent))
+above_short : (n : ℕ) (earlier : ℕ → List ℕ) (parent : Option ℕ) → ((l : ℕ) → IsShort n (earlier l)) → IsShort n (flat_map earlier (option_to_list parent))
 above_short n earlier None h = none_short n
 above_short n earlier (Some l) h = subst (λ (way : List ℕ). IsShort n way) (sym (append-nil (earlier l))) (h l)
 
 at_short : (n : ℕ) (name : Name) (earlier : ℕ → List ℕ) (l : views.Loader) → ((k : ℕ) → IsShort n (earlier k)) → IsShort (suc n) (route_at name earlier n (loader_of l))
 at_short n name earlier l h = step (decisive (loader_of l).imports name)
   where
-    step : (o : Option ℕ) → IsShort (suc n) (elim o [ Some target ↦ earlier target | None ↦ in_turn (order_of l.order) (flat_map earlier (parents_of l.parent)) (n ∷ []) ])
+    step : (o : Option ℕ) → IsShort (suc n) (elim o [ Some target ↦ earlier target | None ↦ in_turn (order_of l.order) (flat_map earlier (option_to_list l.parent)) (n ∷ []) ])
     step (Some target) = longer n (earlier target) (h target)
-    step None = plus_own n (order_of l.order) (flat_map earlier (parents_of l.parent)) (above_short n earlier l.parent h)
+    step None = plus_own n (order_of l.order) (flat_map earlier (option_to_list l.parent)) (above_short n earlier l.parent h)
 
-taken : (n : ℕ) (name : Name) (earlier : ℕ → List ℕ) (o : Option views.Loader) → ((k : ℕ) → IsShort n (earlier k)) → IsShort (suc n) (routed (option_map (route_at name earlier n) (option_map loader_of o)))
+taken : (n : ℕ) (name : Name) (earlier : ℕ → List ℕ) (o : Option views.Loader) → ((k : ℕ) → IsShort n (earlier k)) → IsShort (suc n) (unwrap_or (option_map (route_at name earlier n) (option_map loader_of o)) [])
 taken n name earlier None h = none_short (suc n)
 taken n name earlier (Some l) h = at_short n name earlier l h
 
 one_more : (c : Configured) (name : Name) (n loader : ℕ) → ((k : ℕ) → IsShort n (route_below (loaders_of c) name n k)) → IsShort (suc n) (route_below (loaders_of c) name (suc n) loader)
 one_more c name n loader h = step (loader == n)
   where
-    step : (b : Bool) → IsShort (suc n) (elim b [ true ↦ routed (option_map (route_at name (route_below (loaders_of c) name n) n) (slice_get (loaders_of c) n)) | false ↦ route_below (loaders_of c) name n loader ])
-    step true = subst (λ (o : Option Loader). IsShort (suc n) (routed (option_map (route_at name (route_below (loaders_of c) name n) n) o))) (sym (slice_get-map loader_of c.loaders n)) (taken n name (route_below (loaders_of c) name n) (slice_get c.loaders n) h)
+    step : (b : Bool) → IsShort (suc n) (elim b [ true ↦ unwrap_or (option_map (route_at name (route_below (loaders_of c) name n) n) (slice_get (loaders_of c) n)) [] | false ↦ route_below (loaders_of c) name n loader ])
+    step true = subst (λ (o : Option Loader). IsShort (suc n) (unwrap_or (option_map (route_at name (route_below (loaders_of c) name n) n) o) [])) (sym (slice_get-map loader_of c.loaders n)) (taken n name (route_below (loaders_of c) name n) (slice_get c.loaders n) h)
     step false = longer n (route_below (loaders_of c) name n loader) (h loader)
 
 below_short : (c : Configured) (name : Name) (n loader : ℕ) → IsShort n (route_below (loaders_of c) name n loader)
@@ -207,4 +207,4 @@ reads_place s some = (length s.absent, on_way (route_of s) (length s.absent) s.f
 pub reads_behind : {A : Type 0} (j : Job A) (s new : Searched) (p : Found) (u : Turn A) → Seeks j s → next_of s ≡ Some p.loader → new ≡ with_probe s p → ReadsAt j.path (λ l. next_of new ≡ Some l) u → ReadsAt j.path (IsBehind (way_on j.path) p) u
 reads_behind j s new p u seeks before is h =
     reads_more_so j.path (λ l. next_of new ≡ Some l) (IsBehind (way_on j.path) p) u
-    (λ l e. subst (λ (way : List ℕ). IsBehind way p l) (way_is j.path s seeks.config seeks.loader seeks.name) (behind s p l before (subst (λ (t : Searched). next_of t ≡ Some l) is e))) h
+    (λ l e. subst (λ (way : List ℕ). IsBehind way p l) (way_is j.path s seeks.config seeks.asked seeks.name) (behind s p l before (subst (λ (t : Searched). next_of t ≡ Some l) is e))) h

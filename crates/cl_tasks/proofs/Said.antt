@@ -1,5 +1,5 @@
 -- A verdict with what it rests on: the tables bear it, and where a content is told the service has come to it, or settles the reference to it.
-use Rattle.std.proofs.Common.{◌≡◌, ◌≢◌, ◌∙◌, ℕ, List, [], length, Option, Some, None, inr, refl, sym, ap, subst}
+use Rattle.std.proofs.Common.{◌≡◌, ◌∙◌, ℕ, List, [], length, Option, Some, None, inr, refl, sym, ap, subst}
 use Rattle.std.specs.Prelude.{IfSome, Contains, option_map}
 use Rattle.std.specs.List.{AllByRecursion}
 use Rattle.cl_model.specs.declared.answer.Answer.{Answer}
@@ -31,10 +31,11 @@ use Rattle.cl_model.proofs.Tables.{reached_records, recorded_reached}
 use Rattle.cl_model.proofs.Progress.{met_split}
 use Rattle.cl_config.specs.Views.{Configured, Scripted}
 use Rattle.cl_delegation.specs.Worlds.{setting_of, world_of}
-use Rattle.cl_findings.specs.Findings.{Answered, Based, Concludes, HasImposed, IsBorne, IsWithin, Rests, VerdictRests, loader_of, name_of}
+use Rattle.cl_findings.specs.Findings.{Answered, Based, Concludes, HasImposed, IsBorne, IsWithin, Rests, VerdictRests, loader_of, name_of, grounded}
 use Rattle.cl_registry.specs.Posting.{IsBacked}
 use Rattle.cl_registry.specs.References.{cited_by}
 use Rattle.cl_registry.specs.Settling as settling
+use Rattle.cl_registry.specs.Settling.{IsSettledKind}
 use Rattle.cl_registry.specs.Tables.{Shown, NamesLoaders, records_of, state_of}
 use Rattle.cl_registry.proofs.Binding.{apart_is}
 use Rattle.cl_tasks.specs.Follows.{IsSettledNext, ServedIn}
@@ -42,7 +43,6 @@ use Rattle.cl_tasks.specs.Ends.{IsNoResolution}
 use Rattle.cl_tasks.specs.Stages.{IsFailure, load_of}
 use Rattle.std.proofs.lemmas.Option.{none-some}
 use Rattle.cl_findings.proofs.Answered.{answered_by}
-use Rattle.cl_findings.proofs.Plain.{grounded}
 
 -- a finding is of its parts
 pub found_is : (f : Answered) (r : Request) (v : verdict.Verdict) (b : Based) → f.request ≡ r → f.answer ≡ answers.Said v → f.basis ≡ Some b → f ≡ grounded r v b
@@ -65,9 +65,7 @@ pub record Stood (told : Option Content) (c : Configured) (r : Request) (v : ver
 pub borne : (told : Option Content) (c : Configured) (r : Request) (v : verdict.Verdict) (b : Based) (holds : Shown → Type 0) → Stood told c r v b holds → (x : Shown) → x.config ≡ c → holds x → IsBorne x.config (state_of x) b
 borne told c r v b holds stood x config h = record {
   config = stood.config ∙ sym config;
-  needs = stood.needs x h;
-  prepared = subst (λ (cs : List Class). AllByRecursion (Contains (state_of x).prepared) cs) (sym stood.unprepared) tt;
-  refused = stood.refused x h;
+  carried = (stood.needs x h, subst (λ (cs : List Class). AllByRecursion (Contains (state_of x).prepared) cs) (sym stood.unprepared) tt, stood.refused x h);
 }
 
 -- ---- where a content is told
@@ -103,8 +101,7 @@ stood_answers told c r v b holds stood g x served h =
 pub record Settling (r : Request) (d : Class) (i : ℕ) (v : verdict.Verdict) (holds : Shown → Type 0) : Type 0 where
   pub resolves : r ≡ requests.Resolve (loader_of r) d.name i
   pub kept : (x : Shown) → holds x → recorded (records_of x) (loader_of r) d.name ≡ Some d.loader
-  pub is_entry : v ≢ verdicts.BadEntry
-  pub is_class_member : v ≢ verdicts.ArrayMember
+  pub kind : IsSettledKind v
 
 cited_so : (x : Shown) (r : Request) (d : Class) (i l : ℕ) → r ≡ requests.Resolve l d.name i → recorded (records_of x) l d.name ≡ Some d.loader → cited_by x r ≡ Some (record { class = d; index = i })
 cited_so x r d i l is kept =
@@ -118,23 +115,24 @@ may_settle told c r d i v b holds stood may x config named h = (
   record { class = d; index = i; verdict = v },
   record {
     cited = cited_so x r d i (loader_of r) may.resolves (may.kept x h);
-    says = record { said = refl; is_entry = may.is_entry; is_class_member = may.is_class_member };
+    says = record { said = refl; kind = may.kind };
     stands = record { within = stood.within x config named h; basis = borne told c r v b holds stood x config h };
   },
 )
 
 -- past the load of its class the answer of a resolution settles its reference next
-answer_settles : (g : Setting) (s : State) (l : ℕ) (d : Class) (i : ℕ) (v : verdict.Verdict) → IsSound g s → recorded s.records l d.name ≡ Some d.loader → AnswersPlan g s (plans.Resolve l d.name i) (verdict_of v) → v ≢ verdicts.BadEntry → v ≢ verdicts.ArrayMember
+answer_settles : (g : Setting) (s : State) (l : ℕ) (d : Class) (i : ℕ) (v : verdict.Verdict) → IsSound g s → recorded s.records l d.name ≡ Some d.loader → AnswersPlan g s (plans.Resolve l d.name i) (verdict_of v) → IsSettledKind v
     → settled_to s.settled d i ≡ None → IsNextStep g s (plans.Resolve l d.name i) (Settle d i (verdict_of v))
-answer_settles g s l d i v sound kept answer is_entry is_member unsettled =
+answer_settles g s l d i v sound kept answer kind unsettled =
     let p = plan_exists g.world (plans.Resolve l d.name i) in
     let at = recorded_reached g.world s (plans.Resolve l d.name i) p.0 d.loader sound.closed p.1 kept in
     settle_next g s l d.name i p.0 d (verdict_of v) p.1 at.0 at.1 (record {
-      recorded = sound.closed.own l d.loader d.name kept;
-      unsettled = unsettled;
+      may_keep = record {
+        recorded = sound.closed.own l d.loader d.name kept;
+        unsettled = unsettled;
+        settling = record { is_entry = (apart_is v).0 kind.is_entry; is_class_member = (apart_is v).1 kind.is_class_member };
+      };
       answered = plan_is_reference g s l d.name i p.0 d (verdict_of v) p.1 at.0 at.1 answer;
-      is_entry = (apart_is v).0 is_entry;
-      is_class_member = (apart_is v).1 is_member;
     })
 
 pub settled_next : (told : Option Content) (c : Configured) (r : Request) (d : Class) (i : ℕ) (v : verdict.Verdict) (b : Based) (holds : Shown → Type 0) → Stood told c r v b holds → Settling r d i v holds → (g : Setting) (x : Shown) → ServedIn told c g (state_of x) → holds x
@@ -151,16 +149,13 @@ settled_next told c r d i v b holds stood may g x served h =
       verdict = v;
       said = refl;
       step =
-          answer_settles g s l d i v served.sound (may.kept x h) (subst (λ (k : Request). AnswersPlan g s (request_of k) (verdict_of v)) may.resolves answer) may.is_entry may.is_class_member;
+          answer_settles g s l d i v served.sound (may.kept x h) (subst (λ (k : Request). AnswersPlan g s (request_of k) (verdict_of v)) may.resolves answer) may.kind;
     })
 
 -- ---- answers of loads and links
 
-pub failure_entry : (v : verdict.Verdict) → IsFailure v → v ≢ verdicts.BadEntry
-failure_entry v h e = subst IsFailure e h
-
-pub failure_member : (v : verdict.Verdict) → IsFailure v → v ≢ verdicts.ArrayMember
-failure_member v h e = subst IsFailure e h
+pub failure_kind : (v : verdict.Verdict) → IsFailure v → IsSettledKind v
+failure_kind v h = record { is_entry = λ e. subst IsFailure e h; is_class_member = λ e. subst IsFailure e h }
 
 -- a failure is no class, and no linked class
 failure_of : (v : verdict.Verdict) (c : Class) → IsFailure v → (verdict_of v ≡ IsClass c → ⊥) × (verdict_of v ≡ states.IsLinked c → ⊥)
@@ -171,7 +166,7 @@ failure_of other c h = absurd h
 -- the tables bear a failure of a request that is none to resolve
 failure_bears : (s : State) (r : Request) (v : verdict.Verdict) → IsNoResolution r → IsFailure v → Bears s (request_of r) (verdict_of v)
 failure_bears s (requests.Load l n) v apart h = λ c e. absurd ((failure_of v c h).0 e)
-failure_bears s (requests.Resolve l n i) v apart h = absurd apart
+failure_bears s (requests.Resolve l n i) v apart h = absurd (apart tt)
 failure_bears s (requests.Link l n) v apart h = λ c e. absurd ((failure_of v c h).1 e)
 
 pub failure_backed : (told : Option Content) (c : Configured) (r : Request) (v : verdict.Verdict) (b : Based) (holds : Shown → Type 0) → Stood told c r v b holds → IsNoResolution r → IsFailure v → (x : Shown) → x.config ≡ c → NamesLoaders x → holds x

@@ -38,11 +38,14 @@ abbrev pub AsksWhere : Option Content → Configured → (Shown → Type 0) → 
 AsksWhere told c holds r a =
     (g : Setting) (x : Shown) (p : Plan) → ServedIn told c g (state_of x) → IsPlan g.world (request_of r) p → holds x → Contains p.asked a
 
--- a turn that posts a fault of the source blames a loader on the way of a name, which the plan asks for where the request is served and this
--- holds (5.3.2)
+-- a turn that posts a fault of the source blames such a loader (5.3.2)
+abbrev pub TurnBlames : {A : Type 0} → Configured → (Ask → Type 0) → Turn A → Type 0
+TurnBlames c asks (turn.Post f) = AnswerBlames c asks f.answer
+TurnBlames c asks other = Unit {0}
+
+-- it blames one on the way of a name which the plan asks for, where the request is served and this holds (5.3.2)
 abbrev pub BlamesWhere : {A : Type 0} → Option Content → Configured → (Shown → Type 0) → Request → Turn A → Type 0
-BlamesWhere told c holds r (turn.Post f) = AnswerBlames c (AsksWhere told c holds r) f.answer
-BlamesWhere told c holds r other = Unit {0}
+BlamesWhere told c holds r u = TurnBlames c (AsksWhere told c holds r) u
 
 -- the same of a turn that is told such a fault (5.3.2)
 abbrev pub FaultBlames : {A : Type 0} → Option Content → Tasked → Reply A → Turn A → Type 0

@@ -2,11 +2,10 @@
 use Rattle.std.specs.Prelude.{◌≡◌, ℕ, Option, Some, None}
 use Rattle.cl_descriptors.specs.declared.types.FieldType.{FieldType}
 use Rattle.cl_classfile.specs.Files.{Key, Name, Reference, ToClass, ToField, ToMethod, ToInterfaceMethod, named_type}
-use Rattle.cl_model.specs.Frames.{class_named}
-use Rattle.cl_model.specs.Plans.{member_target}
-use Rattle.cl_model.specs.References.{nameless}
+use Rattle.cl_model.specs.Plans.{member_target, class_named, nameless}
 use Rattle.cl_model.specs.States as states
 use Rattle.cl_model.specs.Views.{letter_of}
+use Rattle.cl_members.specs.Asking.{IsMemberOf}
 use Rattle.cl_tasks.specs.declared.cited.Asked.{Asked}
 use Rattle.cl_tasks.specs.declared.cited.Asked.TheVariants as asked
 use Rattle.cl_tasks.specs.declared.cited.Kind.{Kind}
@@ -42,11 +41,16 @@ pub record AsksMember (text : Name) (a : Asked) : Type 0 where
   pub named : named_type text ≡ Some target
   pub asks : AsksTarget (member_target target) a
 
+-- a reference to a class or an array of so many dimensions (5.4.3.1)
+abbrev pub IsToClass : ℕ → Reference → Type 0
+IsToClass dims (ToClass t) = dims ≡ t.dims
+IsToClass dims other = ⊥
+
 -- an entry refers to a class or an array of so many dimensions, or it does not (5.4.3.1)
 abbrev pub TellsItself : Option Reference → Option ℕ → Type 0
-TellsItself (Some (ToClass t)) (Some dims) = dims ≡ t.dims
+TellsItself (Some r) (Some dims) = IsToClass dims r
+TellsItself None (Some dims) = ⊥
 TellsItself (Some (ToClass t)) None = ⊥
-TellsItself other (Some dims) = ⊥
 TellsItself other None = Unit {0}
 
 -- a reference to a member of this kind (4.4.2)
@@ -56,14 +60,5 @@ made_by kinds.Method t key = ToMethod t key
 made_by kinds.InterfaceMethod t key = ToInterfaceMethod t key
 
 -- an entry asks for a member of this kind of the class of a name (5.4.3.2 to 5.4.3.4)
-pub record IsKind (o : Option Reference) (name : Name) (k : Kind) : Type 0 where
-  pub target : FieldType
-  pub key : Key
-  pub refers : o ≡ Some (made_by k target key)
-  pub named : member_target target ≡ Some name
-
--- a member is asked of what a text names, which is the class of a name, and no array (5.4.3.2 to 5.4.3.4)
-pub record TargetsClass (text name : Name) : Type 0 where
-  pub target : FieldType
-  pub is : named_type text ≡ Some target
-  pub named : member_target target ≡ Some name
+abbrev pub IsKind : Option Reference → Name → Kind → Type 0
+IsKind o name k = IsMemberOf (made_by k) o name

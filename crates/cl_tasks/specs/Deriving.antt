@@ -1,12 +1,11 @@
 -- What a step leaves to be derived (JVMS SE 8, 5.3.5).
 use Rattle.std.specs.Prelude.{◌≡◌, List, [], ◌∷◌, ◌++◌, Option, Some, None}
 use Rattle.cl_model.specs.declared.class.Class.{Class}
-use Rattle.cl_model.specs.Classes.{class}
 use Rattle.cl_model.specs.Frames.{Frame}
 use Rattle.cl_delegation.specs.Searches.{Located}
+use Rattle.cl_hierarchy.specs.Drafts.{home_class}
 use Rattle.cl_hierarchy.specs.Frames.{frame_of}
-use Rattle.cl_hierarchy.specs.Paths.{Pathed, frames_of}
-use Rattle.cl_tasks.specs.Stages.{sought_class}
+use Rattle.cl_hierarchy.specs.Paths.{Pathed, frames_of, sought_class}
 use Rattle.cl_tasks.specs.declared.stage.Load.{Load}
 use Rattle.cl_tasks.specs.declared.stage.Load.TheVariants as loads
 use Rattle.cl_tasks.specs.declared.stage.Stage.{Stage}
@@ -42,7 +41,7 @@ IsSoughtHere p c = c ≡ sought_class p
 
 -- the class of a home (5.3.2)
 abbrev pub IsAtHome : Located → Class → Type 0
-IsAtHome h c = c ≡ class h.name h.place
+IsAtHome h c = c ≡ home_class h
 
 -- the same where a look found nothing there (5.3)
 abbrev pub IsUnfound : {B : Type 0} → Located → Option B → Class → Type 0

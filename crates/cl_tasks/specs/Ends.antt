@@ -1,8 +1,7 @@
 -- How a load ends otherwise than with its class (JVMS SE 8, 5.3.4, 5.3.5, 5.4.3).
-use Rattle.std.specs.Prelude.{◌≡◌, ◌<◌, ℕ, List, Option, Some}
+use Rattle.std.specs.Prelude.{◌≡◌, ◌<◌, ℕ, List, Option}
 use Rattle.std.specs.declared.alloc.Global.{Global}
 use Rattle.std.specs.declared.sync.Arc.{Arc}
-use Rattle.cl_model.specs.declared.answer.Answer.TheVariants as answers
 use Rattle.cl_model.specs.declared.need.Need as needs
 use Rattle.cl_model.specs.declared.request.Request.{Request}
 use Rattle.cl_model.specs.declared.request.Request.TheVariants as requests
@@ -18,7 +17,7 @@ use Rattle.cl_findings.specs.declared.load.Obstacle.{Obstacle}
 use Rattle.cl_findings.specs.declared.load.Target.{Target}
 use Rattle.cl_findings.specs.declared.load.Target.TheVariants as targets
 use Rattle.cl_findings.specs.Bases.{IsSpeltIn}
-use Rattle.cl_findings.specs.Findings.{Answered, Resolves, Rests}
+use Rattle.cl_findings.specs.Findings.{Answered, Resolves, Rests, grounded}
 use Rattle.cl_findings.specs.Loads.{IsFor, basis_at, next_need, next_needs, refused_at, verdict_at}
 use Rattle.cl_registry.specs.Tables.{Shown, state_of}
 use Rattle.cl_tasks.specs.Steps.{HoldsOn}
@@ -30,6 +29,7 @@ use Rattle.cl_tasks.specs.declared.stage.Next.{Next}
 use Rattle.cl_tasks.specs.declared.stage.Resolution.TheVariants as resolutions
 use Rattle.cl_tasks.specs.declared.stage.Stage.TheVariants as stages
 use Rattle.cl_tasks.specs.declared.turn.Turn.TheVariants as turn
+use Rattle.cl_tasks.specs.Follows.{IsResolution}
 
 -- what is loaded is the request's own class (5.3)
 abbrev pub IsOwnTarget : {A : Type 0} → Target A → Type 0
@@ -38,9 +38,7 @@ IsOwnTarget (targets.Reference d) = ⊥
 
 -- the request is none to resolve (5.4.3)
 abbrev pub IsNoResolution : Request → Type 0
-IsNoResolution (requests.Load loader name) = Unit {0}
-IsNoResolution (requests.Resolve loader name i) = ⊥
-IsNoResolution (requests.Link loader name) = Unit {0}
+IsNoResolution r = IsResolution r → ⊥
 
 -- the request's class is looked for once more
 pub record IsCheck {A : Type 0} (j : Job A) (r : Request) (loader : ℕ) (name : List ℕ) : Type 0 where
@@ -81,13 +79,13 @@ pub record RefusedOn {A B : Type 0} (j : Job A) (n : NextRecord B) (x : Shown) :
 abbrev pub EndRests : {A : Type 0} → Option Content → Pathed → Obstacle A → Type 0
 EndRests {A} told p e =
     (r : Request) (t : Target A) → IsFor r t p → IsSpeltIn told t
-    → Rests told (record { request = r; answer = answers.Said (verdict_at t p e); basis = Some (basis_at r t p e) })
+    → Rests told (grounded r (verdict_at t p e) (basis_at r t p e))
 
 -- the refusal of the record that comes next on a path is that of each request that the path is for (5.3.4)
 abbrev pub NextRests : {A : Type 0} → Option Content → Pathed → NextRecord A → Type 0
 NextRests {A} told p n =
     (r : Request) (t : Target A) (need : needs.Need) → IsFor r t p → IsSpeltIn told t → need_of need ≡ next_need n
-    → Rests told (record { request = r; answer = answers.Said (verdicts.Linkage need); basis = Some (refused_at r t p n) })
+    → Rests told (grounded r (verdicts.Linkage need) (refused_at r t p n))
 
 -- the loader whose record comes next is one of so many: that of the class, or the one that was asked (5.3, 5.3.5)
 abbrev pub NextWithin : {A : Type 0} → ℕ → NextRecord A → Type 0

@@ -1,20 +1,18 @@
 -- What a task was told of the tables (JVMS SE 8, 5.3 to 5.4.3).
-use Rattle.std.specs.Prelude.{◌≡◌, ℕ, List, [], ◌∷◌, None, Some, Contains}
+use Rattle.std.specs.Prelude.{◌≡◌, ℕ, List, [], ◌∷◌, Some, Contains}
 use Rattle.std.specs.List.{AllByRecursion}
-use Rattle.cl_classfile.specs.Files.{file_of}
 use Rattle.cl_model.specs.declared.class.Class.{Class}
-use Rattle.cl_model.specs.Classes.{Above, supers, misfit}
-use Rattle.cl_model.specs.States.{recorded, Met, Refused}
+use Rattle.cl_model.specs.Classes.{Above, supers}
+use Rattle.cl_model.specs.States.{Met, Refused}
 use Rattle.cl_model.specs.Frames.{Frame}
-use Rattle.cl_hierarchy.specs.Rows.{Rowed}
-use Rattle.cl_registry.specs.Tables.{Shown, state_of, records_of, looked}
+use Rattle.cl_hierarchy.specs.Rows.{FitsAs, Rowed}
+use Rattle.cl_registry.specs.Tables.{Shown, state_of, looked, Records}
 use Rattle.cl_registry.specs.Traced.{IsTraced}
 use Rattle.cl_tasks.specs.Tasks.{Tasked, Fact, Stands, StandsRefused, HasLineage, IsPrepared}
 
 -- a loader has recorded the name as this row's class, and this row is kept (5.3)
 pub record IsRecordedAs (x : Shown) (loader : ℕ) (name : List ℕ) (row : Rowed) : Type 0 where
-  pub named : row.class.name ≡ name
-  pub recorded : recorded (records_of x) loader name ≡ Some row.class.loader
+  pub records : Records x loader name row
   pub kept : looked x loader name ≡ Some row
 
 -- a class has accepted a recorded one as this supertype, which fits (5.3.5, steps 3 and 4)
@@ -22,7 +20,7 @@ pub record HasAccepted (x : Shown) (c t : Class) (a : Above) : Type 0 where
   pub row : Rowed
   pub recorded : IsRecordedAs x c.loader a.name row
   pub is : row.class ≡ t
-  pub fits : misfit c a.role row.class (file_of row.file) ≡ None
+  pub fits : FitsAs c a row
 
 -- and so each of these as the first direct supertypes (5.3.5, steps 3 and 4)
 abbrev pub HaveAccepted : Shown → Class → List Class → List Above → Type 0

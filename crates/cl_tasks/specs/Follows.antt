@@ -1,5 +1,5 @@
 -- What a turn rests on: the tables, as far as the task was told of them, the plan of its request, and the faults told (JVMS SE 8, 5.3 to 5.4.3).
-use Rattle.std.specs.Prelude.{◌≡◌, ◌≤◌, ◌⊎◌, ◌+◌, ℕ, true, List, Option, Some, None, IfSome, Contains}
+use Rattle.std.specs.Prelude.{◌≡◌, ◌≤◌, ◌+◌, ℕ, true, List, Option, Some, None, IfSome, Contains}
 use Rattle.cl_model.specs.declared.class.Class.{Class}
 use Rattle.cl_model.specs.declared.answer.Answer.{Answer}
 use Rattle.cl_model.specs.declared.need.Need as needs
@@ -38,6 +38,7 @@ use Rattle.cl_tasks.specs.declared.turn.Reply.{Reply}
 use Rattle.cl_tasks.specs.declared.turn.Reply.TheVariants as reply
 use Rattle.cl_tasks.specs.declared.turn.Turn.{Turn}
 use Rattle.cl_tasks.specs.declared.turn.Turn.TheVariants as turn
+use Rattle.cl_tasks.specs.Turns.{PostsOr}
 use Rattle.cl_findings.specs.Loads.{asked_record, own_record}
 
 -- ---- what a reply tells of the tables, and stays so
@@ -233,10 +234,10 @@ LooksAgain loader name (requests.Link l n) = ⊥
 -- a refused need is the answer, or what the reference is settled to, unless memory runs out; before a resolution is answered so, its class
 -- is looked for once more (5.3.4)
 abbrev pub EndsAsRefused : {A : Type 0} → Request → needs.Need → Turn A → Type 0
-EndsAsRefused r n (turn.Post f) = (f.answer ≡ answers.Said (verdicts.Linkage n)) ⊎ (f.answer ≡ answers.Memory)
-EndsAsRefused r n (turn.Settle f) = f.answer ≡ answers.Said (verdicts.Linkage n)
-EndsAsRefused r n (turn.Look loader name) = LooksAgain loader name r
-EndsAsRefused r n other = ⊥
+EndsAsRefused {A} r n (turn.Post f) = PostsOr {A = A} (answers.Said (verdicts.Linkage n)) (turn.Post f)
+EndsAsRefused {A} r n (turn.Settle f) = f.answer ≡ answers.Said (verdicts.Linkage n)
+EndsAsRefused {A} r n (turn.Look loader name) = LooksAgain loader name r
+EndsAsRefused {A} r n other = ⊥
 
 -- the same of each reply that is such a refusal (5.3.4)
 abbrev pub EndsRefused : {A : Type 0} → Option Request → Reply A → Turn A → Type 0

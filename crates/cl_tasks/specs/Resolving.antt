@@ -1,30 +1,31 @@
 -- What the steps of a resolution rest on (JVMS SE 8, 5.4.3).
-use Rattle.std.specs.Prelude.{◌≡◌, ◌≢◌, ◌++◌, ◌∷◌, ℕ, false, List, [], Option, Some, IfSome}
+use Rattle.std.specs.Prelude.{◌≡◌, ◌++◌, ◌∷◌, ℕ, false, List, [], Option, Some, IfSome}
 use Rattle.std.specs.declared.alloc.Global.{Global}
 use Rattle.std.specs.declared.sync.Arc.{Arc}
-use Rattle.cl_classfile.specs.Files.{Reference, ToClass, file_of, reference}
+use Rattle.cl_classfile.specs.Files.{Reference, file_of, reference}
 use Rattle.cl_model.specs.declared.settled.Settled.{Settled}
 use Rattle.cl_model.specs.declared.verdict.ErrorKind.TheVariants as kinds
 use Rattle.cl_model.specs.declared.verdict.Verdict as verdict
 use Rattle.cl_model.specs.declared.verdict.Verdict.TheVariants as verdicts
-use Rattle.cl_model.specs.Classes.{class_accessible}
-use Rattle.cl_model.specs.Frames.{class_named}
+use Rattle.cl_model.specs.Plans.{class_named}
 use Rattle.cl_model.specs.States.{Need, Refused}
 use Rattle.cl_model.specs.Views.{verdict_of}
 use Rattle.cl_config.specs.Views.{Configured}
 use Rattle.cl_hierarchy.specs.Lineages.{Lined}
-use Rattle.cl_hierarchy.specs.Rows.{Rowed}
+use Rattle.cl_hierarchy.specs.Rows.{Rowed, row_accessible}
 use Rattle.cl_findings.specs.Findings.{IsSettledFor}
 use Rattle.cl_findings.specs.References.{EndsAtClass}
 use Rattle.cl_registry.specs.References.{IsSettledIn}
 use Rattle.cl_registry.specs.Tables.{Shown, state_of}
 use Rattle.cl_registry.specs.Traced.{IsTraced}
+use Rattle.cl_registry.specs.Settling.{IsSettledKind}
 use Rattle.cl_tasks.specs.Facts.{AreSo}
 use Rattle.cl_tasks.specs.Stages.{entry_facts, imposed_facts, member_facts, named_facts}
 use Rattle.cl_tasks.specs.Tasks.{HasLineage}
 use Rattle.cl_tasks.specs.declared.member.Inaccessible.{Inaccessible}
 use Rattle.cl_tasks.specs.declared.stage.Entry as entries
 use Rattle.cl_tasks.specs.declared.stage.Member.{Member}
+use Rattle.cl_tasks.specs.Cited.{IsToClass}
 
 -- ---- what was told
 
@@ -75,14 +76,7 @@ IsReply e settled = IfSome settled (λ s. IsSettledFor e.request s.value)
 
 -- a verdict that is never settled
 abbrev pub IsNoneSettled : verdict.Verdict → Type 0
-IsNoneSettled verdicts.BadEntry = Unit {0}
-IsNoneSettled verdicts.ArrayMember = Unit {0}
-IsNoneSettled other = ⊥
-
--- a verdict that is settled
-pub record IsSettledKind (v : verdict.Verdict) : Type 0 where
-  pub is_entry : v ≢ verdicts.BadEntry
-  pub is_class_member : v ≢ verdicts.ArrayMember
+IsNoneSettled v = IsSettledKind v → ⊥
 
 -- the entry at an index of the class of a row names the class of this name (5.4.3.1)
 pub record CitesName (d : Rowed) (index : ℕ) (name : List ℕ) : Type 0 where
@@ -94,11 +88,6 @@ pub record CitesName (d : Rowed) (index : ℕ) (name : List ℕ) : Type 0 where
 abbrev pub HasNamed : {A : Type 0} → entries.Entry A → List ℕ → Type 0
 HasNamed e name = CitesName e.d.value e.index name
 
--- a reference to a class or an array of so many dimensions (5.4.3.1)
-abbrev pub IsToClass : ℕ → Reference → Type 0
-IsToClass dims (ToClass t) = dims ≡ t.dims
-IsToClass dims other = ⊥
-
 -- the entry is the class of a name, or an array of it of so many dimensions (5.4.3.1)
 pub record HasItself {A : Type 0} (e : entries.Entry A) (name : List ℕ) (dims : ℕ) : Type 0 where
   pub named : HasNamed e name
@@ -106,7 +95,7 @@ pub record HasItself {A : Type 0} (e : entries.Entry A) (name : List ℕ) (dims 
 
 -- what such an entry of the class of a row d is resolved to by the class of a row c (5.4.3.1, 5.4.4)
 pub record IsItself (d c : Rowed) (dims : ℕ) (v : verdict.Verdict) : Type 0 where
-  pub ends : (r : Reference) → IsToClass dims r → EndsAtClass (class_accessible (file_of c.file).flags c.class d.class) r c.class (verdict_of v)
+  pub ends : (r : Reference) → IsToClass dims r → EndsAtClass (row_accessible c d.class) r c.class (verdict_of v)
   pub settled : IsSettledKind v
 
 -- the entry at an index of the class of one lineage names that of the other (5.4.3.1)
@@ -116,7 +105,7 @@ Cites own named index = CitesName own.own index named.own.class.name
 -- the class that the entry names is not accessible to that whose pool has it (5.4.4)
 pub record IsRefusedAccess {A : Type 0} (e : entries.Entry A) (own named : Lined) : Type 0 where
   pub cites : Cites own named e.index
-  pub refused : class_accessible (file_of named.own.file).flags named.own.class own.own.class ≡ false
+  pub refused : row_accessible named.own own.own.class ≡ false
 
 -- the IllegalAccessError of the class of one lineage, with the rows of both (5.4.4)
 pub record IsInaccessible {A : Type 0} (config : Configured) (own named : Lined) (end : Inaccessible A) : Type 0 where

@@ -1,5 +1,7 @@
 -- What a task is at, as contracts see it, and what it keeps (JVMS SE 8, 5.3 to 5.4.3).
 use Rattle.std.specs.Prelude.{◌≡◌, ◌≢◌, ◌<◌, ◌+◌, ◌-◌, ◌++◌, ◌∷◌, ℕ, false, List, [], length, map, take, drop, Option, Some, None, slice_get, unwrap_or}
+use Rattle.std.specs.declared.alloc.Global.{Global}
+use Rattle.std.specs.declared.sync.Arc.{Arc}
 use Rattle.cl_model.specs.declared.class.Class.{Class}
 use Rattle.cl_model.specs.declared.answer.Answer.TheVariants as answers
 use Rattle.cl_model.specs.declared.verdict.Verdict as verdict
@@ -7,25 +9,28 @@ use Rattle.cl_model.specs.declared.verdict.Verdict.TheVariants as verdicts
 use Rattle.cl_model.specs.declared.request.Request.{Request}
 use Rattle.cl_model.specs.declared.request.Request.TheVariants as requests
 use Rattle.cl_model.specs.Content.{Content}
-use Rattle.cl_model.specs.Classes.{class}
 use Rattle.cl_model.specs.Lineages.{lineage}
 use Rattle.cl_model.specs.States.{Need}
 use Rattle.cl_model.specs.Works.{Ask}
 use Rattle.cl_config.specs.Views.{Configured}
+use Rattle.cl_delegation.specs.declared.search.Home.{Home}
 use Rattle.cl_delegation.specs.Searches.{Searched, Located, next_of, route_of}
 use Rattle.cl_hierarchy.specs.Frames.{frame_of}
 use Rattle.cl_hierarchy.specs.Imposed.{Listed, Sprung, OfPreparation, OfReference, needs_of}
 use Rattle.cl_hierarchy.specs.Lineages.{Lined, kin_of, rows_in}
-use Rattle.cl_hierarchy.specs.Paths.{Pathed, at_loader, at_name, frames_of, is_on}
+use Rattle.cl_hierarchy.specs.Drafts.{home_class}
+use Rattle.cl_hierarchy.specs.Paths.{Pathed, at_loader, at_name, frames_of, is_on, sought_class}
 use Rattle.cl_findings.specs.declared.load.Target.{Target}
 use Rattle.cl_findings.specs.declared.load.Target.TheVariants as targets
+use Rattle.cl_findings.specs.declared.load.NextRecord.TheVariants as nexts
 use Rattle.cl_findings.specs.Findings.{Based, Resolves, Rests, loader_of, name_of}
 use Rattle.cl_findings.specs.Bases.{IsSpeltIn}
-use Rattle.cl_findings.specs.Loads.{IsFor, IsSought, IsWhole, home_record}
+use Rattle.cl_findings.specs.Loads.{IsFor, IsSought, home_record, ComesNext, LooksFor, IsWhole}
 use Rattle.cl_findings.specs.References.{AreLinked, GoesTo, class_need, reference_needs}
 use Rattle.cl_tasks.specs.Calls.{Calls, ask_for, ask_of, away_calls, hand_calls, in_hand, link_calls, own_calls, past_loads, reference_calls, while_loading}
 use Rattle.cl_tasks.specs.Measures.{Phase, Fresh, Looking, Reading, Homing, Defining, Initiating, left_at, named_left, own_left, checking_left, reference_left, tracing_own_left, tracing_named_left, imposing_left, settling_left, prepared_left, whole_left, chain_left, linking_left}
 use Rattle.cl_tasks.specs.Tasks.{Tasked, Fact, Stands, StandsRefused, HasLineage, IsPrepared}
+use Rattle.cl_tasks.specs.Turns.{IsOf}
 use Rattle.cl_tasks.specs.Waits.{Waits}
 use Rattle.cl_tasks.specs.Waits as waits
 use Rattle.cl_tasks.specs.declared.stage.Job.{Job}
@@ -91,10 +96,6 @@ at_work c w phase probes calls j = record {
   left = past_left j.target + left_at phase (frames_of j.path) probes;
   calls = calls;
 }
-
--- the class that is looked for, where the loader that is asked is its home (5.3.2)
-abbrev pub sought_class : Pathed → Class
-sought_class p = class (at_name p) (at_loader p)
 
 -- what contracts see of a load; a class that is being recorded is the last of those that are derived
 abbrev pub loading_at : {A : Type 0} → Configured → Load A → Tasked
@@ -230,10 +231,8 @@ pub record IsJob {A : Type 0} (told : Option Content) (c : Configured) (j : Job 
   pub loader : at_loader j.path < length c.loaders
 
 -- the search is for what is looked for (5.3.2)
-pub record Seeks {A : Type 0} (j : Job A) (s : Searched) : Type 0 where
-  pub config : s.config ≡ j.path.config
-  pub loader : s.loader ≡ at_loader j.path
-  pub name : s.name ≡ at_name j.path
+abbrev pub Seeks : {A : Type 0} → Job A → Searched → Type 0
+Seeks j s = LooksFor j.path s.config s.loader s.name
 
 -- the same, and it has another loader to ask (5.3.2)
 pub record IsSearch {A : Type 0} (j : Job A) (s : Searched) : Type 0 where
@@ -243,8 +242,12 @@ pub record IsSearch {A : Type 0} (j : Job A) (s : Searched) : Type 0 where
 -- what is looked for was found at another loader, and is not being derived (5.3.2)
 pub record IsHoming {A : Type 0} (j : Job A) (h : Located) : Type 0 where
   pub sought : IsSought j.path h
-  pub off : is_on j.path (class h.name h.place) ≡ false
+  pub off : is_on j.path (home_class h) ≡ false
   pub other : h.place ≢ at_loader j.path
+
+-- the record of the loader that was asked comes next, of the class of this home (5.3)
+abbrev pub InitiatesNext : {A : Type 0} → Option Content → Job A → Arc (Home A) Global → Type 0
+InitiatesNext {A} told j h = ComesNext {A = A} told j.path (nexts.Initiate h)
 
 -- a job at its beginning: the request's own class is loaded, and nothing is derived yet (5.3)
 pub record IsFirst {A : Type 0} (j : Job A) : Type 0 where
@@ -258,7 +261,7 @@ IsLoading told c (loads.Looking j) = IsJob told c j
 IsLoading told c (loads.Searching j s) = IsJob told c j × IsSearch j s
 IsLoading told c (loads.Homing j h) = IsJob told c j × IsHoming j h
 IsLoading told c (loads.Defining j x) = IsJob told c j × IsWhole told j.path x
-IsLoading told c (loads.Initiating j h) = IsJob told c j × IsSought j.path h.value × (h.value.place ≢ at_loader j.path)
+IsLoading told c (loads.Initiating j h) = IsJob told c j × InitiatesNext told j h
 
 -- the same request, but to load its class alone (5.3)
 abbrev pub load_of : Request → Request
@@ -289,11 +292,6 @@ pub record IsFailed {A : Type 0} (told : Option Content) (c : Configured) (f : F
 pub record IsEntry {A : Type 0} (c : Configured) (e : entries.Entry A) : Type 0 where
   pub of : Resolves e.request e.d.value.class.name e.index
   pub asked : loader_of e.request < length c.loaders
-
--- the lineage is of a class, under this configuration (5.3.5)
-pub record IsOf (c : Configured) (k : Class) (l : Lined) : Type 0 where
-  pub class : l.own.class ≡ k
-  pub config : l.config ≡ c
 
 -- a member that the request's entry asks for, with its equalities, and this one is to be imposed (5.4.3.2 to 5.4.3.4)
 pub record IsMember {A : Type 0} (c : Configured) (m : Member A) : Type 0 where

@@ -2,26 +2,23 @@
 use Rattle.std.specs.Prelude.{◌≡◌, ◌⊎◌, ◌<◌, ◌+◌, ℕ, List, Option, Some, None, IfSome}
 use Rattle.cl_model.specs.declared.answer.Answer.TheVariants as answers
 use Rattle.cl_model.specs.declared.request.Request.{Request}
-use Rattle.cl_model.specs.declared.verdict.ErrorKind.{ErrorKind}
 use Rattle.cl_model.specs.Content.{Content}
-use Rattle.cl_model.specs.Views.{error_of}
-use Rattle.cl_classfile.specs.Files.{file_of}
 use Rattle.cl_config.specs.Views.{Configured}
 use Rattle.cl_source.specs.Views.{Found}
 use Rattle.cl_delegation.specs.Searches.{Searched, Located}
 use Rattle.cl_hierarchy.specs.Frames.{Framed}
 use Rattle.cl_hierarchy.specs.Rows.{Rowed}
-use Rattle.cl_hierarchy.specs.Paths.{Pathed, frames_of, at_loader, at_name, misfit_under}
+use Rattle.cl_hierarchy.specs.Paths.{Pathed, at_loader, at_name, sought_class}
 use Rattle.cl_findings.specs.declared.load.Obstacle.{Obstacle}
 use Rattle.cl_findings.specs.declared.load.Obstacle.TheVariants as obstacles
 use Rattle.cl_registry.specs.Tables.{Shown}
 use Rattle.cl_tasks.specs.Blames.{FaultBlames}
-use Rattle.cl_tasks.specs.Facts.{AllHave, AreSo, Holds, IsRecordedAs}
+use Rattle.cl_tasks.specs.Facts.{Holds, IsRecordedAs}
 use Rattle.cl_tasks.specs.Follows.{BackedWhere, CallsWithin, EndsRefused, FollowsWhere, LacksOnly, NoFault, Refuses, Tells, TellsNow, made_by, refusal}
 use Rattle.cl_tasks.specs.Deriving.{Derives}
 use Rattle.cl_tasks.specs.Measures.{Phase, Homing, Reading}
 use Rattle.cl_tasks.specs.Rooms.{Room, calls_at, calls_found, room_at, room_of}
-use Rattle.cl_tasks.specs.Stages.{IsStage, probes_left, sought_class, target_facts, task_at}
+use Rattle.cl_tasks.specs.Stages.{IsStage, probes_left, task_at, loading_at}
 use Rattle.cl_tasks.specs.Tasks.{Tasked, begun}
 use Rattle.cl_tasks.specs.Turns.{AnswersOwn, Asks, ReadsUnrecorded, Serves, WasAbsent, way_of}
 use Rattle.cl_tasks.specs.declared.stage.Job.{Job}
@@ -78,10 +75,9 @@ task_room t = record { turns = t.left; made = made_by t.waits; calls = t.calls }
 abbrev pub StepsOn : {A : Type 0} → Option Content → Tasked → Reply A → Next A → Type 0
 StepsOn told t reply n = IfSome t.request (λ r. LeadsOn told t.config t.q r (task_room t) (λ x. Tells x t reply) (λ x. TellsNow x t reply) n)
 
--- what a job was told holds (5.3, 5.3.5, 5.4.3)
-pub record HoldsOn {A : Type 0} (j : Job A) (x : Shown) : Type 0 where
-  pub frames : AllHave x (frames_of j.path)
-  pub facts : AreSo x (target_facts j.request j.target)
+-- what a job was told holds: the same as at its beginning (5.3, 5.3.5, 5.4.3)
+abbrev pub HoldsOn : {A : Type 0} → Job A → Shown → Type 0
+HoldsOn j x = Holds x (loading_at j.path.config (loads.Fresh j))
 
 -- and what is looked for is recorded at this loader, as this row (5.3)
 pub record FindsAt {A : Type 0} (j : Job A) (loader : ℕ) (row : Rowed) (x : Shown) : Type 0 where
@@ -127,10 +123,6 @@ reads_on (Some p) probes = 0
 -- the same of a search
 abbrev pub reads_left : Searched → ℕ
 reads_left s = reads_on s.found (probes_left s)
-
--- a recorded class does not fit as the supertype that is looked for (5.3.5, steps 3 and 4)
-abbrev pub IsMisfit : Pathed → Rowed → ErrorKind → Type 0
-IsMisfit p row kind = misfit_under p.frames row.class (file_of row.file) ≡ Some (error_of kind row.class)
 
 -- a turn reads nothing, and posts no fault of the source
 abbrev pub IsPlain : {A : Type 0} → Turn A → Type 0

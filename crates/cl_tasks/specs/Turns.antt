@@ -14,6 +14,7 @@ use Rattle.cl_config.specs.Views.{Configured}
 use Rattle.cl_source.specs.Views.{Found}
 use Rattle.cl_model.specs.Probes.{route}
 use Rattle.cl_hierarchy.specs.Imposed.{Listed, equal_need}
+use Rattle.cl_hierarchy.specs.Lineages.{Lined}
 use Rattle.cl_findings.specs.Findings.{IsSettledFor, loader_of, name_of}
 use Rattle.cl_tasks.specs.Tasks.{Tasked, Stands}
 use Rattle.cl_tasks.specs.Waits.{Waits, Beginning, Looking, Reading, Defining, Initiating, Tracing, LookingReference, Settling, Imposing, LookingPrepared, Marking, Ended}
@@ -36,6 +37,11 @@ need_at (Initiating h) = Some (asked_record h)
 need_at (Imposing e k) = equality_at e k
 need_at waits = None
 
+-- the lineage is of a class, under this configuration (5.3.5)
+pub record IsOf (c : Configured) (k : Class) (l : Lined) : Type 0 where
+  pub class : l.own.class ≡ k
+  pub config : l.config ≡ c
+
 -- the reply is one to this call; memory may be refused to each, and a need to one that would make it stand
 abbrev pub IsReplyTo : {A : Type 0} → Configured → Waits → Reply A → Type 0
 IsReplyTo config waits reply.Start = waits ≡ Beginning
@@ -44,7 +50,7 @@ IsReplyTo config (Reading l n) (reply.Probed p) = (p.loader ≡ l) × (p.name �
 IsReplyTo config (Reading l n) (reply.SourceFault f) = Unit {0}
 IsReplyTo config (Defining d) (reply.Defined row) = Unit {0}
 IsReplyTo config (Initiating h) (reply.Initiated row) = Unit {0}
-IsReplyTo config (Tracing c) (reply.Lineage l) = (l.own.class ≡ c) × (l.config ≡ config)
+IsReplyTo config (Tracing c) (reply.Lineage l) = IsOf config c l
 IsReplyTo config (LookingReference c i) (reply.LookedReference None) = Unit {0}
 IsReplyTo config (LookingReference c i) (reply.LookedReference (Some s)) = (s.value.class ≡ c) × (s.value.index ≡ i)
 IsReplyTo config (Settling r) (reply.Settled s) = IsSettledFor r s.value

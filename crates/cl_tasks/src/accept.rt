@@ -2,16 +2,17 @@
 
 ghost use Rattle.std.specs.Prelude.{◌≡◌, ◌≢◌, ◌≤◌, [], None, IsSome, false, length};
 ghost use Rattle.cl_classfile.specs.Files.{file_of};
-ghost use Rattle.cl_findings.specs.Loads.{IsSought, IsWhole};
+ghost use Rattle.cl_findings.specs.Loads.{IsSought, IsWhole, IsMisfit};
+ghost use Rattle.cl_hierarchy.specs.Drafts.{home_class};
 ghost use Rattle.cl_hierarchy.specs.Frames.{frame_of};
 ghost use Rattle.cl_hierarchy.specs.Paths.{at_loader, at_name, frames_of, fresh, is_on, misfit_under};
-ghost use Rattle.cl_model.specs.Classes.{class, supers};
+ghost use Rattle.cl_model.specs.Classes.{supers};
 ghost use Rattle.cl_model.specs.Frames.{wanted};
 ghost use Rattle.cl_tasks.specs.Deriving.{Derives, IsAtHome, IsNone, IsPast};
 ghost use Rattle.cl_tasks.specs.Ends.{IsOwnTarget};
 ghost use Rattle.cl_tasks.specs.Measures.{Fresh, Homing, Defining, Initiating, most};
-ghost use Rattle.cl_tasks.specs.Stages.{IsJob, task_at};
-ghost use Rattle.cl_tasks.specs.Steps.{DefinesBy, Finds, FindsBy, HoldsOn, IsMisfit, IsPlain, LeadsAt, LeadsFrom, LooksBy};
+ghost use Rattle.cl_tasks.specs.Stages.{IsJob, task_at, InitiatesNext};
+ghost use Rattle.cl_tasks.specs.Steps.{DefinesBy, Finds, FindsBy, HoldsOn, IsPlain, LeadsAt, LeadsFrom, LooksBy};
 ghost use Rattle.cl_tasks.specs.Turns.{GoesOnWith};
 
 use crate::ends::obstacle;
@@ -51,7 +52,7 @@ pub(crate) fn look<T: Told>(alloc: Global, job: Job<T>) -> Next<T>
 pub(crate) fn derive<T: Told>(alloc: Global, job: Job<T>, home: Home<T>) -> Next<T>
     requires job { IsJob T.told job.path.config job }
     requires home { IsSought job.path home }
-    requires off { is_on job.path (class home.name home.place) ≡ false }
+    requires off { is_on job.path (home_class home) ≡ false }
     ensures leads { LeadsFrom T.told Homing job home.place (HoldsOn job) result }
     ensures plain { IsPlain result.turn }
     ensures derives { Derives (IsAtHome home) (frames_of job.path) result.stage }
@@ -168,8 +169,7 @@ pub(crate) fn take_defined<T: Told>(
 /// recorded, too.
 pub(crate) fn initiate<T: Told>(job: Job<T>, home: Arc<Home<T>>, row: &ClassRow<T>) -> Next<T>
     requires job { IsJob T.told job.path.config job }
-    requires home { IsSought job.path home.value }
-    requires other { home.value.place ≢ at_loader job.path }
+    requires next { InitiatesNext T.told job home }
     ensures leads { LeadsFrom T.told Defining job home.value.place
         (FindsBy job home.value row.now) result }
     ensures plain { IsPlain result.turn }

@@ -4,7 +4,7 @@ ghost use Rattle.std.specs.Prelude.{◌≡◌, Some, IfOk, IfSome};
 ghost use Rattle.cl_classfile.specs.Files.{file_of, is_array_name, named_type, reference};
 ghost use Rattle.cl_classfile.specs.Pool.{NamesType};
 ghost use Rattle.cl_model.specs.Plans.{member_target};
-ghost use Rattle.cl_tasks.specs.Cited.{AsksBy, AsksMember, IsKind, TargetsClass, TellsEntry, TellsItself};
+ghost use Rattle.cl_tasks.specs.Cited.{AsksBy, AsksMember, IsKind, TellsEntry, TellsItself};
 
 use cl_classfile::{ClassFile, Reference};
 use cl_descriptors::{Base, DescriptorFault, FieldType, read_field};
@@ -133,7 +133,8 @@ fn asked_of_class(
     kind: Kind,
 ) -> Result<Option<Kind>, AllocError>
     requires { NamesType text.now }
-    ensures { IfOk result (λ o. IfSome o (λ k. (k ≡ kind) × TargetsClass text.now name.now)) }
+    ensures { IfOk result (λ o. IfSome o
+        (λ k. (k ≡ kind) × AsksMember text.now (Asked.Class name.now))) }
 {
     let t = named_type(alloc, text)?;
     match target_of(t) {

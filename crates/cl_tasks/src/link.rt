@@ -12,9 +12,9 @@ ghost use Rattle.cl_tasks.specs.Deriving.{IsPast};
 ghost use Rattle.cl_tasks.specs.Follows.{EndsAsRefused, Posts};
 ghost use Rattle.cl_tasks.specs.Linking.{AskedTold, ChainTold, DoneTold, LineageTold, ListTold, MarkedTold, PreparedTold, RefusedTold, WholeTold};
 ghost use Rattle.cl_tasks.specs.Rooms.{asking_room, chain_room, last_room, linking_room, listed_room, marked_room, prepared_room, whole_room};
-ghost use Rattle.cl_tasks.specs.Stages.{IsAtPlace, IsChain, IsGoal, IsOf, class_in};
+ghost use Rattle.cl_tasks.specs.Stages.{IsAtPlace, IsChain, IsGoal, class_in};
 ghost use Rattle.cl_tasks.specs.Steps.{IsPlain, LeadsBy, memory_ends};
-ghost use Rattle.cl_tasks.specs.Turns.{PostsOr, equality_at};
+ghost use Rattle.cl_tasks.specs.Turns.{PostsOr, equality_at, IsOf};
 
 use crate::leads::{out_of_memory, post};
 use crate::stage::{Chain, Goal, Link, Next, Stage};

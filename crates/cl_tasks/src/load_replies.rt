@@ -1,9 +1,7 @@
 //! What a load makes of a reply.
 
-ghost use Rattle.cl_findings.specs.Loads.{IsSought, IsWhole};
-ghost use Rattle.cl_hierarchy.specs.Paths.{at_loader};
-ghost use Rattle.std.specs.Prelude.{◌≢◌};
-ghost use Rattle.cl_tasks.specs.Stages.{IsFirst, IsHoming, IsJob, IsSearch, loading_at};
+ghost use Rattle.cl_findings.specs.Loads.{IsWhole};
+ghost use Rattle.cl_tasks.specs.Stages.{IsFirst, IsHoming, IsJob, IsSearch, loading_at, InitiatesNext};
 ghost use Rattle.cl_tasks.specs.Steps.{Steps};
 ghost use Rattle.cl_tasks.specs.Turns.{Expects};
 
@@ -137,8 +135,7 @@ pub(crate) fn after_initiate<T: Told>(
     reply: Reply<T>,
 ) -> Next<T>
     requires job { IsJob T.told config.now.value job }
-    requires home { IsSought job.path home.value }
-    requires other { home.value.place ≢ at_loader job.path }
+    requires next { InitiatesNext T.told job home }
     requires expects { Expects (loading_at config.now.value (Load.Initiating job home)) reply }
     ensures { Steps T.told (loading_at config.now.value (Load.Initiating job home)) reply result }
 {

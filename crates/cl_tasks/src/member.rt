@@ -13,9 +13,9 @@ ghost use Rattle.cl_tasks.specs.Deriving.{IsPast};
 ghost use Rattle.cl_tasks.specs.Follows.{EndsAsRefused};
 ghost use Rattle.cl_tasks.specs.Rooms.{imposing_room, settle_room, tracing_named_room, tracing_own_room};
 ghost use Rattle.cl_tasks.specs.Resolving.{Cites, ImposedTold, IsInaccessible, IsRefusedAccess, OwnTold, RefusedTold, TracedTold};
-ghost use Rattle.cl_tasks.specs.Stages.{IsEntry, IsMember, IsOf};
+ghost use Rattle.cl_tasks.specs.Stages.{IsEntry, IsMember};
 ghost use Rattle.cl_tasks.specs.Steps.{IsPlain, LeadsBy, memory_ends};
-ghost use Rattle.cl_tasks.specs.Turns.{equality_at};
+ghost use Rattle.cl_tasks.specs.Turns.{equality_at, IsOf};
 
 use crate::cited::{Kind, kind_of};
 use crate::leads::{out_of_memory, settle};

@@ -9,9 +9,10 @@ ghost use Rattle.cl_model.specs.declared.verdict.Verdict.TheVariants as verdicts
 ghost use Rattle.cl_tasks.specs.Deriving.{Derives, IsNone, IsPast};
 ghost use Rattle.cl_tasks.specs.Follows.{Posts};
 ghost use Rattle.cl_tasks.specs.Rooms.{named_room, reference_room};
-ghost use Rattle.cl_tasks.specs.Resolving.{EntryTold, HasItself, HasNamed, IsItself, IsNoneSettled, IsReply, IsSame, IsSettledKind, NamedTold, SettledTold};
+ghost use Rattle.cl_tasks.specs.Resolving.{EntryTold, HasItself, HasNamed, IsItself, IsNoneSettled, IsReply, IsSame, NamedTold, SettledTold};
 ghost use Rattle.cl_tasks.specs.Stages.{IsEntry};
 ghost use Rattle.cl_tasks.specs.Steps.{IsPlain, LeadsBy};
+ghost use Rattle.cl_registry.specs.Settling.{IsSettledKind};
 
 use crate::accept::look;
 use crate::cited::{Asked, asked_of, itself_of};

@@ -1,9 +1,9 @@
 //! What a resolution makes of a reply.
 
 ghost use Rattle.std.specs.Prelude.{◌<◌, ◌≡◌, None, Some, length};
-ghost use Rattle.cl_tasks.specs.Stages.{IsEntry, IsFailed, IsMember, IsOf, resolving_at};
+ghost use Rattle.cl_tasks.specs.Stages.{IsEntry, IsFailed, IsMember, resolving_at};
 ghost use Rattle.cl_tasks.specs.Steps.{Steps, memory_ends};
-ghost use Rattle.cl_tasks.specs.Turns.{Expects};
+ghost use Rattle.cl_tasks.specs.Turns.{Expects, IsOf};
 
 use crate::leads::{out_of_memory, post};
 use crate::link::count_needs;

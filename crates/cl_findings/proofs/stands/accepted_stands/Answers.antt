@@ -1,6 +1,6 @@
 use Rattle.std.proofs.Common.{refl, sym}
 use Rattle.std.proofs.lemmas.Option.{slice_get_read}
-use Rattle.cl_model.specs.Frames.{Keeps}
+use Rattle.cl_model.specs.States.{Keeps}
 use Rattle.cl_findings.proofs.Stood.{none_named, none_placed, both_there, tells_some}
 use Rattle.cl_findings.proofs.stands.accepted_stands.Goals as goal
 

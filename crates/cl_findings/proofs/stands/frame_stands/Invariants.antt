@@ -1,6 +1,6 @@
 use Rattle.std.proofs.Common.{◌<◌, ℕ}
 use Rattle.std.specs.Prelude.{IfSome, slice_get}
-use Rattle.cl_model.specs.Frames.{Keeps}
+use Rattle.cl_model.specs.States.{Keeps}
 use Rattle.cl_constraints.specs.Books.{Wherever}
 use Rattle.cl_hierarchy.specs.Frames.{frame_of}
 use Rattle.cl_findings.proofs.stands.frame_stands.Given as goal

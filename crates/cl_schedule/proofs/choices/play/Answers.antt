@@ -51,8 +51,9 @@ returns-in-Some g c =
     let e = c.in_ok-seat.ensures in
     let at = waits_at ws c.count-len.result c.args.choice q c.count-len.ensures c.if-len-eq0.false c.number_at-q.ensures in
     let waits = waiting_is told x ws room.next (c.args.choice % length ws) q serves.kept serves.places.gathered at in
-    let in_tasks = subst (λ (n : ℕ). q < n) (sym serves.places.tasks_whole) waits.asked in
-    let in_calls = subst (λ (n : ℕ). q < n) (sym serves.places.calls_whole) waits.asked in
+    let below = slice_get_within x.script.requests q waits.0 waits.1.asked in
+    let in_tasks = subst (λ (n : ℕ). q < n) (sym serves.places.tasks_whole) below in
+    let in_calls = subst (λ (n : ℕ). q < n) (sym serves.places.calls_whole) below in
     let turned : HasTurned told x y q (seat_at room q) (Some seat) = subst (HasTurned told x y q (seat_at room q)) c.in-Some.is e.turned in
     let moved = moved_back room mid done q seat e.taken in_tasks in_calls c.put.ensures.tasks c.put.ensures.calls in
     record {
@@ -62,7 +63,7 @@ returns-in-Some g c =
             (gathered_advanced told x y room mid done q serves.places.gathered e.taken turned.did.advanced c.put.ensures.waiting c.put.ensures.next);
         faults = debt_advanced x y room mid done c.in_ok-seat.field-0 seat q _ _ c.in-Some.is e.taken in_tasks in_calls e.faults c.put.ensures.tasks c.put.ensures.calls;
       };
-      keeps = takings_turned told c.args.config.now.value c.args.script.now x y room done c.args.choice q (Some seat) serves waits.unanswered (taken_is x ws room.next c.args.choice q serves.places.gathered at) turned moved;
+      keeps = takings_turned told c.args.config.now.value c.args.script.now x y room done c.args.choice q (Some seat) serves waits.1.unanswered (taken_is x ws room.next c.args.choice q serves.places.gathered at) turned moved;
       less = λ zero_is some. inr (first_advanced room mid done q (c.args.choice % length ws) seat e.taken moved (first_place (length ws) c.args.choice zero_is) at turned.did.less c.put.ensures.waiting c.put.ensures.next);
       refused = tt;
     }
@@ -94,7 +95,7 @@ returns-in-None g c =
             (gathered_posted told x y room mid done q place serves.kept serves.places.gathered e.taken turned.did there c.take_out.ensures refl);
         faults = debt_posted x y room mid done c.in_ok-seat.field-0 q _ _ c.in-None.is e.taken e.faults refl refl;
       };
-      keeps = takings_turned told c.args.config.now.value c.args.script.now x y room done c.args.choice q None serves waits.unanswered (taken_is x ws room.next c.args.choice q serves.places.gathered at) turned moved;
+      keeps = takings_turned told c.args.config.now.value c.args.script.now x y room done c.args.choice q None serves waits.1.unanswered (taken_is x ws room.next c.args.choice q serves.places.gathered at) turned moved;
       less = λ zero_is some. inl (first_answered room mid done q place e.taken moved (slice_get_within ws place q there) c.take_out.ensures refl);
       refused = tt;
     }

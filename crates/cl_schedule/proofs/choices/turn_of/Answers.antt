@@ -11,7 +11,6 @@ use Rattle.cl_schedule.proofs.Paying.{turned_begun, turned_memory}
 use Rattle.cl_schedule.proofs.Rooming.{map_ok}
 use Rattle.cl_schedule.proofs.choices.turn_of.Goals as goal
 use Rattle.cl_schedule.proofs.choices.turn_of.Goals.{in-Some, in-None+in_ok-held-in-None+in_ok-request-in-None+in-Ok}
-use Rattle.cl_registry.proofs.Schedules.{some_at}
 
 pub advance-requires-clause-seated : goal.advance-requires-clause-seated
 advance-requires-clause-seated g c =
@@ -22,14 +21,13 @@ advance-requires-clause-seated g c =
     let P : Seat g.row.T.Denot → Type 0 = λ s. IsSeatedAt {A = g.row.T.Denot} told x s.task s.call c.args.q in
     elim c.match-take.branch [
       | in-Some w ↦ (
-          let r = some_at x.script.requests c.args.q waits.asked in
-          subst P (sym w.seat-is) (r.0, record { asked = r.1; begun = waits.begun; unanswered = waits.unanswered }, serves.places.seated c.args.q w.in-Some.seat r.0 (sym w.in-Some.ensures.seat) r.1)
+          subst P (sym w.seat-is) (waits.0, waits.1, serves.places.seated c.args.q w.in-Some.seat waits.0 (sym w.in-Some.ensures.seat) waits.1.asked)
           )
       | in-None+in_ok-held-in-None+in_ok-request-in-None+in-Ok w ↦ (
           let asked = ap (λ (s : Scripted). slice_get s.requests c.args.q) serves.scripted ∙ w.in_ok-request-in-None.ensures in
           subst P (sym w.seat-is) (
             w.in_ok-request-in-None.request,
-            record { asked = asked; begun = waits.begun; unanswered = waits.unanswered },
+            record { asked = asked; begun = waits.1.begun; unanswered = waits.1.unanswered },
             w.in-Ok.ensures.seated x serves.kept (serves.configured ∙ sym w.in_ok-held-in-None.ensures),
           )
           )
@@ -40,7 +38,7 @@ advance-requires-clause-seated g c =
 pub returns-in-Err-clause-faults : goal.returns-in-Err-clause-faults
 returns-in-Err-clause-faults g c =
     count_refused c.args.registry.now c.post.new.registry (owed_at c.args.room.now c.args.q) c.args.q _ _ c.in-Err.finding.answer (sym (ap owed_of c.take.ensures.seat) ∙ ap owed_of c.in-None.is) (ap fault c.in-Err.ensures.memory)
-    (ap (λ (s : g.row.S.Denot). g.S.Source.refused s) c.in-Err.ensures.unread) c.requires.waits.unanswered c.post.ensures.posted
+    (ap (λ (s : g.row.S.Denot). g.S.Source.refused s) c.in-Err.ensures.unread) c.requires.waits.1.unanswered c.post.ensures.posted
 
 pub returns-clause-faults : goal.returns-clause-faults
 returns-clause-faults g c =

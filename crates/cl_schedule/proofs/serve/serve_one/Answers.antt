@@ -1,20 +1,17 @@
-use Rattle.std.proofs.Common.{◌≡◌, ◌∙◌, ◌+◌, ◌≤◌, ℕ, length, Some, ap, sym, subst, arith}
+use Rattle.std.proofs.Common.{◌≡◌, ◌∙◌, ℕ, length, Some, ap, sym, subst, arith}
 use Rattle.std.specs.Prelude.{slice_get}
 use Rattle.cl_config.specs.Views.{Configured, Scripted}
 use Rattle.cl_config.specs.Scripts.{HasLoaders}
-use Rattle.cl_registry.specs.Reports.{IsNamed}
-use Rattle.cl_model.specs.Tables.{IsConsistent}
-use Rattle.cl_registry.specs.Tables.{Shown, IsTrusted, RunsAs, posts, round_of, state_of, steps}
+use Rattle.cl_registry.specs.Tables.{Shown, posts, steps}
 use Rattle.cl_schedule.specs.Blames.{EachBlames}
 use Rattle.cl_schedule.specs.Counting.{Grows, faults}
 use Rattle.cl_schedule.specs.Serving.{reported, upto, InOrder}
-use Rattle.cl_schedule.specs.Headline.{EachSpelt, Alike, ReferencesAlike, CirclesExact}
-use Rattle.cl_schedule.proofs.Serving.{bare, bare_runs, bare_trusted, next_upto, next_is_open, has_loader, report_tells}
+use Rattle.cl_schedule.proofs.Serving.{bare, bare_trusted, next_upto, next_is_open, has_loader, report_tells}
 use Rattle.cl_schedule.proofs.Rounds.{known_bare, known_next, known_none, next_is_now, none_goes_on, nothing_left, served_bare, served_none, served_next, served_whole}
 use Rattle.cl_schedule.specs.Known.{KnownStays}
 use Rattle.cl_schedule.proofs.Blaming.{each_blames_more, each_blames_none, each_blames_passed}
 use Rattle.cl_schedule.proofs.Counted.{grows_none, faults_none, faults_then}
-use Rattle.cl_schedule.proofs.Headline.{each_spelt, alike, references_alike, circles_exact, consistent}
+use Rattle.cl_schedule.proofs.Ended.{is_served}
 use Rattle.cl_schedule.proofs.serve.serve_one.Goals as goal
 use Rattle.std.proofs.lemmas.Option.{slice_get_within}
 
@@ -42,14 +39,15 @@ serve_request-requires-clause-loader g c =
     (subst (λ (k : Configured). HasLoaders (length k.loaders) c.args.script.value.requests) (sym c.in_ok-held-2.ensures) c.requires)
     (subst (λ (s : Scripted). slice_get s.requests c.loop-q.q ≡ Some c.in_ok-request.request) c.deref-in-loop-q.ensures c.in_ok-request.ensures)
 
-pub serve_request-requires-clause-begun : goal.serve_request-requires-clause-begun
-serve_request-requires-clause-begun g c = let inv = c.loop-q.invariant in next_is_now c.loop-q.registry c.loop-q.q inv.kept.trusted inv.order inv.over
-
-pub serve_request-requires-clause-open : goal.serve_request-requires-clause-open
-serve_request-requires-clause-open g c =
+pub serve_request-requires-clause-may : goal.serve_request-requires-clause-may
+serve_request-requires-clause-may g c =
     let inv = c.loop-q.invariant in
-    next_is_open c.loop-q.registry c.loop-q.q inv.kept.trusted inv.order
-    (slice_get_within c.loop-q.registry.script.requests c.loop-q.q c.in_ok-request.request (subst (λ (s : Scripted). slice_get s.requests c.loop-q.q ≡ Some c.in_ok-request.request) (c.deref-in-loop-q.ensures ∙ sym inv.script) c.in_ok-request.ensures))
+    let asked = subst (λ (s : Scripted). slice_get s.requests c.loop-q.q ≡ Some c.in_ok-request.request) (c.deref-in-loop-q.ensures ∙ sym inv.script) c.in_ok-request.ensures in
+    record {
+      asked = asked;
+      begun = next_is_now c.loop-q.registry c.loop-q.q inv.kept.trusted inv.order inv.over;
+      unanswered = next_is_open c.loop-q.registry c.loop-q.q inv.kept.trusted inv.order (slice_get_within c.loop-q.registry.script.requests c.loop-q.q c.in_ok-request.request asked);
+    }
 
 pub loop-q-preserved : goal.loop-q-preserved
 loop-q-preserved g c =
@@ -98,24 +96,12 @@ pub returns-clause-served : goal.returns-clause-served
 returns-clause-served g c =
     let inv = c.loop-q.invariant in
     let told = g.T.Told.told in
-    let whole = c.in-Ok-into_report.ensures.reported.whole in
-    let x = bare c.loop-q.registry in
-    let trusted : IsTrusted x = bare_trusted c.loop-q.registry inv.kept.trusted in
-    let run : RunsAs told x = bare_runs told c.loop-q.registry inv.kept.run in
+    let made = c.in-Ok-into_report.ensures.reported in
     let all = all_served g c ∙ ap (λ (s : Scripted). length s.requests) (sym inv.script) in
     record {
-      of_script = whole.script ∙ inv.script;
-      each_once = ap posts whole.history ∙ inv.order ∙ ap upto (all_served g c);
-      named = subst (λ (k : Configured). IsNamed (length k.loaders) c.in-Ok-into_report.report) inv.config c.in-Ok-into_report.ensures.reported.loaders;
-      last = subst (λ (y : Shown). c.args.script.value.rounds ≤ round_of y + 1) (told_of g c) (subst (λ (s : Scripted). s.rounds ≤ round_of x + 1) inv.script c.in-Ok-into_report.ensures.reported.last);
-      trusted = subst IsTrusted (told_of g c) trusted;
-      consistent = subst (λ (y : Shown). IsConsistent (state_of y)) (told_of g c) (consistent x trusted);
+      served = is_served told c.loop-q.registry c.args.config.value c.args.script.value c.in-Ok-into_report.report made (sym inv.config) (sym inv.script);
+      posted = ap posts made.whole.history ∙ inv.order ∙ ap upto (all_served g c);
       known = subst KnownStays (told_of g c) (known_bare c.loop-q.registry inv.known);
-      run = subst (RunsAs told) (told_of g c) run;
-      in_order = subst (InOrder told) (told_of g c) (served_bare told c.loop-q.registry (served_whole told c.loop-q.registry c.loop-q.q trusted.script inv.served all));
-      spelt = subst (EachSpelt told) (told_of g c) (each_spelt told c.loop-q.registry inv.kept);
-      alike = subst (Alike told) (told_of g c) (alike told x trusted run);
-      references = subst (ReferencesAlike told) (told_of g c) (references_alike told x trusted run);
-      circles = subst (CirclesExact told) (told_of g c) (circles_exact told x trusted run);
+      in_order = subst (InOrder told) (told_of g c) (served_bare told c.loop-q.registry (served_whole told c.loop-q.registry c.loop-q.q (bare_trusted c.loop-q.registry inv.kept.trusted).script inv.served all));
       blames = subst (EachBlames told) (told_of g c) inv.blames;
     }

@@ -15,4 +15,4 @@ returns-clause-leads g c =
     let is = slice_get-map equal_need c.args.list.value.needs c.args.place ∙ c.requires.need in
     rw c.post.ensures
     (refused_leads g.T.Told.told c.args.config.now.value c.args.chain c.args.list.value c.requires.chain known c.args.place c.refused_link-finding.result c.args.need is
-    c.refused_link-finding.ensures.request c.refused_link-finding.ensures.answer (rw c.into_lineage.ensures.whole at c.refused_link-finding.ensures.basis))
+    (rw c.into_lineage.ensures.whole at c.refused_link-finding.ensures))

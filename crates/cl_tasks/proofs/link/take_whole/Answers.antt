@@ -2,11 +2,11 @@ use Rattle.std.proofs.Common.{◌-◌, length, subst, sym}
 use Rattle.cl_hierarchy.specs.Lineages.{Lined, rows_in}
 use Rattle.cl_tasks.specs.Linking.{WholeTold}
 use Rattle.cl_tasks.specs.Rooms.{whole_room}
-use Rattle.cl_tasks.specs.Stages.{IsOf}
 use Rattle.cl_tasks.specs.Steps.{LeadsBy}
 use Rattle.cl_tasks.proofs.Lead.{leads_by}
 use Rattle.cl_tasks.proofs.LinkLeads.{rows_few, whole_calls, whole_told, whole_turns}
 use Rattle.cl_tasks.proofs.link.take_whole.Goals as goal
+use Rattle.cl_tasks.specs.Turns.{IsOf}
 
 pub returns-clause-leads : goal.returns-clause-leads
 returns-clause-leads g c =

@@ -4,7 +4,7 @@ use Rattle.cl_tasks.proofs.load_replies.after_initiate.Goals as goal
 pub returns-in-Initiated : goal.returns-in-Initiated
 returns-in-Initiated g c =
     rw c.in-Initiated.is
-    (steps_initiated g.T.Told.told c.args.config.now.value c.args.job c.args.home c.in-Initiated.row _ c.requires.job.config c.requires.home c.go_on.ensures.leads c.go_on.ensures.plain c.go_on.ensures.derives c.go_on.ensures.own)
+    (steps_initiated g.T.Told.told c.args.config.now.value c.args.job c.args.home c.in-Initiated.row _ c.requires.job.config c.requires.next.0 c.go_on.ensures.leads c.go_on.ensures.plain c.go_on.ensures.derives c.go_on.ensures.own)
 
 pub returns-in-Refused : goal.returns-in-Refused
 returns-in-Refused g c =

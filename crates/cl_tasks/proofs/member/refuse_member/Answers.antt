@@ -8,7 +8,7 @@ pub returns-clause-leads : goal.returns-clause-leads
 returns-clause-leads g c =
     rw c.settle.ensures
     (refused_leads g.T.Told.told c.args.config.now.value c.args.member c.requires.member c.args.place c.in-Ok.kept c.refused_member-finding.result c.args.need c.in-Ok.ensures
-    c.refused_member-finding.ensures.request c.refused_member-finding.ensures.answer c.refused_member-finding.ensures.basis c.answer.ensures.rests)
+    c.refused_member-finding.ensures c.answer.ensures.rests)
 
 pub refused_member-finding-requires-clause-need : goal.refused_member-finding-requires-clause-need
 refused_member-finding-requires-clause-need g c = slice_get-map equal_need c.args.member.equalities.value.needs c.args.place ∙ c.requires.need

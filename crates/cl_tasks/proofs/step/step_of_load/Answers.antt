@@ -64,7 +64,7 @@ returns-in-Defining g c = rw c.in-Defining.is c.after_define.ensures
 pub after_initiate-requires : goal.after_initiate-requires
 after_initiate-requires g c =
     let kept = rw c.in-Initiating.is at c.requires.kept in
-    record { job = kept.0; home = kept.1; other = kept.2; expects = rw c.in-Initiating.is at c.requires.expects }
+    record { job = kept.0; next = kept.1; expects = rw c.in-Initiating.is at c.requires.expects }
 
 pub returns-in-Initiating : goal.returns-in-Initiating
 returns-in-Initiating g c = rw c.in-Initiating.is c.after_initiate.ensures

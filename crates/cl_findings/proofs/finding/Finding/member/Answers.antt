@@ -1,6 +1,6 @@
-use Rattle.std.proofs.Common.{List, Some, ap, length, ◌∙◌}
+use Rattle.std.proofs.Common.{List, ap, length, ◌∙◌}
 use Rattle.cl_model.specs.declared.need.Equality.{Equality}
-use Rattle.cl_findings.specs.Findings.{Answered, Based}
+use Rattle.cl_findings.specs.Findings.{Based, grounded}
 use Rattle.cl_findings.proofs.References.{member_kept, member_rests_kept}
 use Rattle.cl_findings.proofs.finding.Finding.member.Goals as goal
 
@@ -13,8 +13,8 @@ said-requires g c =
     member_rests_kept g.T.Told.told c.args.request c.args.found.now c.args.equalities.value c.args.verdict (length c.needs-met.result.now) c.requires.reference one.lineage other.lineage c.index.ensures.kept c.requires.origin of c.requires.verdict
     (ap (λ (es : List Equality). length es) many)
 
-pub returns-clause-basis : goal.returns-clause-basis
-returns-clause-basis g c =
+pub returns : goal.returns
+returns g c =
     let many = rw c.deref.ensures at c.needs-met.ensures.needs in
-    ap (λ (a : Answered). a.basis) c.said.ensures
-    ∙ ap (λ (b : Based). Some b) (member_kept c.args.request c.args.found.now c.args.equalities.value (length c.needs-met.result.now) c.requires.origin (ap (λ (es : List Equality). length es) many))
+    c.said.ensures
+    ∙ ap (λ (b : Based). grounded c.args.request c.args.verdict b) (member_kept c.args.request c.args.found.now c.args.equalities.value (length c.needs-met.result.now) c.requires.origin (ap (λ (es : List Equality). length es) many))

@@ -10,8 +10,8 @@ use Rattle.cl_registry.proofs.registry.Registry.bears_link.Goals as goal
 
 pub returns-then-records : goal.returns-then-records
 returns-then-records g c =
-    subst (λ (v : Verdict). Decides c.has_prepared.result (Bears (state_of c.args.self.now) (Link c.args.loader c.args.name.now) (verdict_of v))) (sym c.in-Linked.is)
-    (bears_linked c.has_prepared.result (state_of c.args.self.now) c.args.loader c.args.name.now c.in-Linked.class c.if-records.ensures c.has_prepared.ensures)
+    subst (λ (v : Verdict). Decides c.look_prepared.result (Bears (state_of c.args.self.now) (Link c.args.loader c.args.name.now) (verdict_of v))) (sym c.in-Linked.is)
+    (bears_linked c.look_prepared.result (state_of c.args.self.now) c.args.loader c.args.name.now c.in-Linked.class c.if-records.ensures c.look_prepared.ensures.prepared)
 
 pub returns-else-records : goal.returns-else-records
 returns-else-records g c =

@@ -27,7 +27,7 @@ add_equality-requires-clause-unmet g c =
 pub invariant_of-self : goal.invariant_of-self
 invariant_of-self g c =
     let e = c.in-Err.ensures in
-    kept_failed g.T.Told.told _ _ _ _ _ _ _ _ _ c.to_come-left.result _ _ _ c.self.invariant refl e.same_history (λ l n. refl) refl (λ b. rw e.same_book b) (λ d i. refl) refl e.same_length
+    kept_failed g.T.Told.told _ _ _ _ _ _ _ _ _ c.to_come-left.result _ _ _ c.self.invariant refl e.same_history.0 (λ l n. refl) refl (λ b. rw e.same_book b) (λ d i. refl) refl e.same_history.1
     (come_by c.self.inside.left c.self.inside.round c.to_come-left.ensures c.rounds.ensures c.deref.ensures) e.room
 
 pub invariant_of-self-2 : goal.invariant_of-self-2
@@ -37,8 +37,8 @@ invariant_of-self-2 g c =
     let e = c.in-Ok.ensures in
     kept_constrained g.T.Told.told x n _ _ _ _ _ _ _ _ c.to_come-left.result _ _ c.self.invariant (subst (λ (y : Shown). Met (state_of y) (equal_need n) → ⊥) (sym c.self.view_is) c.requires.unmet)
     (subst (λ (y : Shown). MayConstrainAs g.T.Told.told y n) (sym c.self.view_is) c.requires.may) (subst (λ (y : Shown). EqualityNames (length y.config.loaders) n) (sym c.self.view_is) c.requires.within) e.added (λ l m. refl)
-    (record { width = refl; references_are = λ k i. refl; prepared_are = refl; room = record { one = e.used; come_is = (come_by c.self.inside.left c.self.inside.round c.to_come-left.ensures c.rounds.ensures c.deref.ensures); fits = e.room } })
-    e.event
+    (record { width = refl; references_are = λ k i. refl; prepared_are = refl; room = record { one = e.event.used; come_is = (come_by c.self.inside.left c.self.inside.round c.to_come-left.ensures c.rounds.ensures c.deref.ensures); fits = e.room } })
+    e.event.events
 
 pub returns-in-Err-clause-refused : goal.returns-in-Err-clause-refused
 returns-in-Err-clause-refused g c =
@@ -51,7 +51,7 @@ pub returns-clause-constrained : goal.returns-clause-constrained
 returns-clause-constrained g c =
     let x : Shown = shown c.self.inside in
     let y : Shown = record x { history = c.add_equality.new.history.items } in
-    subst (λ (z : Shown). y ≡ with_constrain z c.args.equality.now) c.self.view_is (ap (λ hs. grown x x.rows hs) c.in-Ok.ensures.event)
+    subst (λ (z : Shown). y ≡ with_constrain z c.args.equality.now) c.self.view_is (ap (λ hs. grown x x.rows hs) c.in-Ok.ensures.event.events)
 
 pub returns-clause-free : goal.returns-clause-free
 returns-clause-free g c =
@@ -63,7 +63,7 @@ pub returns-clause-met : goal.returns-clause-met
 returns-clause-met g c =
     let x : Shown = shown c.self.inside in
     let e = c.args.equality.now in
-    subst (λ (y : Shown). Met (state_of y) (equal_need e)) (sym (ap (λ hs. grown x x.rows hs) c.in-Ok.ensures.event)) (met_constrain x e)
+    subst (λ (y : Shown). Met (state_of y) (equal_need e)) (sym (ap (λ hs. grown x x.rows hs) c.in-Ok.ensures.event.events)) (met_constrain x e)
 
 pub returns-clause-kept : goal.returns-clause-kept
 returns-clause-kept g c = (invariant_of-self-2 g c).kept

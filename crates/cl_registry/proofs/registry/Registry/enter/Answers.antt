@@ -3,7 +3,7 @@ use Rattle.std.specs.Option.{option_map}
 use Rattle.cl_model.specs.declared.need.Need.TheVariants as needs
 use Rattle.cl_delegation.specs.Searches.{Located}
 use Rattle.cl_hierarchy.specs.Rows.{Rowed}
-use Rattle.cl_registry.specs.Parts.{IsPut}
+use Rattle.cl_registry.specs.Parts.{IsPut, shared}
 use Rattle.cl_registry.specs.Tables.{Shown, IsNew, MayEnter, DefinedAs, row_for, row_at, state_of}
 use Rattle.cl_registry.specs.Refusals.{AddRefusedFor, Blames}
 use Rattle.cl_registry.specs.View.{shown}
@@ -28,8 +28,8 @@ record-requires-clause-fresh g c =
 pub invariant_of-self : goal.invariant_of-self
 invariant_of-self g c =
     let e = c.in-Err.ensures in
-    kept_failed g.T.Told.told _ _ _ _ _ _ _ _ _ c.to_come-left.result _ _ _ c.self.invariant (ap (map (λ r. r.value)) e.same_rows) e.same_history (λ l n. ap (option_map (λ r. r.value)) (e.same_tables l n)) e.width
-    (λ b. rw e.same_book b) (λ d i. refl) refl e.same_length
+    kept_failed g.T.Told.told _ _ _ _ _ _ _ _ _ c.to_come-left.result _ _ _ c.self.invariant (ap (map (λ r. r.value)) e.same_rows) e.same_history.0 (λ l n. ap (option_map (λ r. r.value)) (e.same_tables l n)) e.width
+    (λ b. rw e.same_book b) (λ d i. refl) refl e.same_history.1
     (come_by c.self.inside.left c.self.inside.round c.to_come-left.ensures c.rounds.ensures c.deref-2.ensures) e.room
 
 pub invariant_of-self-2 : goal.invariant_of-self-2
@@ -41,18 +41,18 @@ invariant_of-self-2 g c =
     let may : MayEnter x d = subst (λ (y : Shown). MayEnter y d) (sym c.self.view_is) c.requires.may in
     let made : c.in-Ok.row.value ≡ row_for x d = e.row ∙ row_made (λ r. r.value) g.T.Told.told x c.self.invariant.kept (row_at c.self.inside.tables.items) c.self.invariant.rows d in
     kept_defined g.T.Told.told x d _ _ _ _ _ _ _ _ c.to_come-left.result _ _ _ c.self.invariant c.home.ensures.draft may fresh e.entered
-    (subst (λ (v : Rowed). IsPut (λ l n. option_map (λ r. r.value) (row_at c.self.inside.tables.items l n)) (λ l n. option_map (λ r. r.value) (row_at c.record.new.tables.items l n)) d.class.loader d.class.name v) made e.put)
+    (subst (λ (v : Rowed). IsPut (shared (λ r. r.value) (row_at c.self.inside.tables.items)) (shared (λ r. r.value) (row_at c.record.new.tables.items)) d.class.loader d.class.name v) made e.put)
     (record {
       width = e.width;
       references_are = λ k i. refl;
       prepared_are = refl;
       room = record {
-        one = e.used;
+        one = e.event.used;
         come_is = come_by c.self.inside.left c.self.inside.round c.to_come-left.ensures c.rounds.ensures c.deref-2.ensures;
         fits = e.room;
       };
     })
-    (e.rows ∙ ap (λ (v : Rowed). x.rows ++ v ∷ []) made) e.event
+    (e.rows ∙ ap (λ (v : Rowed). x.rows ++ v ∷ []) made) e.event.events
 
 pub returns-clause-defined : goal.returns-clause-defined
 returns-clause-defined g c =
@@ -64,7 +64,7 @@ returns-clause-defined g c =
     let may : MayEnter x d = subst (λ (z : Shown). MayEnter z d) (sym c.self.view_is) c.requires.may in
     let made : v ≡ row_for x d = e.row ∙ row_made (λ r. r.value) g.T.Told.told x c.self.invariant.kept (row_at c.self.inside.tables.items) c.self.invariant.rows d in
     subst (λ (z : Shown). DefinedAs z y d v None) c.self.view_is
-    (may, (e.entered (state_of x) c.self.invariant.book).0, shown_define x d _ _ (e.rows ∙ ap (λ (w : Rowed). x.rows ++ w ∷ []) made) e.event, made)
+    (may, (e.entered (state_of x) c.self.invariant.book).0, shown_define x d _ _ (e.rows ∙ ap (λ (w : Rowed). x.rows ++ w ∷ []) made) e.event.events, made)
 
 pub returns-clause-kept : goal.returns-clause-kept
 returns-clause-kept g c = (invariant_of-self-2 g c).kept

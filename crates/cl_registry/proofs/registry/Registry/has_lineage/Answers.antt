@@ -1,8 +1,7 @@
 use Rattle.std.proofs.Common.{◌∙◌, subst, sym}
-use Rattle.std.specs.Option.{option_map}
 use Rattle.cl_findings.specs.Findings.{Decides}
 use Rattle.cl_registry.specs.Imposing.{IsStanding}
-use Rattle.cl_registry.specs.Tables.{Shown, row_at}
+use Rattle.cl_registry.specs.Tables.{Shown, placed_at, row_at}
 use Rattle.cl_registry.specs.View.{shown}
 use Rattle.cl_registry.proofs.Asked.{place_at}
 use Rattle.cl_registry.proofs.Tested.{standing_at}
@@ -12,5 +11,5 @@ pub returns-clause-stands : goal.returns-clause-stands
 returns-clause-stands g c =
     let x : Shown = shown c.self.inside in
     subst (λ (y : Shown). Decides c.has.result (IsStanding y c.args.lineage.now)) c.self.view_is
-    (standing_at x c.args.lineage.now c.class-class.result.now c.has.result (λ i n. option_map (λ r. r.value.class.loader) (row_at c.self.inside.tables.items i n)) c.class-class.ensures.class (sym (c.deref.ensures ∙ c.config.ensures.config) ∙ c.if-not-is_same.ensures ∙ c.deref-2.ensures)
+    (standing_at x c.args.lineage.now c.class-class.result.now c.has.result (placed_at c.self.inside.tables.items) c.class-class.ensures.class (sym (c.deref.ensures ∙ c.config.ensures.config) ∙ c.if-not-is_same.ensures ∙ c.deref-2.ensures)
     (place_at (λ r. r.value) g.T.Told.told x c.self.invariant.kept (row_at c.self.inside.tables.items) c.self.invariant.rows) c.has.ensures)

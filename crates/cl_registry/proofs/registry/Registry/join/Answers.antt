@@ -40,8 +40,8 @@ join-requires-clause-fresh g c =
 pub invariant_of-self : goal.invariant_of-self
 invariant_of-self g c =
     let e = c.in-Err-join.ensures in
-    kept_failed g.T.Told.told _ _ _ _ _ _ _ _ _ c.to_come-left.result _ _ _ c.self.invariant refl e.same_history (λ l n. ap (option_map (λ r. r.value)) (e.same_tables l n)) e.width (λ b. rw e.same_book b) (λ d i. refl) refl
-    e.same_length
+    kept_failed g.T.Told.told _ _ _ _ _ _ _ _ _ c.to_come-left.result _ _ _ c.self.invariant refl e.same_history.0 (λ l n. ap (option_map (λ r. r.value)) (e.same_tables l n)) e.width (λ b. rw e.same_book b) (λ d i. refl) refl
+    e.same_history.1
     (come_by c.self.inside.left c.self.inside.round c.to_come-left.ensures c.rounds.ensures c.deref.ensures) e.room
 
 pub invariant_of-self-2 : goal.invariant_of-self-2
@@ -57,9 +57,9 @@ invariant_of-self-2 g c =
       width = e.width;
       references_are = λ k i. refl;
       prepared_are = refl;
-      room = record { one = e.used; come_is = (come_by c.self.inside.left c.self.inside.round c.to_come-left.ensures c.rounds.ensures c.deref.ensures); fits = e.room };
+      room = record { one = e.event.used; come_is = (come_by c.self.inside.left c.self.inside.round c.to_come-left.ensures c.rounds.ensures c.deref.ensures); fits = e.room };
     })
-    e.event
+    e.event.events
 
 pub returns-clause-initiated : goal.returns-clause-initiated
 returns-clause-initiated g c =
@@ -70,7 +70,7 @@ returns-clause-initiated g c =
     let v = c.in-Ok-join.row.value in
     let may : MayJoin x h = subst (λ (z : Shown). MayJoin z h) (sym c.self.view_is) c.requires.may in
     let is : looked x h.place h.name ≡ Some v = subst (λ (z : Shown). looked z h.place h.name ≡ Some c.in-Ok.row.value) (sym c.self.view_is) c.in-Ok.ensures.row ∙ ap (λ (w : Rowed). Some w) (sym e.row) in
-    subst (λ (z : Shown). InitiatedAs z y h v None) c.self.view_is (may, (e.entered (state_of x) c.self.invariant.book).0, shown_initiate x h _ e.event, is)
+    subst (λ (z : Shown). InitiatedAs z y h v None) c.self.view_is (may, (e.entered (state_of x) c.self.invariant.book).0, shown_initiate x h _ e.event.events, is)
 
 pub returns-clause-kept : goal.returns-clause-kept
 returns-clause-kept g c = (invariant_of-self-2 g c).kept

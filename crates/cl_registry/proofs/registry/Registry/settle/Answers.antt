@@ -35,8 +35,8 @@ done g c = bound (known g c) c.args.finding.now c.in-Ok-to_settle.settled c.in-O
 pub invariant_of-self : goal.invariant_of-self
 invariant_of-self g c =
     let e = c.in-Err-bind.ensures in
-    kept_failed g.T.Told.told _ _ _ _ _ _ _ _ _ c.to_come-left.result _ _ _ c.self.invariant refl e.same_history (λ l n. refl) refl (λ b. b)
-    (λ d i. ap (option_map (λ s. s.value)) (e.same_references d i)) refl e.same_length
+    kept_failed g.T.Told.told _ _ _ _ _ _ _ _ _ c.to_come-left.result _ _ _ c.self.invariant refl e.same_history.0 (λ l n. refl) refl (λ b. b)
+    (λ d i. ap (option_map (λ s. s.value)) (e.same_references d i)) refl e.same_history.1
     (come_by c.self.inside.left c.self.inside.round c.to_come-left.ensures c.rounds.ensures c.deref.ensures) e.room
 
 pub invariant_of-self-2 : goal.invariant_of-self-2

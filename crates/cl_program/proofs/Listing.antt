@@ -60,5 +60,5 @@ as_memory gives path out fault w = absurd w
 
 pub reading_failed : (gives : Giving) (path : List ℕ) (o : Outputs) (fault : Fault) (status : ℕ) → FailsToRead gives path o.out fault → status ≡ 1
     → TellsFault o.err fault ⊎ TellsFault o.err Memory → IsReading gives path o status
-reading_failed gives path o fault status w s (inl told) = record { outcome = Err fault; read = w; told = (s, told) }
-reading_failed gives path o fault status w s (inr told) = record { outcome = Err Memory; read = as_memory gives path o.out fault w; told = (s, told) }
+reading_failed gives path o fault status w s (inl told) = record { outcome = Err fault; ran = w; told = (s, told) }
+reading_failed gives path o fault status w s (inr told) = record { outcome = Err Memory; ran = as_memory gives path o.out fault w; told = (s, told) }

@@ -1,5 +1,5 @@
 -- How a run ends, from its steps.
-use Rattle.std.proofs.Common.{◌≡◌, ◌⊎◌, ◌∙◌, ◌<◌, ℕ, List, [], ◌∷◌, ◌++◌, length, Option, Some, Result, Ok, Err, IfSome, IsErrAnd, OnOk, OnErr, ap, map, append-nil, append_assoc, codes, inl, inr, refl, sym, subst}
+use Rattle.std.proofs.Common.{◌≡◌, ◌⊎◌, ◌∙◌, ℕ, List, [], ◌∷◌, ◌++◌, length, Option, Some, Result, Ok, Err, IfSome, IsErrAnd, OnOk, OnErr, ap, map, append-nil, append_assoc, codes, inl, inr, refl, sym, subst}
 use Rattle.std.proofs.lemmas.List.{length-map}
 use Rattle.std.specs.Io.KnownBytes.{Appends}
 use Rattle.cl_model.specs.Content.{Content}
@@ -23,6 +23,7 @@ use Rattle.cl_streams.specs.declared.output.PrintFault.TheVariants as print
 use Rattle.cl_streams.proofs.Written.{appends_nothing}
 use Rattle.cl_bundle.proofs.Refusals.{unless_by}
 use Rattle.cl_program.specs.declared.limits.TheConstants.{MOST_INPUT_BYTES}
+use Rattle.cl_streams.specs.Reading.{GivesOver}
 
 -- a stream on which nothing is written
 abbrev pub still : Option (List ℕ) → Stream
@@ -32,7 +33,7 @@ pub ran_wrong : (input : Option (List ℕ)) (asked : Options) (out : Stream) (r 
 ran_wrong input asked out (Ok x) fault e w = absurd e
 ran_wrong input asked out (Err f) fault e w = subst (EndsBy input asked out) (sym e) w
 
-pub by_input : (input : Option (List ℕ)) (asked : Options) (old : Option (List ℕ)) (fault : Fault) → IsInputFault fault → (fault ≡ TooLarge → IfSome input (λ bytes. MOST_INPUT_BYTES < length bytes))
+pub by_input : (input : Option (List ℕ)) (asked : Options) (old : Option (List ℕ)) (fault : Fault) → IsInputFault fault → (fault ≡ TooLarge → GivesOver input MOST_INPUT_BYTES)
     → (fault ≡ NotUtf8 → IfSome input (λ bytes. AreNoText bytes)) → EndsBy input asked (still old) fault
 by_input input asked old Input k large other = (appends_nothing old, tt)
 by_input input asked old TooLarge k large other = (appends_nothing old, large refl)
@@ -54,9 +55,9 @@ by_bundle input asked old text fault is w = (appends_nothing old, unless_by faul
 pub by_service : (input : Option (List ℕ)) (asked : Options) (old : Option (List ℕ)) (text : List ℕ) (config : Configured) (content : Content) (script : Scripted) (fault : Fault)
     → IsInput input text → IsBundle text config content script → IsUnserved asked.workers fault → EndsBy input asked (still old) fault
 by_service input asked old text config content script (Serve wrong) is bundle w =
-    (appends_nothing old, record { text = text; config = config; content = content; script = script; input_is = is; bundle = bundle; unserved = w })
+    (appends_nothing old, record { text = text; config = config; content = content; script = script; input_is = is; bundle = bundle; holds = w })
 by_service input asked old text config content script (Threads wrong) is bundle w =
-    (appends_nothing old, record { text = text; config = config; content = content; script = script; input_is = is; bundle = bundle; unserved = w })
+    (appends_nothing old, record { text = text; config = config; content = content; script = script; input_is = is; bundle = bundle; holds = w })
 by_service input asked old text config content script fault is bundle w = absurd w
 
 -- ---- a report that is broken off
@@ -70,11 +71,13 @@ are_lines input asked text config held seen content script given report names is
   config = config;
   content = content;
   script = script;
-  report = report;
   input_is = is;
   bundle = bundle;
-  served = subst (λ (x : Scripted). IsServedBy asked.workers (Some content) config x report) s (subst (λ (x : Configured). IsServedBy asked.workers (Some content) x given report) h served);
-  are = ap (λ (x : List (List ℕ)). report_lines x asked.answers report.history report.answers) (n ∙ ap names_of e);
+  holds = record {
+    report = report;
+    served = subst (λ (x : Scripted). IsServedBy asked.workers (Some content) config x report) s (subst (λ (x : Configured). IsServedBy asked.workers (Some content) x given report) h served);
+    are = ap (λ (x : List (List ℕ)). report_lines x asked.answers report.history report.answers) (n ∙ ap names_of e);
+  };
 }
 
 -- there is a name for each loader

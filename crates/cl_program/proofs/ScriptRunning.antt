@@ -59,12 +59,16 @@ pub lines_from : (gives : List ℕ → Giving) (w : Wanted) (config held seen : 
     → names ≡ names_of seen → seen ≡ config → AreLinesFrom gives w (report_lines names w.options.answers report.history report.answers)
 lines_from gives w config held seen script given report names configured scripted h s served n e = record {
   config = config;
-  script = script;
-  report = report;
   configured = configured;
-  scripted = scripted;
-  served = subst (λ (x : Scripted). IsServedOver w.options.workers config x report) s (subst (λ (x : Configured). IsServedOver w.options.workers x given report) h served);
-  are = ap (λ (x : List (List ℕ)). report_lines x w.options.answers report.history report.answers) (n ∙ ap names_of e);
+  holds = (
+    script,
+    scripted,
+    record {
+      report = report;
+      served = subst (λ (x : Scripted). IsServedOver w.options.workers config x report) s (subst (λ (x : Configured). IsServedOver w.options.workers x given report) h served);
+      are = ap (λ (x : List (List ℕ)). report_lines x w.options.answers report.history report.answers) (n ∙ ap names_of e);
+    },
+  );
 }
 
 pub by_printing : (gives : List ℕ → Giving) (w : Wanted) (out : Stream) (lines : List ℕ) (fault : PrintFault) → AreLinesFrom gives w lines → WritesPart out lines → EndsFrom gives w out (print_fault fault)

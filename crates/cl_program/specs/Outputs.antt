@@ -59,3 +59,16 @@ TellsFault err fault = WritesPart err (fault_line (fault_text fault))
 abbrev pub EndsWith : Stream → ℕ → Result (Unit {0}) Fault → Type 0
 EndsWith err status (Ok x) = (status ≡ 0) × Writes err []
 EndsWith err status (Err fault) = (status ≡ 1) × TellsFault err fault
+
+-- what a run answers, and what is on its output: such lines, or what a fault that ends it leaves
+abbrev pub OutcomeOf : (List ℕ → Type 0) → (Stream → Fault → Type 0) → Stream
+    → Result (Unit {0}) Fault → Type 0
+OutcomeOf AreLines EndsBy out (Ok x) = Prints AreLines out
+OutcomeOf AreLines EndsBy out (Err fault) = EndsBy out fault
+
+-- a run answered so, and the exit status and both outputs say so
+pub record Ended (Answers : Stream → Result (Unit {0}) Fault → Type 0) (o : Outputs) (status : ℕ)
+    : Type 0 where
+  pub outcome : Result (Unit {0}) Fault
+  pub ran : Answers o.out outcome
+  pub told : EndsWith o.err status outcome

@@ -7,7 +7,7 @@ use Rattle.cl_classfile.specs.Reading.{read_of}
 use Rattle.cl_writer.specs.Listings.{listing_of}
 use Rattle.cl_source.specs.Seen.{IsWithin}
 use Rattle.cl_program.specs.Files.{Giving, IsUnread}
-use Rattle.cl_program.specs.Outputs.{BreaksOff, EndsWith, Outputs, Prints, Stream, WritesNothing}
+use Rattle.cl_program.specs.Outputs.{BreaksOff, Ended, OutcomeOf, Outputs, Stream, WritesNothing}
 use Rattle.cl_program.specs.declared.fault.Fault.{Fault}
 use Rattle.cl_program.specs.declared.fault.Fault.TheVariants.{Write, TooLarge, Path, File, Memory}
 use Rattle.cl_source.specs.declared.size.TheConstants.{MOST_CLASS_BYTES}
@@ -42,14 +42,11 @@ FailsToRead gives path out _ = ⊥
 
 -- what reading a class file answers, and what is on its output
 abbrev pub ReadingOf : Giving → List ℕ → Stream → Result (Unit {0}) Fault → Type 0
-ReadingOf gives path out (Ok x) = Prints (AreLinesOf gives) out
-ReadingOf gives path out (Err fault) = FailsToRead gives path out fault
+ReadingOf gives path = OutcomeOf (AreLinesOf gives) (FailsToRead gives path)
 
 -- the class file at a path was read, or a fault ended it, and the exit status and both outputs say so
-pub record IsReading (gives : Giving) (path : List ℕ) (outputs : Outputs) (status : ℕ) : Type 0 where
-  pub outcome : Result (Unit {0}) Fault
-  pub read : ReadingOf gives path outputs.out outcome
-  pub told : EndsWith outputs.err status outcome
+abbrev pub IsReading : Giving → List ℕ → Outputs → ℕ → Type 0
+IsReading gives path = Ended (ReadingOf gives path)
 
 -- ---- its steps
 

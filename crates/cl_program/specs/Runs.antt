@@ -1,25 +1,25 @@
 -- What a run of the program answers, and what it writes.
-use Rattle.std.specs.Prelude.{◌≡◌, ◌⊎◌, ◌<◌, ◌≤◌, ℕ, ⊤, List, length, Option, Some, Result, Ok, Err, IfSome}
+use Rattle.std.specs.Prelude.{◌⊎◌, ◌≤◌, ℕ, ⊤, List, length, Option, Some, Result, IfSome}
 use Rattle.std.specs.Str.{IsUtf8}
 use Rattle.cl_model.specs.Content.{Content}
-use Rattle.cl_config.specs.Views.{Configured, Scripted, names_of}
+use Rattle.cl_config.specs.Views.{Configured, Scripted}
 use Rattle.cl_registry.specs.declared.report.Report.{Report}
 use Rattle.cl_bundle.specs.Bundles.{IsBundle, IsNoBundle}
 use Rattle.cl_bundle.specs.Faults.{UnlessMemory}
 use Rattle.cl_bundle.specs.declared.fault.BundleFault.{BundleFault}
-use Rattle.cl_report.specs.Report.{report_lines}
 use Rattle.cl_schedule.specs.Headline.{IsServed}
 use Rattle.cl_program.specs.Files.{AreNoText}
-use Rattle.cl_program.specs.Outputs.{BreaksOff, EndsWith, Outputs, Prints, Stream, WritesNothing}
-use Rattle.cl_program.specs.Serving.{ByWorkers, IsServedAlone, IsUnserved}
+use Rattle.cl_program.specs.Outputs.{BreaksOff, Ended, OutcomeOf, Outputs, Stream, WritesNothing}
+use Rattle.cl_program.specs.Serving.{AreLinesBy, ByWorkers, IsServedAlone, IsUnserved}
 use Rattle.cl_program.specs.declared.asked.Options.{Options}
 use Rattle.cl_program.specs.declared.fault.Fault.{Fault}
 use Rattle.cl_program.specs.declared.fault.Fault.TheVariants.{Input, Write, TooLarge, NotUtf8, Bundle, Serve, Threads, Memory}
 use Rattle.cl_program.specs.declared.limits.TheConstants.{MOST_INPUT_BYTES}
+use Rattle.cl_streams.specs.Reading.{AreAllOf, GivesOver}
 
 -- the text that an input is: not too many bytes, in UTF-8
 pub record IsInput (input : Option (List ℕ)) (text : List ℕ) : Type 0 where
-  pub read : IfSome input (λ bytes. text ≡ bytes)
+  pub read : AreAllOf input text
   pub small : length text ≤ MOST_INPUT_BYTES
   pub utf8 : IsUtf8 text
 
@@ -28,36 +28,36 @@ pub record IsInput (input : Option (List ℕ)) (text : List ℕ) : Type 0 where
 abbrev pub IsServedBy : ℕ → Option Content → Configured → Scripted → Report → Type 0
 IsServedBy workers told config script r = ByWorkers workers (IsServedAlone told config script r) (IsServed told config script r)
 
--- the lines of a report of the bundle that an input is
-pub record AreLinesFor (input : Option (List ℕ)) (o : Options) (lines : List ℕ) : Type 0 where
+-- the input is a bundle, and this holds of what it tells
+pub record IsOfBundle (input : Option (List ℕ)) (P : Configured → Content → Scripted → Type 0)
+    : Type 0 where
   pub text : List ℕ
   pub config : Configured
   pub content : Content
   pub script : Scripted
-  pub report : Report
   pub input_is : IsInput input text
   pub bundle : IsBundle text config content script
-  pub served : IsServedBy o.workers (Some content) config script report
-  pub are : lines ≡ report_lines (names_of config) o.answers report.history report.answers
+  pub holds : P config content script
+
+-- the lines of a report of the bundle that an input is
+abbrev pub AreLinesFor : Option (List ℕ) → Options → List ℕ → Type 0
+AreLinesFor input o lines =
+    IsOfBundle input
+    (λ config content script. AreLinesBy (IsServedBy o.workers (Some content) config script) config
+    o.answers lines)
 
 -- the input is a text that is no bundle, with the first thing that is wrong with it
 abbrev pub IsNoBundleIn : Option (List ℕ) → BundleFault → Type 0
 IsNoBundleIn input wrong = (text : List ℕ) × IsInput input text × IsNoBundle text wrong
 
 -- the input is a bundle, whose script was not served for this reason
-pub record IsUnservedFor (input : Option (List ℕ)) (o : Options) (f : Fault) : Type 0 where
-  pub text : List ℕ
-  pub config : Configured
-  pub content : Content
-  pub script : Scripted
-  pub input_is : IsInput input text
-  pub bundle : IsBundle text config content script
-  pub unserved : IsUnserved o.workers f
+abbrev pub IsUnservedFor : Option (List ℕ) → Options → Fault → Type 0
+IsUnservedFor input o f = IsOfBundle input (λ config content script. IsUnserved o.workers f)
 
 -- when a run ends by a fault, and what is on its output; that a read or a write was refused, or that memory was wanting, is taken at its word
 abbrev pub EndsBy : Option (List ℕ) → Options → Stream → Fault → Type 0
 EndsBy input o out Input = WritesNothing out ⊤
-EndsBy input o out TooLarge = WritesNothing out (IfSome input (λ bytes. MOST_INPUT_BYTES < length bytes))
+EndsBy input o out TooLarge = WritesNothing out (GivesOver input MOST_INPUT_BYTES)
 EndsBy input o out NotUtf8 = WritesNothing out (IfSome input (λ bytes. AreNoText bytes))
 EndsBy input o out (Bundle wrong) = WritesNothing out (UnlessMemory wrong (IsNoBundleIn input wrong))
 EndsBy input o out (Serve wrong) = WritesNothing out (IsUnservedFor input o (Serve wrong))
@@ -68,11 +68,8 @@ EndsBy input o out _ = ⊥
 
 -- what running a bundle answers, and what is on its output
 abbrev pub RunOf : Option (List ℕ) → Options → Stream → Result (Unit {0}) Fault → Type 0
-RunOf input o out (Ok x) = Prints (AreLinesFor input o) out
-RunOf input o out (Err fault) = EndsBy input o out fault
+RunOf input o = OutcomeOf (AreLinesFor input o) (EndsBy input o)
 
 -- a bundle was run, or a fault ended it, and the exit status and both outputs say so
-pub record IsRun (input : Option (List ℕ)) (o : Options) (outputs : Outputs) (status : ℕ) : Type 0 where
-  pub outcome : Result (Unit {0}) Fault
-  pub ran : RunOf input o outputs.out outcome
-  pub told : EndsWith outputs.err status outcome
+abbrev pub IsRun : Option (List ℕ) → Options → Outputs → ℕ → Type 0
+IsRun input o = Ended (RunOf input o)

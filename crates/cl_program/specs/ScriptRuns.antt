@@ -6,13 +6,12 @@ use Rattle.cl_config.specs.Views.{Configured, Scripted, names_of}
 use Rattle.cl_config.specs.declared.fault.ConfigFault.{ConfigFault}
 use Rattle.cl_config.specs.declared.script.ScriptFault.{ScriptFault}
 use Rattle.cl_registry.specs.declared.report.Report.{Report}
-use Rattle.cl_report.specs.Report.{report_lines}
 use Rattle.cl_schedule.specs.Headline.{IsServed, IsServedInOrder}
 use Rattle.cl_source.specs.Seen.{IsTooLarge}
 use Rattle.cl_program.specs.Asking.{Wanted}
 use Rattle.cl_program.specs.Files.{Giving, IsText, IsNoText, IsUnreadable, LacksText}
-use Rattle.cl_program.specs.Outputs.{BreaksOff, EndsWith, Outputs, Prints, Stream, WritesNothing}
-use Rattle.cl_program.specs.Serving.{ByWorkers, IsUnserved}
+use Rattle.cl_program.specs.Outputs.{BreaksOff, Ended, OutcomeOf, Outputs, Stream, WritesNothing}
+use Rattle.cl_program.specs.Serving.{AreLinesBy, ByWorkers, IsUnserved}
 use Rattle.cl_program.specs.declared.fault.Fault.{Fault}
 use Rattle.cl_program.specs.declared.fault.Fault.TheVariants.{Write, TooLarge, NotUtf8, Config, Script, Serve, Threads, Path, Memory}
 use Rattle.cl_program.specs.declared.limits.TheConstants.{MOST_INPUT_BYTES}
@@ -48,23 +47,27 @@ LacksScript gives config path fault = LacksText gives path fault
 abbrev pub IsServedOver : ℕ → Configured → Scripted → Report → Type 0
 IsServedOver workers config script r = ByWorkers workers (IsServedInOrder None config script r) (IsServed None config script r)
 
--- the lines of a report of the script under the configuration that the files give
-pub record AreLinesFrom (gives : List ℕ → Giving) (w : Wanted) (lines : List ℕ) : Type 0 where
-  pub config : Configured
-  pub script : Scripted
-  pub report : Report
-  pub configured : IsConfigAt (gives w.config) (Ok config)
-  pub scripted : IsScriptAt (gives w.script) config (Ok script)
-  pub served : IsServedOver w.options.workers config script report
-  pub are : lines ≡ report_lines (names_of config) w.options.answers report.history report.answers
-
--- ---- how a run ends
-
 -- the configuration was read, and this holds under it
 pub record IsUnder (gives : List ℕ → Giving) (w : Wanted) (P : Configured → Type 0) : Type 0 where
   pub config : Configured
   pub configured : IsConfigAt (gives w.config) (Ok config)
   pub holds : P config
+
+-- the configuration and then the script were read, and this holds of both
+abbrev pub IsUnderBoth : (List ℕ → Giving) → Wanted → (Configured → Scripted → Type 0) → Type 0
+IsUnderBoth gives w P =
+    IsUnder gives w
+    (λ config. (script : Scripted) × IsScriptAt (gives w.script) config (Ok script)
+    × P config script)
+
+-- the lines of a report of the script under the configuration that the files give
+abbrev pub AreLinesFrom : (List ℕ → Giving) → Wanted → List ℕ → Type 0
+AreLinesFrom gives w lines =
+    IsUnderBoth gives w
+    (λ config script. AreLinesBy (IsServedOver w.options.workers config script) config
+    w.options.answers lines)
+
+-- ---- how a run ends
 
 -- this holds of the configuration's file, or of the script's once the configuration was read
 abbrev pub IsOfOne : (List ℕ → Giving) → Wanted → (Giving → Type 0) → Type 0
@@ -76,7 +79,7 @@ IsUnreadPath gives w path = ((path ≡ w.config) × IsUnreadable (gives w.config
 
 -- the configuration and then the script were read, and the script was not served for this reason
 abbrev pub IsUnservedUnder : (List ℕ → Giving) → Wanted → Fault → Type 0
-IsUnservedUnder gives w f = IsUnder gives w (λ config. (script : Scripted) × IsScriptAt (gives w.script) config (Ok script) × IsUnserved w.options.workers f)
+IsUnservedUnder gives w f = IsUnderBoth gives w (λ config script. IsUnserved w.options.workers f)
 
 -- when a run ends by a fault, and what is on its output; that a write was refused, or that memory was wanting,
 -- is taken at its word
@@ -94,8 +97,7 @@ EndsFrom gives w out _ = ⊥
 
 -- what running a script answers, and what is on its output
 abbrev pub ScriptRunOf : (List ℕ → Giving) → Wanted → Stream → Result (Unit {0}) Fault → Type 0
-ScriptRunOf gives w out (Ok x) = Prints (AreLinesFrom gives w) out
-ScriptRunOf gives w out (Err fault) = EndsFrom gives w out fault
+ScriptRunOf gives w = OutcomeOf (AreLinesFrom gives w) (EndsFrom gives w)
 
 -- no seed could be drawn, which is taken at its word: nothing is written, and the configuration's path is told as unread
 abbrev pub IsSeedless : Wanted → Stream → Result (Unit {0}) Fault → Type 0
@@ -107,10 +109,8 @@ abbrev pub IsRunOf : (List ℕ → Giving) → Wanted → Stream → Result (Uni
 IsRunOf gives w out outcome = ScriptRunOf gives w out outcome ⊎ IsSeedless w out outcome
 
 -- a script was run, or a fault ended it, and the exit status and both outputs say so
-pub record IsScriptRun (gives : List ℕ → Giving) (w : Wanted) (outputs : Outputs) (status : ℕ) : Type 0 where
-  pub outcome : Result (Unit {0}) Fault
-  pub ran : IsRunOf gives w outputs.out outcome
-  pub told : EndsWith outputs.err status outcome
+abbrev pub IsScriptRun : (List ℕ → Giving) → Wanted → Outputs → ℕ → Type 0
+IsScriptRun gives w = Ended (IsRunOf gives w)
 
 -- ---- its steps
 

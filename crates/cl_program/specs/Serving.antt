@@ -1,8 +1,9 @@
 -- What so many workers make of a script, and why they make no report of it (JVMS SE 8, 5.3).
-use Rattle.std.specs.Prelude.{◌≡◌, ℕ, Option}
+use Rattle.std.specs.Prelude.{◌≡◌, ℕ, Bool, List, Option}
 use Rattle.cl_model.specs.Content.{Content}
-use Rattle.cl_config.specs.Views.{Configured, Scripted}
+use Rattle.cl_config.specs.Views.{Configured, Scripted, names_of}
 use Rattle.cl_registry.specs.declared.report.Report.{Report}
+use Rattle.cl_report.specs.Report.{report_lines}
 use Rattle.cl_schedule.specs.Counting.{faults}
 use Rattle.cl_schedule.specs.Headline.{IsServedInOrder}
 use Rattle.cl_schedule.specs.Serving.{reported}
@@ -34,3 +35,10 @@ abbrev pub IsUnserved : ℕ → Fault → Type 0
 IsUnserved workers (Serve wrong) = (workers ≡ 1) × (wrong ≡ serve.Memory)
 IsUnserved workers (Threads wrong) = ¬ (workers ≡ 1) × FailsBy workers wrong
 IsUnserved workers _ = ⊥
+
+-- the lines of a report that was made so under a configuration, or those of its answers alone
+pub record AreLinesBy (MadeSo : Report → Type 0) (config : Configured) (only_answers : Bool)
+    (lines : List ℕ) : Type 0 where
+  pub report : Report
+  pub served : MadeSo report
+  pub are : lines ≡ report_lines (names_of config) only_answers report.history report.answers

@@ -1,6 +1,6 @@
 //! The report of a bundle.
 
-ghost use Rattle.std.specs.Prelude.{◌≡◌, IfOk, IfErr, Some, length};
+ghost use Rattle.std.specs.Prelude.{IfOk, IfErr, Some, length, IsOkUnless};
 ghost use Rattle.cl_config.specs.Scripts.{HasLoaders};
 ghost use Rattle.cl_model.specs.Content.{Tells};
 ghost use Rattle.cl_registry.specs.Reports.{IsNamed};
@@ -117,7 +117,7 @@ fn serve_alone<T: Told>(
     requires tells { Tells T.told source }
     requires loaders { HasLoaders (length config.value.loaders) script.value.requests }
     ensures served { IfOk result (IsServedAlone T.told config.value script.value) }
-    ensures no_stray { IfErr result (λ e. e ≡ ServeFault.Memory) }
+    ensures no_stray { IsOkUnless result ServeFault.Memory }
 {
     let mut source = source.tell::<T>();
     serve_one::<T, _>(alloc, config, &mut source, script)

@@ -1,6 +1,6 @@
 //! A script, run under a configuration over the directories of its loaders.
 
-ghost use Rattle.std.specs.Prelude.{◌≡◌, None, IfOk, IfErr, length};
+ghost use Rattle.std.specs.Prelude.{None, IfOk, IfErr, length, IsOkUnless};
 ghost use Rattle.cl_config.specs.Scripts.{HasLoaders};
 ghost use Rattle.cl_registry.specs.Reports.{IsNamed};
 ghost use Rattle.cl_program.specs.Asking.{wanted_of};
@@ -31,7 +31,7 @@ pub trait OpenDirectories {
 
     /// The source of these directories. Only memory refuses it.
     fn open(&self, alloc: Global, config: &Config) -> Result<Self::Opened, SourceFault>
-        ensures { IfErr result (λ e. e ≡ SourceFault.Memory) };
+        ensures { IsOkUnless result SourceFault.Memory };
 }
 
 impl OpenDirectories for HostRuntime {

@@ -1,6 +1,7 @@
 //! What the program reads and draws for a run: its input, and a seed.
 
-ghost use Rattle.std.specs.Prelude.{◌≡◌, ◌<◌, length, IfOk, IfErr, IfSome, Err, string_bytes};
+ghost use Rattle.std.specs.Prelude.{◌≡◌, IfOk, IfErr, IfSome, Err, string_bytes};
+ghost use Rattle.cl_streams.specs.Reading.{GivesOver};
 ghost use Rattle.cl_program.specs.Files.{AreNoText};
 ghost use Rattle.cl_program.specs.Faults.{IsInputFault, input_fault};
 ghost use Rattle.cl_program.specs.Runs.{IsInput};
@@ -18,7 +19,7 @@ use std::random::RandomSource;
 pub(crate) fn read_text<I: Read + Drop>(alloc: Global, mut input: I) -> Result<String, Fault>
     ensures ok { IfOk result (λ t. IsInput (I.remaining input) (string_bytes t)) }
     ensures large { result ≡ Err Fault.TooLarge
-        → IfSome (I.remaining input) (λ bytes. MOST_INPUT_BYTES < length bytes) }
+        → GivesOver (I.remaining input) MOST_INPUT_BYTES }
     ensures not_text { result ≡ Err Fault.NotUtf8
         → IfSome (I.remaining input) (λ bytes. AreNoText bytes) }
     ensures faults { IfErr result IsInputFault }

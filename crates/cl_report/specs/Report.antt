@@ -1,15 +1,14 @@
 -- The lines of a report.
 use Rattle.std.specs.Prelude.{ℕ, Bool, List, [], ◌∷◌, ◌++◌, if◌then◌else◌}
 use Rattle.std.specs.List.{enumerate_from, flat_map}
-use Rattle.std.specs.Option.{option_map_or}
 use Rattle.cl_model.specs.declared.event.Event.{Event}
 use Rattle.cl_model.specs.declared.answer.Answer.{Answer}
-use Rattle.cl_model.specs.Lines.{line, ended, answer_line}
+use Rattle.cl_model.specs.Lines.{ended, answer_line, step_line}
 use Rattle.cl_model.specs.Views.{answer_of, step_of}
 
 -- the line of the step that an event tells, where it has one; a post has none, whatever its answer
 abbrev pub event_line : List (List ℕ) → Event → List ℕ
-event_line loaders event = option_map_or ended (line loaders (step_of [] event)) []
+event_line loaders event = step_line loaders (step_of [] event)
 
 -- the line of each event in turn
 abbrev pub history_lines : List (List ℕ) → List Event → List ℕ

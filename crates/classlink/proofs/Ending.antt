@@ -39,7 +39,7 @@ pub lacking_run : (input : Option (List ℕ)) (options : Options) (o : Outputs) 
 lacking_run input options o status l = record { outcome = Err Memory; ran = inl (l.nothing, tt); told = l.told }
 
 pub lacking_reading : (gives : Giving) (path : List ℕ) (o : Outputs) (status : ℕ) → LacksMemory o status → IsReading gives path o status
-lacking_reading gives path o status l = record { outcome = Err Memory; read = inl (l.nothing, tt); told = l.told }
+lacking_reading gives path o status l = record { outcome = Err Memory; ran = inl (l.nothing, tt); told = l.told }
 
 pub lacking_script : (gives : List ℕ → Giving) (w : Wanted) (o : Outputs) (status : ℕ) → LacksMemory o status → IsScriptRun gives w o status
 lacking_script gives w o status l = record { outcome = Err Memory; ran = inl (inl (l.nothing, tt)); told = l.told }

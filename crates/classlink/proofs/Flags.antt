@@ -25,7 +25,7 @@ use Rattle.cl_program.specs.Asking.{AsksForBundle, AsksForFile, AsksForRun, Want
 use Rattle.cl_program.specs.declared.asked.Asked.{Asked}
 use Rattle.cl_program.specs.declared.asked.Asked.TheVariants.{Bundle, Read, Run}
 use Rattle.cl_program.specs.declared.asked.Options.{Options}
-use Rattle.classlink.specs.CommandLine.{Answers, AreOptions, AreWordsOf, AskFor, AskToRead, AskToRun, Dashes, End, HasFlag, HasOptions, IsAsked, IsCount, IsCountOf, IsNamed, IsToRead, IsToRun, Workers, file_of, is_plain_word, named_file, program, wrong_words}
+use Rattle.classlink.specs.CommandLine.{Answers, AreOptions, AreWordsOf, AskFor, AskToRead, AskToRun, Dashes, End, HasFlag, HasOptions, IsAsked, IsCount, IsCountOf, IsNamed, IsToRead, IsToRun, Workers, file_of, is_plain_word, named_file, program, wrong_words, text_at}
 use Rattle.classlink.proofs.Orders.{AreFull, Ends, PassesCount, answers_row, full_at_end, leads_on, right_at_end, workers_row}
 use Rattle.classlink.proofs.Steps.{IsNoFlag, finds_at, idle_at, no_flag, passes_to}
 use Rattle.cl_pool.specs.declared.limits.TheConstants.{MOST_WORKERS}
@@ -86,7 +86,7 @@ entered_at words = entered (built program) (stop_after (built program).top.rules
 
 -- what is found for the options
 abbrev HasTexts : Option Text → Bool → Option (Text × List Row) → Type 0
-HasTexts count answers entered = HasFlag entered answers × (option_and_then (λ p. one_of (codes "workers") p.1) entered ≡ Some (count_text count))
+HasTexts count answers entered = HasFlag entered answers × (text_at entered (codes "workers") ≡ Some (count_text count))
 
 -- the words of `bundle` pass, and the options are found in them
 abbrev IsBundle : Option Text → Bool → List Text → Type 0
@@ -120,7 +120,7 @@ same_options a b w f =
 -- the options that were found are those that the words have
 options_are : (count : Option Text) (words : List Text) (o given : Options) → IsCountOf count o.workers → HasTexts count o.answers (entered_at words) → HasOptions (entered_at words) given → given ≡ o
 options_are count words o given is found has =
-    same_options given o (has.workers o.workers (record { text = count_text count; found = found.1; spells = spells_count count o.workers is })) (has.answers o.answers found.0)
+    same_options given o (has.workers (count_text count) o.workers found.1 (spells_count count o.workers is)) (has.answers o.answers found.0)
 
 -- ---- a path among the words
 
@@ -255,13 +255,13 @@ text_in id text f (Some p) e h = one_text-rows f id ∙ ap (one_of id) (sym (sam
 -- the options that are found for a subcommand's arguments are its options
 pub are_its : (f : Found) (o : Option (Text × List Row)) (given : Options) → option_map (λ p. p.1) o ≡ Some (rows_of f) → AreOptions f given → HasOptions o given
 are_its f o given e are = record {
-  workers = λ n has. are.workers has.text n (text_in (codes "workers") has.text f o e has.found) has.spells;
+  workers = λ text n has spells. are.workers text n (text_in (codes "workers") text f o e has) spells;
   answers = λ b has. are.answers b (text_in (codes "answers") (bool_text b) f o e has);
 }
 
 -- there is no subcommand
 pub has_none : (o : Option (Text × List Row)) (given : Options) → o ≡ None → HasOptions o given
-has_none None given e = record { workers = λ n has. absurd (none_is has.found); answers = λ b has. absurd (none_is has) }
+has_none None given e = record { workers = λ text n has spells. absurd (none_is has); answers = λ b has. absurd (none_is has) }
   where
     none_is : {A : Type 0} {x : A} → None ≡ Some x → ⊥
     none_is e = cc

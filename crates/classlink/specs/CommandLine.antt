@@ -91,26 +91,27 @@ pub data AreWordsOf : List (List ℕ) → Option (List ℕ) → Bool → List (L
       → AreWordsOf paths count false words → AreWordsOf paths count true (codes "--answers" ∷ words)
   Dashes : (paths : List (List ℕ)) → AreWordsOf paths None false (codes "--" ∷ paths)
 
--- the words, of which the first is the program's name, ask for a bundle's report with these options
-pub record AskFor (words : List (List ℕ)) (o : Options) : Type 0 where
+-- the words, of which the first is the program's name, are this subcommand, these paths and the
+-- options
+pub record AskBy (subcommand : List ℕ) (paths words : List (List ℕ)) (o : Options) : Type 0 where
   pub count : Option (List ℕ)
   pub counts : IsCountOf count o.workers
   pub rest : List (List ℕ)
-  pub spelled : AreWordsOf [] count o.answers rest
-  pub are : drop 1 words ≡ codes "bundle" ∷ rest
+  pub spelled : AreWordsOf paths count o.answers rest
+  pub are : drop 1 words ≡ subcommand ∷ rest
+
+-- the words ask for a bundle's report with these options
+abbrev pub AskFor : List (List ℕ) → Options → Type 0
+AskFor words o = AskBy (codes "bundle") [] words o
 
 -- the words, of which the first is the program's name, ask for the lines of the file at a path, which is plain or stands behind `--`
 abbrev pub AskToRead : List (List ℕ) → List ℕ → Type 0
 AskToRead words path =
     ((drop 1 words ≡ codes "read" ∷ path ∷ []) × (is_plain_word path ≡ true)) ⊎ (drop 1 words ≡ codes "read" ∷ codes "--" ∷ path ∷ [])
 
--- the words, of which the first is the program's name, ask so for a script's run
-pub record AskToRun (words : List (List ℕ)) (w : Wanted) : Type 0 where
-  pub count : Option (List ℕ)
-  pub counts : IsCountOf count w.options.workers
-  pub rest : List (List ℕ)
-  pub spelled : AreWordsOf (w.config ∷ w.script ∷ []) count w.options.answers rest
-  pub are : drop 1 words ≡ codes "run" ∷ rest
+-- the words ask so for a script's run
+abbrev pub AskToRun : List (List ℕ) → Wanted → Type 0
+AskToRun words w = AskBy (codes "run") (w.config ∷ w.script ∷ []) words w.options
 
 -- ---- what is asked for, by the subcommand that `clap` finds and what it finds for its arguments
 
@@ -134,25 +135,27 @@ named_file name entered = unwrap_or (option_and_then (λ p. first_of name p.1) e
 abbrev pub file_of : Option (Text × List Row) → Text
 file_of entered = named_file (codes "FILE") entered
 
+-- the one text of an argument of this name
+abbrev pub text_at : Option (Text × List Row) → List ℕ → Option Text
+text_at entered name = option_and_then (λ p. one_of name p.1) entered
+
 -- the flag `--answers` is `true` or `false`
 abbrev pub HasFlag : Option (Text × List Row) → Bool → Type 0
-HasFlag entered b = option_and_then (λ p. one_of (codes "answers") p.1) entered ≡ Some (bool_text b)
+HasFlag entered b = text_at entered (codes "answers") ≡ Some (bool_text b)
 
--- `--workers` is a text that spells this count
-pub record HasWorkers (entered : Option (Text × List Row)) (n : ℕ) : Type 0 where
-  pub text : List ℕ
-  pub found : option_and_then (λ p. one_of (codes "workers") p.1) entered ≡ Some text
-  pub spells : IsCount text n
+-- these are the options, where each argument has this text
+pub record OptionsBy (text_of : List ℕ → Option Text) (o : Options) : Type 0 where
+  pub workers : (text : List ℕ) (n : ℕ) → text_of (codes "workers") ≡ Some text → IsCount text n
+      → o.workers ≡ n
+  pub answers : (b : Bool) → text_of (codes "answers") ≡ Some (bool_text b) → o.answers ≡ b
 
--- these are its options
-pub record HasOptions (entered : Option (Text × List Row)) (o : Options) : Type 0 where
-  pub workers : (n : ℕ) → HasWorkers entered n → o.workers ≡ n
-  pub answers : (b : Bool) → HasFlag entered b → o.answers ≡ b
+-- these are the options of the subcommand
+abbrev pub HasOptions : Option (Text × List Row) → Options → Type 0
+HasOptions entered o = OptionsBy (text_at entered) o
 
 -- these are the options of a subcommand, by what is found for its arguments
-pub record AreOptions (f : Found) (o : Options) : Type 0 where
-  pub workers : (text : List ℕ) (n : ℕ) → one_text f (codes "workers") ≡ Some text → IsCount text n → o.workers ≡ n
-  pub answers : (b : Bool) → one_text f (codes "answers") ≡ Some (bool_text b) → o.answers ≡ b
+abbrev pub AreOptions : Found → Options → Type 0
+AreOptions f o = OptionsBy (one_text f) o
 
 -- the subcommand is neither `read` nor `run`
 pub record IsForBundle (entered : Option (Text × List Row)) : Type 0 where

@@ -1,6 +1,6 @@
 -- What becomes of a class file on its way through reader, writer, listing and assembler.
 use Rattle.std.specs.Prelude.{◌≡◌, ℕ, List, Ok, Err}
-use Rattle.cl_lines.specs.Lines.{stated_from}
+use Rattle.cl_lines.specs.Lines.{stated_lines}
 use Rattle.cl_classfile.specs.Structure.{Structure}
 use Rattle.cl_classfile.specs.Reading.{read_of}
 use Rattle.cl_writer.specs.Assembled.{AssembleOf}
@@ -16,7 +16,7 @@ use Rattle.classlink_corpus.specs.declared.round.Outcome.TheVariants.{
 -- the listing of a file is assembled to a file with the same listing
 abbrev pub ListsAgain : Structure → Type 0
 ListsAgain f =
-    (g : Structure) × AssembleOf (stated_from 1 (listing_of f)) (Ok g)
+    (g : Structure) × AssembleOf (stated_lines (listing_of f)) (Ok g)
     × (listing_of g ≡ listing_of f)
 
 -- what is said of the bytes of a file (JVMS SE 8, 4.1)

@@ -1,6 +1,7 @@
 //! The way of a class file through reader, writer, listing and assembler.
 
-ghost use Rattle.std.specs.Prelude.{◌≡◌, Bool, IfOk, MatchBool, true};
+ghost use Rattle.std.specs.Prelude.{◌≡◌, Bool, IfOk, true};
+ghost use Rattle.cl_names.specs.Truth.{Decides};
 ghost use Rattle.cl_classfile.specs.Structure.{Spells};
 ghost use Rattle.classlink_corpus.specs.Rounds.{ListsAgain, OutcomeOf};
 
@@ -52,8 +53,7 @@ fn is_written_as(alloc: Global, file: &ClassFile, bytes: &[u8]) -> Result<bool, 
 
 /// Whether the listing of a file is assembled to one that lists the same.
 fn lists_again(alloc: Global, file: &ClassFile) -> Result<bool, AllocError>
-    ensures { IfOk result (λ again. MatchBool again (ListsAgain file.now) (ListsAgain file.now
-        → ⊥)) }
+    ensures { IfOk result (λ again. Decides again (ListsAgain file.now)) }
 {
     assembles_to_one_answer();
     let text = listing(alloc, file)?;
@@ -68,7 +68,7 @@ fn lists_again(alloc: Global, file: &ClassFile) -> Result<bool, AllocError>
 }
 
 fn is_same(text: &str, other: &str) -> bool
-    ensures { MatchBool result (text.now ≡ other.now) (text.now ≡ other.now → ⊥) }
+    ensures { Decides result (text.now ≡ other.now) }
 {
     text == other
 }

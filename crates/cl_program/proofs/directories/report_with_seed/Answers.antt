@@ -9,15 +9,15 @@ use Rattle.cl_program.proofs.directories.report_with_seed.Goals as goal
 
 pub returns-in_err-script : goal.returns-in_err-script
 returns-in_err-script g c =
-    script_wrong _ _ _ c.from_residual-in_err-script.result c.in_err-script.field-0.0 c.from_residual-in_err-script.ensures.1
+    script_wrong (g.F.ReadFile.gives c.args.files.now) (wanted_of c.args.words) _ c.from_residual-in_err-script.result c.in_err-script.field-0.0 c.from_residual-in_err-script.ensures.1
     (by_script (g.F.ReadFile.gives c.args.files.now) (wanted_of c.args.words) _ _ c.in_err-script.field-0.0 c.in_ok-config_at.ensures.ok (rw c.with_seed-config.ensures at c.in_err-script.ensures.err))
 
 pub returns-in_err-script-2 : goal.returns-in_err-script-2
-returns-in_err-script-2 g c = script_wrong _ _ _ c.from_residual-in_err-script-2.result Memory c.from_residual-in_err-script-2.ensures.1 (by_memory _ _ _)
+returns-in_err-script-2 g c = script_wrong (g.F.ReadFile.gives c.args.files.now) (wanted_of c.args.words) _ c.from_residual-in_err-script-2.result Memory c.from_residual-in_err-script-2.ensures.1 (by_memory (g.F.ReadFile.gives c.args.files.now) (wanted_of c.args.words) _)
 
 pub returns-in_err-report : goal.returns-in_err-report
 returns-in_err-report g c =
-    script_wrong _ _ _ c.from_residual-in_err-report.result c.in_err-report.field-0.0 c.from_residual-in_err-report.ensures.1
+    script_wrong (g.F.ReadFile.gives c.args.files.now) (wanted_of c.args.words) _ c.from_residual-in_err-report.result c.in_err-report.field-0.0 c.from_residual-in_err-report.ensures.1
     (by_service (g.F.ReadFile.gives c.args.files.now) (wanted_of c.args.words) _ _ _ c.in_err-report.field-0.0 c.in_ok-config_at.ensures.ok (rw c.with_seed-config.ensures at c.in_ok-script.ensures.ok) c.in_err-report.ensures.unserved)
 
 pub print_report-requires-clause-answers : goal.print_report-requires-clause-answers
@@ -32,5 +32,13 @@ returns-in_err-print_report g c =
     let seen : c.deref.result.now ≡ c.in_ok-config_at.field-0 = cc (c.deref.ensures, c.in_ok-loaders.ensures, held) in
     let scripted = rw c.with_seed-config.ensures at c.in_ok-script.ensures.ok in
     let lines = lines_from (g.F.ReadFile.gives c.args.files.now) (wanted_of c.args.words) _ _ _ _ _ c.in_ok-report.report _ c.in_ok-config_at.ensures.ok scripted held c.in_ok-script-2.ensures.ok c.in_ok-report.ensures.served c.names-names.ensures seen in
-    script_wrong _ _ _ c.from_residual-in_err-print_report.result (print_fault c.in_err-print_report.field-0.0) c.from_residual-in_err-print_report.ensures.1
-    (by_printing _ _ _ _ c.in_err-print_report.field-0.0 lines c.in_err-print_report.ensures.part)
+    script_wrong (g.F.ReadFile.gives c.args.files.now) (wanted_of c.args.words) _ c.from_residual-in_err-print_report.result (print_fault c.in_err-print_report.field-0.0) c.from_residual-in_err-print_report.ensures.1
+    (by_printing (g.F.ReadFile.gives c.args.files.now) (wanted_of c.args.words) _ _ c.in_err-print_report.field-0.0 lines c.in_err-print_report.ensures.part)
+
+pub returns : goal.returns
+returns g c =
+    let held : c.in_ok-config.config.value ≡ c.in_ok-config_at.field-0 = c.in_ok-config.ensures.ok ∙ c.with_seed-config.ensures in
+    let seen : c.deref.result.now ≡ c.in_ok-config_at.field-0 = cc (c.deref.ensures, c.in_ok-loaders.ensures, held) in
+    let scripted = rw c.with_seed-config.ensures at c.in_ok-script.ensures.ok in
+    let lines = lines_from (g.F.ReadFile.gives c.args.files.now) (wanted_of c.args.words) _ _ _ _ _ c.in_ok-report.report _ c.in_ok-config_at.ensures.ok scripted held c.in_ok-script-2.ensures.ok c.in_ok-report.ensures.served c.names-names.ensures seen in
+    record { lines = _; are = lines; whole = c.in_ok-print_report.ensures.lines }

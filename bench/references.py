@@ -21,9 +21,11 @@
   comb          1,000 interfaces over one another, each of which names another first that names none; the last is linked
   fringe        the same, each of which names the other last
   twos          2,000 interfaces, each of which names the two before it, the farther first; the last is linked
+  combs         comb, the lower half of one loader and the upper of another, each interface with one method
+  blocks        2,000 classes over one another, in blocks of 63 loaders, each with the same method; the last is linked
 
-and of overriding, plain, topped, distinct, many, inherited, naming, interfaces, beside, comb, fringe, twos and repeated one more with
-so many classes that it has about a megabyte, as plain_mb.
+and of overriding, plain, topped, distinct, many, inherited, naming, interfaces, beside, comb, fringe, twos, combs, blocks and repeated
+one more with so many classes that it has about a megabyte, as plain_mb.
 
 Each is a bundle: classlink bundle < FILE.
 """
@@ -211,14 +213,42 @@ def twos(path, count=2000):
     bundle(path, TWO, classes, [f"link app p/S{count - 1}\n"])
 
 
+def below_one_another(count):
+    """Loaders, each the parent of the next."""
+    names = ["boot", *(f"l{n}" for n in range(1, count))]
+    tables = (f'[[loader]]\nname = "{name}"\n' + (f'parent = "{above}"\n' if above else "") for name, above in zip(names, ["", *names]))
+    return names, "".join(tables)
+
+
+def combs(path, count=1000):
+    classes, above, method = [TOP], [], ["method 0401 m ()V"]
+    for n in range(count):
+        loader = "boot" if n < count // 2 else "app"
+        classes.append(with_lines(section(loader, f"p/T{n}", flags="0601"), method))
+        classes.append(with_lines(section(loader, f"p/S{n}", interfaces=[f"p/T{n}", *above], flags="0601"), method))
+        above = [f"p/S{n}"]
+    bundle(path, TWO, classes, [f"link app p/S{count - 1}\n"])
+
+
+def blocks(path, count=2000):
+    loaders, config = below_one_another(63)
+    names = [f"p/C{n}" for n in range(count)]
+    method = ["method 0001 m (Lp/T;)V"]
+    classes = [
+        with_lines(section(loaders[n * len(loaders) // count], name, above), method)
+        for n, (name, above) in enumerate(zip(names, [OBJECT, *names]))
+    ]
+    bundle(path, config, [TOP, *classes], [f"link {loaders[-1]} {names[-1]}\n"])
+
+
 def main(folder):
     os.makedirs(folder, exist_ok=True)
     references = methods, settled, constraints, refused
-    chains = overriding, repeated, plain, topped, wide, distinct, many, inherited, naming, interfaces, beside, comb, fringe, twos
+    chains = overriding, repeated, plain, topped, wide, distinct, many, inherited, naming, interfaces, beside, comb, fringe, twos, combs, blocks
     for make in *references, ladder, links, *chains:
         make(f"{folder}/{make.__name__}")
     counts = {overriding: 15000, plain: 22000, topped: 22000, distinct: 15000, many: 1000, inherited: 14000, naming: 17000}
-    for make, count in {**counts, interfaces: 14000, beside: 7000, comb: 6500, fringe: 6500, twos: 11000, repeated: 7500}.items():
+    for make, count in {**counts, interfaces: 14000, beside: 7000, comb: 6500, fringe: 6500, twos: 11000, combs: 5000, blocks: 14000, repeated: 7500}.items():
         make(f"{folder}/{make.__name__}_mb", count)
 
 

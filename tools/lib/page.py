@@ -57,7 +57,7 @@ def of_one(crate):
             where = f"`{function}`, in `{place}`" if place else f"`{function}`"
             rows.setdefault(function, []).append((where, f"`{name}`", edit.says or edit.name.replace("_", " ")))
         else:
-            further.setdefault(place, []).append(f"{name}{f' ({edit.says})' if edit.says else ''}")
+            further.setdefault(place, []).append((f"`{place}`", f"`{name}`", edit.says or edit.name.replace("_", " ")))
     lines = ["", f"## {crate.name}", ""]
     if "*" in reasons:
         lines += [f"None: {reasons.pop('*')}.", ""]
@@ -68,8 +68,8 @@ def of_one(crate):
         lines += ["| public function | edit | what the wrong body does |", "|---|---|---|"]
         lines += [f"| {' | '.join(it)} |" for function in order for it in rows.get(function, [])]
     if further:
-        told = "; ".join(f"`{place}`: {', '.join(sorted(names))}" for place, names in sorted(further.items()))
-        lines += ["", f"Further edits, by the place that they change. {told}."]
+        lines += ["", "| further place | edit | what the wrong body does |", "|---|---|---|"]
+        lines += [f"| {' | '.join(it)} |" for place in sorted(further) for it in sorted(further[place])]
     bare = [f"`{it}`" for it in lacking(crate)]
     if bare:
         lines += ["", f"**Public functions without an edit**: {', '.join(bare)}."]

@@ -18,7 +18,7 @@ from dataclasses import dataclass, field
 
 import kit
 from costs import lines_in
-from edits import grouped, of_crate, together
+from edits import are_apart, grouped, of_crate, together
 from reach import Reach
 
 # What a group's check may take, in seconds of processor: so much to load and to prove what its functions call, and so much for each edit.
@@ -199,16 +199,13 @@ def first_and_others(edits):
 
 
 def parts(edits, most, least):
-    """The edits in so many parts at the most, of so many edits at the least, each with all edits of its functions: a check takes over
-    what those before it in its part proved of them."""
-    found = []  # functions, and the edits of these
-    for edit in edits:
-        joined = [it for it in found if it[0] & edit.functions]
-        found = [it for it in found if not it[0] & edit.functions]
-        found.append((edit.functions.union(*(it[0] for it in joined)), [edit, *(other for it in joined for other in it[1])]))
+    """The edits in so many parts at the most, of so many edits at the least. Those that one check cannot tell apart, as all of one
+    function, go to different parts as far as there are enough: in one part each of them takes a check more."""
     given = [[] for _ in range(max(1, min(most, len(edits) // least)))]
-    for _, those in sorted(found, key=lambda it: -len(it[1])):
-        min(given, key=len).extend(those)
+    for group in sorted(grouped(edits), key=len):
+        for edit in group:
+            near = [sum(not are_apart(edit, it) for it in part) for part in given]
+            min(zip(near, map(len, given), given), key=lambda it: it[:2])[2].append(edit)
     return given
 
 

@@ -11,13 +11,11 @@ use Rattle.std.specs.Prelude.{
   ◌&&◌,
   is_some,
   nat_lt,
-  nat_eq,
   if◌then◌else◌,
   List,
   [],
   ◌∷◌,
   length,
-  position,
   codes,
   Option,
   Some,
@@ -28,7 +26,6 @@ use Rattle.std.specs.Prelude.{
   IfSome,
   All,
 }
-use Rattle.std.specs.Cmp.Lexicographic.{pointwise}
 use Rattle.std.specs.Option.{ok_or}
 use Rattle.toml.specs.Data.{as_array, as_table, Items, no_items, item, Members, get_member}
 use Rattle.toml.specs.Parse.{parse_document}
@@ -44,7 +41,7 @@ use Rattle.cl_config.specs.Steps.{◌>>=◌}
 use Rattle.cl_config.specs.Fields.{is_one_of, has_only, list_from}
 use Rattle.cl_config.specs.Entries.{Entry, EntryImport, entries_of}
 use Rattle.cl_model.specs.Homes.{Import}
-use Rattle.cl_config.specs.Views.{Configured, Loader}
+use Rattle.cl_config.specs.Views.{Configured, Loader, first_named}
 use Rattle.cl_config.specs.declared.limits.TheConstants.{MOST_LOADERS}
 
 -- ---- the top of the document
@@ -86,7 +83,7 @@ top_of ms = do
 
 -- the first loader of this name
 abbrev pub place_of : List Entry → List ℕ → Option ℕ
-place_of entries name = position (λ e. pointwise nat_eq e.name name) entries
+place_of = first_named (λ e. e.name)
 
 -- a place, where it is that of an earlier loader than i
 abbrev pub earlier : ℕ → Option ℕ → Result ℕ ConfigFault

@@ -22,9 +22,13 @@ pub record Configured : Type 0 where
 abbrev pub names_of : Configured → List (List ℕ)
 names_of c = map (λ l. l.name) c.loaders
 
--- the first loader of this name, among the names of all in order, counted from 0 (5.3)
+-- the first of these that has this name, counted from 0 (5.3)
+abbrev pub first_named : {A : Type 0} → (A → List ℕ) → List A → List ℕ → Option ℕ
+first_named name_of xs word = position (λ x. pointwise nat_eq (name_of x) word) xs
+
+-- the first loader of this name, among the names of all in order (5.3)
 abbrev pub loader_named : List (List ℕ) → List ℕ → Option ℕ
-loader_named names word = position (λ name. pointwise nat_eq name word) names
+loader_named = first_named (λ name. name)
 
 -- the requests in order, the round of each, counted from 0, and how many rounds there are; a round
 -- may be empty

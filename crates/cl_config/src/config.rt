@@ -1,13 +1,12 @@
 //! The configuration that a text is.
 
-ghost use Rattle.std.specs.Prelude.{◌≡◌, ◌<◌, ◌≤◌, ◌++◌, [], ◌∷◌, length, map, string_bytes, slice_get, position, nat_eq, is_some, All, IfOk, IfSome};
+ghost use Rattle.std.specs.Prelude.{◌≡◌, ◌<◌, ◌≤◌, ◌++◌, [], ◌∷◌, length, map, string_bytes, slice_get, is_some, All, IfOk, IfSome};
 ghost use Rattle.std.specs.List.{list_all};
-ghost use Rattle.std.specs.Cmp.Lexicographic.{pointwise};
 ghost use Rattle.toml.specs.Data.{as_table};
 ghost use Rattle.toml.specs.View.{view, table_view, items_view};
 ghost use Rattle.cl_config.specs.Configs.{top_of, array_at, checked_tables, config_in, config_of, IsConfig, LeadsBelow};
 ghost use Rattle.cl_config.specs.Steps.{Finds, Gives};
-ghost use Rattle.cl_config.specs.Views.{loader_named, names_of};
+ghost use Rattle.cl_config.specs.Views.{first_named, loader_named, names_of};
 ghost use Rattle.cl_names.specs.Truth.{Decides};
 
 use crate::entry::entries_in;
@@ -280,7 +279,7 @@ fn dirs_of(alloc: Global, loaders: &[Loader]) -> Result<Vec<String>, AllocError>
 
 /// The place of the first loader of this name.
 fn place_of(loaders: &[Loader], word: &str) -> Option<usize>
-    ensures found { result ≡ position (λ l. pointwise nat_eq l.name word.now) loaders.now }
+    ensures found { result ≡ first_named (λ l. l.name) loaders.now word.now }
     ensures within { IfSome result (λ place. place < length loaders.now) }
 {
     loaders.iter().position(|loader| loader.name() == word)

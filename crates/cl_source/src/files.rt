@@ -1,13 +1,12 @@
 //! What has files, and gives their bytes.
 
-ghost use Rattle.std.specs.Prelude.{◌≡◌, ◌<◌, ◌≤◌, ◌^◌, ℕ, List, Option, Err, IfOk, length, ⊤};
-ghost use Rattle.cl_streams.specs.Reading.{AreAllOf, GivesOver};
+ghost use Rattle.std.specs.Prelude.{◌<◌, ◌^◌, ℕ, List, IfOk, ⊤};
 ghost use Rattle.cl_source.specs.Seen.{Seen, FileOf, file_seen};
 
-use cl_streams::InputFault;
+use cl_streams::{InputFault, read_limited};
 use std::alloc::{AllocError, Global};
 use std::fs;
-use std::io::{self, ErrorKind, Read};
+use std::io::{self, ErrorKind};
 
 /// What has files, and gives their bytes.
 pub trait ReadFile: Drop {
@@ -70,31 +69,5 @@ fn answer_of(error: &io::Error) -> Result<Option<Vec<u8>>, InputFault>
         ErrorKind::NotFound | ErrorKind::NotADirectory => Ok(None),
         ErrorKind::OutOfMemory => Err(InputFault::Memory),
         _ => Err(InputFault::Unread),
-    }
-}
-
-/// The bytes of an input, read to its end, of which there are at most so many. No more than one byte beyond them is
-/// asked for, and a read that was interrupted is made again. The buffer starts with room for the expected length.
-pub fn read_limited<I: Read + Drop>(
-    alloc: Global,
-    input: I,
-    most: usize,
-    expected: u64,
-) -> Result<Vec<u8>, InputFault>
-    requires { most < 2 ^ 32 }
-    ensures ok { IfOk result (λ v. AreAllOf (I.remaining input) v.items) }
-    ensures small { IfOk result (λ v. length v.items ≤ most) }
-    ensures large { result ≡ Err InputFault.TooLarge
-        → GivesOver (I.remaining input) most }
-{
-    let limit = most as u64 + 1;
-    let room = expected.min(limit);
-    let mut bytes = Vec::with_capacity(alloc, room as usize)?;
-    let mut limited = input.take(limit);
-    match limited.read_to_end(&mut bytes) {
-        Ok(_) if bytes.len() > most => Err(InputFault::TooLarge),
-        Ok(_) => Ok(bytes),
-        Err(error) if error.kind() == ErrorKind::OutOfMemory => Err(InputFault::Memory),
-        Err(_) => Err(InputFault::Unread),
     }
 }

@@ -1,8 +1,7 @@
 //! Reading to the end.
 
-ghost use Rattle.std.specs.Prelude.{◌≡◌, ◌<◌, ◌≤◌, ◌^◌, length, IfOk, IsOkUnless, Err, vec_len};
+ghost use Rattle.std.specs.Prelude.{◌≡◌, ◌<◌, ◌≤◌, ◌^◌, length, IfOk, Err, vec_len};
 ghost use Rattle.cl_streams.specs.Reading.{AreAllOf, GivesOver};
-ghost use Rattle.std.specs.Io.KnownBytes.{ReadConsumes};
 
 use std::alloc::{AllocError, Global};
 use std::io::{ErrorKind, Read};
@@ -27,8 +26,7 @@ impl From<AllocError> for InputFault {
     }
 }
 
-/// The bytes of an input, read to its end, of which there are at most so many. An interrupted read is tried again; of
-/// the others no more are made than one for each byte, and one that finds the end.
+/// The bytes of an input, read to its end, of which there are at most so many, where nothing is known of its length.
 pub fn read_bytes<I: Read>(alloc: Global, input: &mut I, most: usize) -> Result<Vec<u8>, InputFault>
     requires { most < 2 ^ 32 }
     ensures ok { IfOk result (λ v. AreAllOf (I.remaining input.old) v.items) }
@@ -36,34 +34,31 @@ pub fn read_bytes<I: Read>(alloc: Global, input: &mut I, most: usize) -> Result<
     ensures large { result ≡ Err InputFault.TooLarge
         → GivesOver (I.remaining input.old) most }
 {
-    let mut bytes = Vec::new(alloc);
-    let mut chunk = [0u8; 8192];
-    for _ in 0..most + 1 {
-        let count = read_some(input, &mut chunk)?;
-        if count == 0 {
-            return Ok(bytes);
-        }
-        if count > most - bytes.len() {
-            return Err(InputFault::TooLarge);
-        }
-        bytes.extend_from_slice(&chunk[..count])?;
-    }
-    Err(InputFault::TooLarge)
+    read_limited(alloc, input, most, 0)
 }
 
-/// One read, tried again as often as it is interrupted.
-fn read_some<I: Read>(input: &mut I, room: &mut [u8]) -> Result<usize, InputFault>
-    ensures bound { IfOk result (λ count. count ≤ length room.new) }
-    ensures length { length room.new ≡ length room.old }
-    ensures bytes { ReadConsumes (I.remaining input.old) (I.remaining input.new) result room.new }
-    ensures unread { IsOkUnless result InputFault.Unread }
+/// The bytes of an input, read to its end, of which there are at most so many. No more than one byte beyond them is
+/// asked for, and a read that was interrupted is made again. The buffer starts with room for the expected length.
+pub fn read_limited<I: Read + Drop>(
+    alloc: Global,
+    input: I,
+    most: usize,
+    expected: u64,
+) -> Result<Vec<u8>, InputFault>
+    requires { most < 2 ^ 32 }
+    ensures ok { IfOk result (λ v. AreAllOf (I.remaining input) v.items) }
+    ensures small { IfOk result (λ v. length v.items ≤ most) }
+    ensures large { result ≡ Err InputFault.TooLarge
+        → GivesOver (I.remaining input) most }
 {
-    for _ in 0..u64::MAX {
-        match input.read(room) {
-            Ok(count) => return Ok(count),
-            Err(error) if error.kind() == ErrorKind::Interrupted => {}
-            Err(_) => return Err(InputFault::Unread),
-        }
+    let limit = most as u64 + 1;
+    let room = expected.min(limit);
+    let mut bytes = Vec::with_capacity(alloc, room as usize)?;
+    let mut limited = input.take(limit);
+    match limited.read_to_end(&mut bytes) {
+        Ok(_) if bytes.len() > most => Err(InputFault::TooLarge),
+        Ok(_) => Ok(bytes),
+        Err(error) if error.kind() == ErrorKind::OutOfMemory => Err(InputFault::Memory),
+        Err(_) => Err(InputFault::Unread),
     }
-    Err(InputFault::Unread)
 }

@@ -4,5 +4,5 @@
 mod input;
 mod output;
 
-pub use input::{InputFault, read_bytes};
+pub use input::{InputFault, read_bytes, read_limited};
 pub use output::{PrintFault, pass_page, write_out};

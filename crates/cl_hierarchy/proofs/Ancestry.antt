@@ -9,6 +9,7 @@ use Rattle.cl_model.proofs.Complete.{is_class}
 use Rattle.cl_hierarchy.specs.Rows.{Rowed}
 use Rattle.cl_hierarchy.specs.Trees.{AllKnown, SupersBefore, forest, in_front, interfaces_in, kin_named, kin_under, kins_after, superclass_in}
 use Rattle.cl_hierarchy.specs.Lineages.{row_of}
+use Rattle.std.proofs.lemmas.Bool.Decides.{same_from_decides}
 use Rattle.std.proofs.lemmas.Option.{same_Some}
 
 pub kins_push : (known : List Kin) (rows : List Rowed) (r : Rowed) → kins_after known (rows ++ r ∷ []) ≡ kin_under (kins_after known rows) r ∷ kins_after known rows
@@ -25,13 +26,7 @@ pub same_back : (c d : Class) → c ≡ d → same_class d c ≡ true
 same_back c d e = subst (λ (x : Class). same_class x c ≡ true) e (same_self c)
 
 pub same_turned : (c d : Class) → same_class c d ≡ same_class d c
-same_turned c d = at (same_class c d) (same_class d c) refl refl
-  where
-    at : (a b : Bool) → same_class c d ≡ a → same_class d c ≡ b → a ≡ b
-    at true true e f = refl
-    at false false e f = refl
-    at true false e f = absurd (let back : same_class d c ≡ true = same_back c d (is_class c d e) in cc)
-    at false true e f = absurd (let back : same_class c d ≡ true = same_back d c (is_class d c f) in cc)
+same_turned c d = same_from_decides (same_class c d) (same_class d c) (is_class c d, λ e. same_back d c (sym e)) (λ e. sym (is_class d c e), same_back c d)
 
 pub keeps : (known : List Kin) (r : Rowed) (c : Class) (k : Kin) → kin_named known r.class ≡ None → kin_named known c ≡ Some k → kin_named (kin_under known r ∷ known) c ≡ Some k
 keeps known r c k is_new e = at (same_class c r.class) refl

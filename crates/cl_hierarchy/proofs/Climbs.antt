@@ -116,13 +116,6 @@ nearest_row l inside rows earlier r same h above p =
     let place : IsPlace inside.above earlier r = subst (λ (rs : List Rowed). IsPlace rs earlier r) above p in
     subst (λ (x : Lined). IsRowIn (rows_in x) r) same (row_more inside.above (inside.own ∷ []) r.class r (placed_row inside.above earlier r h.above place))
 
--- a class among these
-pub above_none : (f : Forest) (c : Class) → None ≡ first (upward f) → false ≡ is_among (classes (upward f)) c
-above_none f c e = sym (ap (λ (ks : List Kin). is_among (classes ks) c) (upward_none f e))
-
-pub above_here : (f : Forest) (k : Kin) (c : Class) → Some k ≡ first (upward f) → same_class c k.class ≡ true → is_among (classes (upward f)) c ≡ true
-above_here f k c e s = ap (λ (ks : List Kin). is_among (classes ks) c) (upward_first f k e) ∙ ap (λ (b : Bool). b || is_among (classes (upward k.superclass)) c) s
-
 pub above_next : (f : Forest) (k : Kin) (c : Class) → Some k ≡ first (upward f) → same_class c k.class ≡ false → is_among (classes (upward k.superclass)) c ≡ is_among (classes (upward f)) c
 above_next f k c e s = sym (ap (λ (ks : List Kin). is_among (classes ks) c) (upward_first f k e) ∙ ap (λ (b : Bool). b || is_among (classes (upward k.superclass)) c) s)
 
@@ -132,9 +125,6 @@ pub record Climbs (rows : List Rowed) (superclass : List Class) (found rest : Li
   pub split : rows ≡ rest ++ later
   pub kins_are : map (kin_under (kins rows)) found ++ upward (forest (kins rest) wanted) ≡ upward (forest (kins rows) superclass)
   pub rows_are : AllByRecursion (IsRowIn rows) found
-
-pub begun : (rows : List Rowed) (superclass : List Class) → Climbs rows superclass [] rows superclass
-begun rows superclass = record { later = []; split = sym (append-nil rows); kins_are = refl; rows_are = tt }
 
 pub goes_on : (rows : List Rowed) (superclass : List Class) (found rest : List Rowed) (wanted : List Class) (earlier : List Rowed) (r : Rowed) → SupersBefore [] rows → Climbs rows superclass found rest wanted
     → Some (kin_under (kins earlier) r) ≡ first (upward (forest (kins rest) wanted)) → IsPlace rest earlier r → Climbs rows superclass (found ++ r ∷ []) earlier (superclass_in r)

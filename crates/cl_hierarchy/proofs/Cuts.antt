@@ -7,7 +7,7 @@ use Rattle.cl_model.specs.Ancestors.{EachClassOnce}
 use Rattle.cl_model.specs.Content.{Content}
 use Rattle.cl_model.specs.Homes.{World}
 use Rattle.cl_model.specs.Classes.{Above, is_among, superclass_of, superinterfaces_of}
-use Rattle.cl_model.specs.Lineages.{Forest, Bare, Tree, IsLineage, Kin, StandsFor, alone, classes, lineage, once, once_after, postorder, superclasses, upward}
+use Rattle.cl_model.specs.Lineages.{Forest, Bare, Tree, IsLineage, Kin, StandsFor, alone, classes, lineage, once, once_after, postorder}
 use Rattle.cl_model.proofs.Ancestors.{Within, among_first, lineage_once, within_more}
 use Rattle.cl_model.proofs.Closed.{all_left}
 use Rattle.cl_config.specs.Views.{Configured}
@@ -146,14 +146,6 @@ named_at rows earlier r ordered p =
 
 superclass_at : (l : Lined) (earlier : List Rowed) (s : Rowed) → IsInOrder l → IsPlace l.above earlier s → superclass_in l.own ≡ s.class ∷ [] → (kin_of l).superclass ≡ alone (kin_under (kins earlier) s)
 superclass_at l earlier s h p up = ap (λ (cs : List Class). forest (kins l.above) cs) up ∙ ap (λ (o : Option Kin). in_front o Bare) (named_at l.above earlier s h.above p)
-
--- what stands above a class with a superclass: that, and what stands above it
-pub superclasses_at : (l : Lined) (earlier : List Rowed) (s : Rowed) → IsInOrder l → IsPlace l.above earlier s → superclass_in l.own ≡ s.class ∷ []
-    → superclasses (kin_of l) ≡ kin_under (kins earlier) s ∷ superclasses (kin_under (kins earlier) s)
-superclasses_at l earlier s h p up = ap (λ (f : Forest). upward f) (superclass_at l earlier s h p up)
-
-pub superclasses_none : (l : Lined) → superclass_in l.own ≡ [] → superclasses (kin_of l) ≡ []
-superclasses_none l none = ap (λ (cs : List Class). upward (forest (kins l.above) cs)) none
 
 -- the first of what stands for supertypes under what stands above it
 stands_lineage : (w : World) (c : Class) (k : Kin) (others : Forest) (wanted : List Above) → StandsFor w c (in_front (Some k) others) wanted → IsLineage w k

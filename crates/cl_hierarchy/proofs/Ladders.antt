@@ -181,10 +181,6 @@ same_loader b one other own is meant same = at (one == own) refl (sym is ∙ mea
     at true t f = sym (eqb-true one own t) ∙ same
     at false t f = absurd cc
 
-pub is_not : (b : Bool) → not b ≡ false → b ≡ true
-is_not true e = refl
-is_not false e = absurd cc
-
 -- ---- the way up, from its end
 
 -- the place behind one

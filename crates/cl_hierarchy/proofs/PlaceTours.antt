@@ -166,15 +166,6 @@ bit rows old r p b at placed h = has (slice_get old.is_told p) (placed.is_told_i
     has None e f = absurd cc
     has (Some c) e f = f ∙ same_Some c (is_among (classes_at rows old.told) r.class) e
 
--- to come to a class that was told leads to nothing
-pub came_again : (table : List Supers) (old : Placed) (p : ℕ) (b wanted : Bool) → IfSome (slice_get old.is_told p) (λ c. b ≡ c) → b ≡ true → Steps table old p (tasks.Come wanted) old
-came_again table old p b wanted h e = λ rows r ordered are at placed. record {
-  placed = placed;
-  steps =
-      let t = toured_at rows old in
-      ap (λ (c : Bool). let x : Toured = record t { stack = if c then t.stack else t.stack ++ opened orders.Lineage rows r } in x) (sym e ∙ bit rows old r p b at placed h);
-}
-
 module _ (rows : List Rowed) (old : Placed) (r : Rowed) (p : ℕ) (b : Bool) (at : slice_get rows p ≡ Some r) (placed : IsPlaced rows old) (h : IfSome (slice_get old.is_told p) (λ c. b ≡ c)) (e : b ≡ false) where
   -- what is left once a class was come to
   opens : (wanted : Bool) (new : Placed) → new.told ≡ old.told → marks_at rows new.stack ≡ marks_at rows old.stack ++ opened orders.Lineage rows r → toured_at rows new ≡ step orders.Lineage rows (toured_at rows old) r (tasks.Come wanted)
@@ -264,22 +255,6 @@ went_over table old a new p at next above o over_is some after one two_ = λ row
           ∙ ap (λ (n : ℕ). ms ++ record { row = r; task = tasks.Over n } ∷ come) after)
           ∙ ap (λ (y : Option Rowed). let z : Toured = record t { stack = t.stack ++ over_from r at y } in z) (sym x.2);
     }
-
--- a class that was told is not told again
-pub left_again : (table : List Supers) (old : Placed) (p : ℕ) (b : Bool) → IfSome (slice_get old.is_told p) (λ c. b ≡ c) → b ≡ true → Steps table old p tasks.Leave old
-left_again table old p b h e = λ rows r ordered are at placed. record {
-  placed = placed;
-  steps =
-      let t = toured_at rows old in
-      let cs = classes_at rows old.told in
-      ap (λ (c : Bool).
-      let x : Toured = record {
-        told = if c then t.told else t.told ++ r ∷ [];
-        seen = if c then cs else cs ++ r.class ∷ [];
-        left = if c then cs else cs ++ r.class ∷ [];
-        stack = t.stack;
-      } in x) (sym e ∙ bit rows old r p b at placed h);
-}
 
 -- another is
 pub left_told : (table : List Supers) (old new : Placed) (p : ℕ) (b : Bool) → IfSome (slice_get old.is_told p) (λ c. b ≡ c) → b ≡ false → new.told ≡ old.told ++ p ∷ [] → new.is_told ≡ set old.is_told p true → new.stack ≡ old.stack → Steps table old p tasks.Leave new

@@ -253,10 +253,6 @@ rung_on told x place r g unmixed ladder at is are = record {
   unmixed_are = are;
 }
 
--- a rung stands at the place of a row
-pub rung_within : (told : Option Content) (x : Laddered) (bound place : ℕ) → IsLadder told x → HasRung x.marks bound (Some place) → place < length x.rows
-rung_within told x bound place ladder has = let lt = slice_get_within x.marks place has.1.1.0 has.1.1.1 in let few = ladder.few in omega (arith, lt, few)
-
 -- ---- the same of what lies behind it in memory
 
 pub rung_found : (marks : List Mark) (place : ℕ) (o : Option Rung) (b : Bool) → is_some o ≡ not b → b ≡ false → IfSome o (IsRungAt marks place) → (g : Rung) × IsRungAt marks place g

@@ -12,8 +12,7 @@ use Rattle.cl_hierarchy.specs.Tours.{interface_row}
 use Rattle.cl_hierarchy.specs.Trees.{interface_places}
 use Rattle.cl_hierarchy.specs.declared.supers.Supers.{Supers}
 use Rattle.cl_hierarchy.proofs.Placings.{unplaced}
-use Rattle.cl_hierarchy.proofs.Rungs.{all_of, take_with}
-use Rattle.cl_hierarchy.proofs.Ways.{at_length}
+use Rattle.cl_hierarchy.proofs.Rungs.{take_with}
 use Rattle.std.proofs.lemmas.Option.{same_Some}
 
 -- ---- a table of places
@@ -27,12 +26,6 @@ drop_at [] n x e = absurd cc
 drop_at (y ∷ []) zero x e = ap (λ z. z ∷ []) (same_Some y x e)
 drop_at (y ∷ (w ∷ xs)) zero x e = ap (λ z. z ∷ (w ∷ xs)) (same_Some y x e)
 drop_at (y ∷ xs) (suc n) x e = drop_at xs n x e
-
--- an empty table has the rows from the end on
-pub places_first : (rows : List Rowed) (entries : List (Class × ℕ)) → entries ≡ [] → ArePlaces rows (length rows) entries
-places_first rows entries e =
-    subst (λ (es : List (Class × ℕ)). ArePlaces rows (length rows) es) (sym e) (λ c.
-    record { row_is = sym (ap (λ (rs : List Rowed). row_of rs c) (drop_all rows)); within = tt })
 
 -- and one with one place more has one row more
 pub places_next : (rows : List Rowed) (n : ℕ) (old new : List (Class × ℕ)) (c : Class) (r : Rowed) → slice_get rows n ≡ Some r → c ≡ r.class → Puts old c n new → ArePlaces rows (suc n) old → ArePlaces rows n new
@@ -86,29 +79,6 @@ abbrev pub AreOverTo : List (Class × ℕ) → Rowed → List (Option ℕ) → T
 AreOverTo entries r over =
     (rows : List Rowed) → ArePlaces rows 0 entries → (k : ℕ) → k < length over → IsRowAt rows (interface_row rows r k) (place_in over k)
 
-pub over_first : (entries : List (Class × ℕ)) (r : Rowed) (over : List (Option ℕ)) → over ≡ [] → AreOverTo entries r over
-over_first entries r over e = λ rows h k lt. absurd (let n = ap (λ (xs : List (Option ℕ)). length xs) e in omega (arith, n, lt))
-
-pub over_next : (entries : List (Class × ℕ)) (r : Rowed) (old new : List (Option ℕ)) (at : ℕ) (o : Option ℕ) → new ≡ old ++ o ∷ [] → at ≡ length old → ((rows : List Rowed) → ArePlaces rows 0 entries → IsRowAt rows (interface_row rows r at) o)
-    → AreOverTo entries r old → AreOverTo entries r new
-over_next entries r old new at o e here found h = λ rows p k lt.
-    subst (λ (xs : List (Option ℕ)). IsRowAt rows (interface_row rows r k) (place_in xs k)) (sym e) (which rows p k (omega (arith, many, lt)))
-  where
-    many : length new ≡ length old + 1
-    many = ap (λ (xs : List (Option ℕ)). length xs) e ∙ length-append old (o ∷ [])
-
-    which : (rows : List Rowed) → ArePlaces rows 0 entries → (k : ℕ) → k < length old + 1 → IsRowAt rows (interface_row rows r k) (place_in (old ++ o ∷ []) k)
-    which rows p k lt = elim (split k lt) [
-      | inl less ↦ subst (λ (x : Option (Option ℕ)). IsRowAt rows (interface_row rows r k) (option_and_then (λ (y : Option ℕ). y) x)) (sym (get_old old o k less)) (h rows p k less)
-      | inr same ↦
-          subst (λ (n : ℕ). IsRowAt rows (interface_row rows r n) (place_in (old ++ o ∷ []) n)) (sym same)
-          (subst (λ (x : Option (Option ℕ)). IsRowAt rows (interface_row rows r (length old)) (option_and_then (λ (y : Option ℕ). y) x)) (sym (at_length old [] o))
-          (subst (λ (n : ℕ). IsRowAt rows (interface_row rows r n) o) here (found rows p)))
-    ]
-      where
-        split : (i : ℕ) → i < length old + 1 → (i < length old) ⊎ (i ≡ length old)
-        split i l = grind (arith, l)
-
 pub over_all : (entries : List (Class × ℕ)) (r : Rowed) (over : List (Option ℕ)) (ps : List ℕ) → ps ≡ interface_places r → length ps ≤ length over → AreOverTo entries r over
     → (rows : List Rowed) → ArePlaces rows 0 entries → (k : ℕ) → IsRowAt rows (interface_row rows r k) (place_in over k)
 over_all entries r over ps same many h rows p k = elim (split k) [
@@ -129,13 +99,6 @@ supers_push rows [] (x ∷ ss) r s h is = absurd h
 supers_push rows (x ∷ rs) [] r s h is = absurd h
 supers_push rows (x ∷ rs) (y ∷ ss) r s h is = (h.0, supers_push rows rs ss r s h.1 is)
 
-pub all_first : (rows : List Rowed) (ss : List Supers) → ss ≡ [] → AreAllSupers rows (take (length ss) rows) ss
-all_first rows ss e = subst (λ (xs : List Supers). AreAllSupers rows (take (length xs) rows) xs) (sym e) (nothing rows)
-  where
-    nothing : (rs : List Rowed) → AreAllSupers rows (take 0 rs) []
-    nothing [] = tt
-    nothing (r ∷ rs) = tt
-
 pub all_next : (rows : List Rowed) (old new : List Supers) (r : Rowed) (s : Supers) → slice_get rows (length old) ≡ Some r → new ≡ old ++ s ∷ [] → AreSupers rows r s → AreAllSupers rows (take (length old) rows) old → AreAllSupers rows (take (length new) rows) new
 all_next rows old new r s at e is h =
     subst (λ (xs : List Supers). AreAllSupers rows (take (length xs) rows) xs) (sym e) (
@@ -144,9 +107,6 @@ all_next rows old new r s at e is h =
   where
     one_more : (n : ℕ) → n + 1 ≡ suc n
     one_more n = omega arith
-
-pub all_told : (rows : List Rowed) (ss : List Supers) → length rows ≤ length ss → AreAllSupers rows (take (length ss) rows) ss → AreAllSupers rows rows ss
-all_told rows ss many h = subst (λ (rs : List Rowed). AreAllSupers rows rs ss) (all_of rows (length ss) many) h
 
 -- the direct supertypes of the class at a place
 pub supers_at : (rows rs : List Rowed) (ss : List Supers) (place : ℕ) (r : Rowed) → AreAllSupers rows rs ss → slice_get rs place ≡ Some r → (s : Supers) × (slice_get ss place ≡ Some s) × AreSupers rows r s

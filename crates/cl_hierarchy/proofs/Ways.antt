@@ -1,5 +1,5 @@
 -- The way up through the rows of a lineage.
-use Rattle.std.proofs.Common.{◌≡◌, ◌∙◌, ◌<◌, ◌≤◌, ◌+◌, ℕ, zero, suc, Bool, true, false, if◌then◌else◌, inl, inr, arith, List, [], ◌∷◌, ◌++◌, Option, Some, None, append-nil, append_assoc, length, length-append, map, take, refl, sym, ap, subst}
+use Rattle.std.proofs.Common.{◌≡◌, ◌∙◌, ◌<◌, ◌≤◌, ◌+◌, ℕ, zero, suc, Bool, true, false, if◌then◌else◌, inl, inr, arith, List, [], ◌∷◌, ◌++◌, Option, Some, None, append_assoc, length, length-append, map, take, refl, sym, ap, subst}
 use Rattle.std.specs.Prelude.{option_to_list, slice_get}
 use Rattle.std.proofs.lemmas.Bool.{or_cases}
 use Rattle.std.proofs.lemmas.List.{length-map, map_push}
@@ -17,7 +17,7 @@ use Rattle.cl_hierarchy.specs.Lineages.{IsLined, above_in}
 use Rattle.cl_hierarchy.specs.Places.{IsPlace}
 use Rattle.cl_hierarchy.specs.Rows.{Rowed}
 use Rattle.cl_hierarchy.specs.Trees.{SupersBefore, forest, in_front, kin_named, kin_under, kins, superclass_in}
-use Rattle.cl_hierarchy.specs.Ways.{IsFirstOver, IsNext, IsUpper}
+use Rattle.cl_hierarchy.specs.Ways.{IsNext, IsUpper}
 use Rattle.cl_hierarchy.specs.declared.rung.Way.{Way}
 use Rattle.cl_hierarchy.proofs.Ancestry.{row_kin}
 use Rattle.cl_hierarchy.proofs.Climbs.{placed_kin, placed_row, upward_none}
@@ -227,29 +227,6 @@ module _ (told : Option Content) (config : Configured) (rows : List Rowed) (top 
     begins_push ways w None ∙ ap (λ (m : ℕ). begins ways (Some m)) is ∙ h.begins_at,
   )
 
--- ---- a look for the first superinterface
-
--- what was passed stands behind these
-abbrev pub Passes : List Rowed → List Rowed → Type 0
-Passes whole left = (later : List Rowed) × (whole ≡ left ++ later)
-
-pub passes_none : (whole : List Rowed) → Passes whole whole
-passes_none whole = ([], sym (append-nil whole))
-
-module _ {A : Type 0} (v : A → Rowed) (whole : List Rowed) (left earlier : List A) (row : A) (split : left ≡ earlier ++ row ∷ []) (h : Passes whole (map v left)) where
-  parted : whole ≡ map v earlier ++ v row ∷ h.0
-  parted =
-      h.1 ∙ ap (λ (xs : List A). map v xs ++ h.0) split ∙ ap (λ (rs : List Rowed). rs ++ h.0) (map_push v earlier row) ∙ append_assoc (map v earlier) (v row ∷ []) h.0
-
-  pub passes_one : Passes whole (map v earlier)
-  passes_one = (v row ∷ h.0, parted)
-
-  pub passed_over : (under x : Rowed) → x ≡ v row → IsFirstOver under x → IsNext whole under true (map v earlier) (v row)
-  passed_over under x is over = record {
-    place = record { later = h.0; split = parted };
-    is_upper = subst (λ (y : Rowed). IsFirstOver under y) is over;
-  }
-
 -- ---- the same of what lies behind them in memory
 
 pub first_named : (ns : List Name) (places : List ℕ) (name : Name) (l : ℕ) (c : Class) → Some name ≡ slice_get ns 0 → Some l ≡ slice_get places 0 → same_class (class name l) c ≡ true
@@ -269,20 +246,8 @@ module _ {A : Type 0} (v : A → Rowed) (rows earlier : List A) (row : A) (under
         (ap (λ (y : Rowed). is_among (superclass_in under) y.class) (sym is) ∙ sym tested ∙ meant);
   }
 
-  pub next_over : (x : Rowed) → rows ≡ earlier ++ row ∷ [] → x ≡ v row → IsFirstOver under x → IsNext (map v rows) under true (map v earlier) (v row)
-  next_over x split is over = record {
-    place = record { later = []; split = ap (λ (xs : List A). map v xs) split ∙ map_push v earlier row };
-    is_upper = subst (λ (y : Rowed). IsFirstOver under y) is over;
-  }
-
   pub next_found : Some (kin_under (kins (map v earlier)) (v row)) ≡ first (upward (forest (kins (map v rows)) (superclass_in under))) → IsPlace (map v rows) (map v earlier) (v row) → IsNext (map v rows) under false (map v earlier) (v row)
   next_found e p = record { place = p; is_upper = up_class (kins (map v rows)) under (kin_under (kins (map v earlier)) (v row)) e }
-
-  -- the row right before is the one that was taken
-  pub length_alike : rows ≡ earlier ++ row ∷ [] → (e : List Rowed) (r : Rowed) → map v rows ≡ e ++ r ∷ [] → length earlier ≡ length e
-  length_alike split e r same =
-      let ends = ends_alike (map v earlier) e (v row) r (sym (ap (λ (xs : List A). map v xs) split ∙ map_push v earlier row) ∙ same) in
-      sym (length-map earlier v) ∙ ap (λ (rs : List Rowed). length rs) ends.0
 
   pub not_before : (x : Rowed) (b : Bool) → rows ≡ earlier ++ row ∷ [] → x ≡ v row → b ≡ is_among (superclass_in under) x.class → b ≡ false → (e : List Rowed) (r : Rowed) → map v rows ≡ e ++ r ∷ [] → superclass_in under ≡ r.class ∷ [] → ⊥
   not_before x b split is tested meant e r same up = absurd (

@@ -1,10 +1,9 @@
 -- Lists of loading constraints, with what they were made from (JVMS SE 8, 5.3.4, 5.4.2, 5.4.3).
 use Rattle.std.specs.Prelude.{◌≡◌, ◌≤◌, ℕ, Contains, if◌then◌else◌, List, length, map, nat_le, Some}
-use Rattle.cl_classfile.specs.Files.{Reference, reference}
 use Rattle.cl_model.specs.declared.need.Equality.{Equality}
 use Rattle.cl_model.specs.declared.need.Need.TheVariants as needs
 use Rattle.cl_model.specs.Lineages.{Kin}
-use Rattle.cl_model.specs.Plans.{class_named, resolve_in}
+use Rattle.cl_model.specs.Plans.{CitesClass, resolve_in}
 use Rattle.cl_model.specs.Preparation.{constraints_of}
 use Rattle.cl_model.specs.States.{AllMet, Equal, IsNext, Need, State, Verdict}
 use Rattle.cl_model.specs.Views.{need_of}
@@ -45,11 +44,9 @@ pub record Listed : Type 0 where
 -- these are the needs of d's reference at an index of its pool, which names the class c, once that
 -- is loaded (5.4.3)
 pub record AreOfReference (d c : Kin) (index : ℕ) (needs : List Need) : Type 0 where
-  pub refers : Reference
-  pub at : reference d.file index ≡ Some refers
-  pub names : class_named refers ≡ Some c.class.name
+  pub cites : CitesClass d.file index c.class.name
   pub made : Made Verdict
-  pub worked : resolve_in d refers c ≡ Some made
+  pub worked : resolve_in d cites.cited c ≡ Some made
   pub needs_are : needs ≡ made.needs
 
 -- few needs stand for all of a list: they are among them, and no more; in every state all are met

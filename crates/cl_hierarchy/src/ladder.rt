@@ -8,6 +8,7 @@ ghost use Rattle.cl_hierarchy.specs.Lineages.{IsLined, above_in};
 ghost use Rattle.cl_hierarchy.specs.Rows.{Rowed};
 ghost use Rattle.cl_model.specs.Lineages.{Kin};
 
+use crate::leading::Leads;
 use crate::over::Overs;
 use crate::row::ClassRow;
 use crate::rung::{Mark, Rung, Way};
@@ -211,46 +212,24 @@ impl<T: Told> Ladder<T> {
         Ok(())
     }
 
-    /// The rows of the superclasses of the class at a place, nearest first.
-    pub fn superclasses_at(
-        &self,
+    /// The superclasses of the class at a place, or those of them that another loader than this defined, nearest first.
+    pub fn superclasses_at<'a, R: Leads<'a, ClassRow<T>>>(
+        &'a self,
         alloc: Global,
         place: usize,
-    ) -> Result<Vec<Arc<ClassRow<T>>>, AllocError>
+        own: Option<LoaderId>,
+    ) -> Result<Vec<R>, AllocError>
         requires { HasRung self.now.marks (place + 1) (Some place) }
         ensures superclasses { (r : Rowed) → slice_get self.now.rows place ≡ Some r
-            → IfOk result (λ v. AreOthers self.now place None r (map (λ x. x.value) v.items)) }
+            → IfOk result (λ v. AreOthers self.now place own r (map R.to v.items)) }
         ensures kept { IsLadder T.told self.now }
     {
         let mut found = Vec::new(alloc);
-        let mut next = self.next_above(None, place);
+        let mut next = self.next_above(own, place);
         while let Some(place) = next {
             let row = &self.rows()[place];
-            found.push(Arc::try_clone(row)?)?;
-            next = self.next_above(None, place);
-        }
-        Ok(found)
-    }
-
-    /// The rows of those superclasses of the class at a place that another loader than this defined, nearest first.
-    pub fn others_at(
-        &self,
-        alloc: Global,
-        place: usize,
-        own: LoaderId,
-    ) -> Result<Vec<&Arc<ClassRow<T>>>, AllocError>
-        requires { HasRung self.now.marks (place + 1) (Some place) }
-        ensures superclasses { (r : Rowed) → slice_get self.now.rows place ≡ Some r
-            → IfOk result (λ v. AreOthers self.now place (Some own) r
-            (map (λ x. x.now.value) v.items)) }
-        ensures kept { IsLadder T.told self.now }
-    {
-        let mut found = Vec::new(alloc);
-        let mut next = self.next_above(Some(own), place);
-        while let Some(place) = next {
-            let row = &self.rows()[place];
-            found.push(row)?;
-            next = self.next_above(Some(own), place);
+            found.push(R::lead(row)?)?;
+            next = self.next_above(own, place);
         }
         Ok(found)
     }

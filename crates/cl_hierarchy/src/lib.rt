@@ -10,6 +10,7 @@ pub mod fit;
 pub mod frame;
 mod ladder;
 pub mod laws;
+mod leading;
 pub mod lineage;
 pub mod lineages;
 pub mod making;

@@ -261,7 +261,7 @@ impl<T: Told> Lineage<T> {
         ensures rows { IfOk result (λ v. AllByRecursion (λ r. IsRowIn (rows_in self.now) r.value)
             v.items) }
     {
-        self.ladder.superclasses_at(alloc, self.place)
+        self.ladder.superclasses_at(alloc, self.place, None)
     }
 
     /// The rows of the superclasses that another loader than the class's own defined, nearest first (JVMS SE 8, 4.1, 5.3),
@@ -276,7 +276,7 @@ impl<T: Told> Lineage<T> {
             (λ r. IsRowIn (rows_in self.now) r.now.value) v.items) }
     {
         let own = self.own.class().loader;
-        self.ladder.others_at(alloc, self.place, own)
+        self.ladder.superclasses_at(alloc, self.place, Some(own))
     }
 
     /// Whether the class has another as a proper superclass (JVMS SE 8, 4.1). Takes no memory; time linear in the rows.

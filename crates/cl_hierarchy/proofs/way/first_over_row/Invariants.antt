@@ -1,5 +1,5 @@
 use Rattle.std.proofs.Common.{◌≤◌, length, map}
-use Rattle.cl_hierarchy.proofs.Ways.{Passes}
+use Rattle.cl_hierarchy.proofs.Scans.{Passes}
 use Rattle.cl_hierarchy.proofs.way.first_over_row.Given as goal
 
 abbrev pub invariant-loop-row : goal.invariant-loop-row

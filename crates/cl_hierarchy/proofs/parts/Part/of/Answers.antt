@@ -24,20 +24,14 @@ of-requires g c =
     (part_made (λ r. r.value) g.T.Told.told c.args.config.now.value _ there.0 c.args.place c.in_ok-places.places.items c.in_ok-above.above.items c.pop.new.self.items c.in-Some.own c.requires.lineage there.1 (c.in_ok-places.ensures there.0 there.1)
     (c.in_ok-above.ensures ∙ ap (λ ps. rows_at (map (λ r. r.value) c.args.rows.now) ps) c.as_slice.ensures.value) c.in-Some.ensures.items).lined
 
-pub returns-clause-part : goal.returns-clause-part
-returns-clause-part g c =
+pub returns : goal.returns
+returns g c =
     let there = row_there (λ r. r.value) c.args.rows.now c.args.place c.requires.within in
     let made = subst (λ (x : Laddered). IsMadeOf c.args.config.now.value (map (λ r. r.value) c.pop.new.self.items) c.in-Some.own.value x) (sym c.in_ok-ladder.ensures)
     (subst (λ (k : Configured). IsMadeOf k (map (λ r. r.value) c.pop.new.self.items) c.in-Some.own.value c.in_ok-of.field-0) c.in_ok-config.ensures c.in_ok-of.ensures) in
-    part_is g.T.Told.told c.args.config.now.value _ there.0 c.args.place (map (λ r. r.value) c.pop.new.self.items) c.in-Some.own.value _ there.1
-    (part_made (λ r. r.value) g.T.Told.told c.args.config.now.value _ there.0 c.args.place c.in_ok-places.places.items c.in_ok-above.above.items c.pop.new.self.items c.in-Some.own c.requires.lineage there.1 (c.in_ok-places.ensures there.0 there.1)
-    (c.in_ok-above.ensures ∙ ap (λ ps. rows_at (map (λ r. r.value) c.args.rows.now) ps) c.as_slice.ensures.value) c.in-Some.ensures.items) made
-
-pub returns-clause-own : goal.returns-clause-own
-returns-clause-own g c =
-    let there = row_there (λ r. r.value) c.args.rows.now c.args.place c.requires.within in
-    let made = subst (λ (x : Laddered). IsMadeOf c.args.config.now.value (map (λ r. r.value) c.pop.new.self.items) c.in-Some.own.value x) (sym c.in_ok-ladder.ensures)
-    (subst (λ (k : Configured). IsMadeOf k (map (λ r. r.value) c.pop.new.self.items) c.in-Some.own.value c.in_ok-of.field-0) c.in_ok-config.ensures c.in_ok-of.ensures) in
-    part_ends g.T.Told.told c.args.config.now.value _ there.0 c.args.place (map (λ r. r.value) c.pop.new.self.items) c.in-Some.own.value _ there.1
-    (part_made (λ r. r.value) g.T.Told.told c.args.config.now.value _ there.0 c.args.place c.in_ok-places.places.items c.in_ok-above.above.items c.pop.new.self.items c.in-Some.own c.requires.lineage there.1 (c.in_ok-places.ensures there.0 there.1)
-    (c.in_ok-above.ensures ∙ ap (λ ps. rows_at (map (λ r. r.value) c.args.rows.now) ps) c.as_slice.ensures.value) c.in-Some.ensures.items) made
+    let is = part_made (λ r. r.value) g.T.Told.told c.args.config.now.value _ there.0 c.args.place c.in_ok-places.places.items c.in_ok-above.above.items c.pop.new.self.items c.in-Some.own c.requires.lineage there.1 (c.in_ok-places.ensures there.0 there.1)
+    (c.in_ok-above.ensures ∙ ap (λ ps. rows_at (map (λ r. r.value) c.args.rows.now) ps) c.as_slice.ensures.value) c.in-Some.ensures.items in
+    record {
+      part = part_is g.T.Told.told c.args.config.now.value _ there.0 c.args.place (map (λ r. r.value) c.pop.new.self.items) c.in-Some.own.value _ there.1 is made;
+      own = part_ends g.T.Told.told c.args.config.now.value _ there.0 c.args.place (map (λ r. r.value) c.pop.new.self.items) c.in-Some.own.value _ there.1 is made;
+    }

@@ -122,7 +122,7 @@ of_reference content r d p s for spelt closed at =
       kept = subst (λ (l : ℕ). recorded s.records (loader_of r) d.class.name ≡ Some l) own at;
       file = file_of d.file;
       has_file = subst (λ (l : ℕ). HasFile w (class d.class.name l) (file_of d.file)) own (kept_file p.config content s (loader_of r) d.class d.file closed at spelt);
-      cites = record { cited = for.cited; found = for.found; names = for.names };
+      cites = for.cites;
     }
 
 starts_at : {A : Type 0} (content : Content) (r : request.Request) (t : Target A) (p : Pathed) (s : State) → IsFor r t p → IsSpeltIn (Some content) t → IsClosed (world_of p.config content) s → AllMet s (target_needs r t)

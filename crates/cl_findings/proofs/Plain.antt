@@ -12,29 +12,29 @@ use Rattle.cl_model.specs.Content.{Content}
 use Rattle.cl_delegation.specs.Worlds.{world_of}
 use Rattle.std.specs.declared.sync.Arc.{Arc}
 use Rattle.cl_model.specs.declared.settled.Settled.{Settled}
-use Rattle.cl_findings.specs.Findings.{Based, grounded, IsLoad, IsLink, IsLookedUp, Resolves, Rests, VerdictRests, loader_of}
+use Rattle.cl_findings.specs.Findings.{Based, grounded, IsLoad, IsLink, IsLookedUp, Resolves, Rests, VerdictRests, loader_of, ungrounded}
 
-pub class_rests : (told : Option Content) (r : Request) (c : Class) → IsLoad r → Rests told (record { request = r; answer = answers.Said (verdicts.Class c); basis = None })
+pub class_rests : (told : Option Content) (r : Request) (c : Class) → IsLoad r → Rests told (ungrounded r (answers.Said (verdicts.Class c)))
 class_rests None r c is = tt
 class_rests (Some content) (requests.Load loader name) c is = tt
 class_rests (Some content) (requests.Resolve loader name i) c is = is
 class_rests (Some content) (requests.Link loader name) c is = is
 
-pub linked_rests : (told : Option Content) (r : Request) (c : Class) → IsLink r → Rests told (record { request = r; answer = answers.Said (verdicts.Linked c); basis = None })
+pub linked_rests : (told : Option Content) (r : Request) (c : Class) → IsLink r → Rests told (ungrounded r (answers.Said (verdicts.Linked c)))
 linked_rests None r c is = tt
 linked_rests (Some content) (requests.Load loader name) c is = is
 linked_rests (Some content) (requests.Resolve loader name i) c is = is
 linked_rests (Some content) (requests.Link loader name) c is = tt
 
-pub settled_rests : (told : Option Content) (r : Request) (s : Arc Settled Global) → Rests told (record { request = r; answer = answers.Shared s; basis = None })
+pub settled_rests : (told : Option Content) (r : Request) (s : Arc Settled Global) → Rests told (ungrounded r (answers.Shared s))
 settled_rests None r s = tt
 settled_rests (Some content) r s = refl
 
-pub memory_rests : (told : Option Content) (r : Request) → Rests told (record { request = r; answer = answers.Memory; basis = None })
+pub memory_rests : (told : Option Content) (r : Request) → Rests told (ungrounded r answers.Memory)
 memory_rests None r = tt
 memory_rests (Some content) r = refl
 
-pub fault_rests : (told : Option Content) (r : Request) (name : List ℕ) (loader : ℕ) → Rests told (record { request = r; answer = answers.SourceFault name loader; basis = None })
+pub fault_rests : (told : Option Content) (r : Request) (name : List ℕ) (loader : ℕ) → Rests told (ungrounded r (answers.SourceFault name loader))
 fault_rests None r name loader = tt
 fault_rests (Some content) r name loader = refl
 

@@ -111,9 +111,9 @@ class_ends config content r d c v s at spelt other closed rec below =
     ap (λ (f : File). class_accessible f.flags l.kin.class k.kin.class) l.file_is
     ∙ ap (λ (x : Class). class_accessible (file_of c.file).flags x k.kin.class) l.class_is
     ∙ ap (λ (x : Class). class_accessible (file_of c.file).flags c.class x) k.class_is in
-    let ends = subst (λ (x : Class). EndsAtClass (class_accessible (file_of c.file).flags c.class d.class) at.cited x v) (sym l.class_is) at.ends in
-    let follows = class_follows k.kin l.kin at.cited v (class_accessible (file_of c.file).flags c.class d.class) reachable ends in
-    let goes = reference_goes w s d.class k.kin l.kin i c.class.loader at.cited c.class.name follows.made closed k.of (ap (λ (f : File). reference f i) k.file_is ∙ at.found) at.names below l.of follows.is in
+    let ends = subst (λ (x : Class). EndsAtClass (class_accessible (file_of c.file).flags c.class d.class) at.cites.cited x v) (sym l.class_is) at.ends in
+    let follows = class_follows k.kin l.kin at.cites.cited v (class_accessible (file_of c.file).flags c.class d.class) reachable ends in
+    let goes = reference_goes w s d.class k.kin l.kin i c.class.loader at.cites.cited c.class.name follows.made closed k.of (ap (λ (f : File). reference f i) k.file_is ∙ at.cites.found) at.cites.names below l.of follows.is in
     subst (λ (u : Verdict). EndsHere w s (request_of r) u) follows.ends (goes_to_end w s r d.class i follows.made closed at.of rec goes (subst (λ (ns : List Need). AllMet s ns) (sym follows.needs_are) tt))
 
 pub class_entry_rests : (told : Option Content) (config : Configured) (r : request.Request) (d c : Rowed) (v : verdict.Verdict) → IsAtClass r d c (verdict_of v) → IsSpelt told d.class d.file → IsSpelt told c.class c.file
@@ -190,8 +190,9 @@ fault_ends : (content : Content) (r : request.Request) (d c : Lined) (v : verdic
     → recorded s.records d.own.class.loader c.own.class.name ≡ Some c.own.class.loader → EndsHere (world_of d.config content) s (request_of r) (verdict_of v)
 fault_ends content r d c v s to lin other error closed rec below =
     let w = world_of d.config content in
-    let fails = fault_fails (kin_of d) (kin_of c) error.cited error.fault v (error.lookup.found error.cited error.found) error.error in
-    let goes = member_goes content r d c (index_of r) error.cited fails.made s to lin other error.found error.names fails.is closed below in
+    let cites = error.cites in
+    let fails = fault_fails (kin_of d) (kin_of c) cites.cited error.fault v (error.lookup.found cites.cited cites.found) error.error in
+    let goes = member_goes content r d c (index_of r) cites.cited fails.made s to lin other cites.found cites.names fails.is closed below in
     subst (λ (u : Verdict). EndsHere w s (request_of r) u) fails.ends
     (goes_to_end w s r d.own.class (index_of r) fails.made closed to.of rec goes (subst (λ (ns : List Need). AllMet s ns) (sym fails.needs) tt))
 

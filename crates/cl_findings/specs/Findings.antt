@@ -69,6 +69,11 @@ pub record Answered : Type 0 where
 abbrev pub grounded : request.Request → verdict.Verdict → Based → Answered
 grounded r v b = record { request = r; answer = answers.Said v; basis = Some b }
 
+-- a request is answered so, and the answer rests on nothing: it is looked up, or a failure
+-- (5.3 to 5.4.3)
+abbrev pub ungrounded : request.Request → answer.Answer → Answered
+ungrounded r a = record { request = r; answer = a; basis = None }
+
 -- through which loader a request loads its class (5.3)
 abbrev pub loader_of : request.Request → ℕ
 loader_of r = (loaded_by (request_of r)).loader

@@ -1,7 +1,7 @@
 -- How the load of a class ends: an obstacle, or a record that is refused
 -- (JVMS SE 8, 5.3, 5.3.4, 5.3.5).
 use Rattle.std.specs.Prelude.{◌≡◌, ◌≢◌, ℕ, true, false, List, [], ◌∷◌, ◌++◌, Option, Some, None}
-use Rattle.cl_classfile.specs.Files.{file_of, Name, Reference, reference}
+use Rattle.cl_classfile.specs.Files.{file_of, Name}
 use Rattle.cl_model.specs.declared.verdict.ErrorKind.{ErrorKind}
 use Rattle.cl_model.specs.declared.verdict.ErrorKind.TheVariants as kinds
 use Rattle.cl_model.specs.declared.verdict.Verdict as verdict
@@ -11,7 +11,7 @@ use Rattle.cl_model.specs.Content.{Content}
 use Rattle.cl_model.specs.Classes.{class}
 use Rattle.cl_model.specs.States.{Need, Entry}
 use Rattle.cl_model.specs.Frames.{IsFrame, kept_of, path_of, wanted}
-use Rattle.cl_model.specs.Plans.{class_named}
+use Rattle.cl_model.specs.Plans.{CitesClass}
 use Rattle.cl_model.specs.Views.{error_of}
 use Rattle.cl_delegation.specs.Searches.{Located}
 use Rattle.cl_delegation.specs.Worlds.{world_of}
@@ -43,9 +43,7 @@ pub record IsOwn (r : request.Request) (p : Pathed) : Type 0 where
 pub record IsReferred (r : request.Request) (d : Rowed) (p : Pathed) : Type 0 where
   pub index : ℕ
   pub of : Resolves r d.class.name index
-  pub cited : Reference
-  pub found : reference (file_of d.file) index ≡ Some cited
-  pub names : class_named cited ≡ Some p.name
+  pub cites : CitesClass (file_of d.file) index p.name
   pub loader : p.loader ≡ d.class.loader
 
 -- the path was made for the request (5.3, 5.4.3.1)

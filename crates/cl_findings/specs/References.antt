@@ -36,7 +36,7 @@ use Rattle.cl_model.specs.declared.request.Request.TheVariants as requests
 use Rattle.cl_model.specs.declared.class.Class.{Class}
 use Rattle.cl_model.specs.Classes.{IllegalAccess}
 use Rattle.cl_model.specs.States.{Need, Entry, Verdict, BadEntry, Wrong}
-use Rattle.cl_model.specs.Plans.{class_verdict, class_named, nameless}
+use Rattle.cl_model.specs.Plans.{CitesClass, class_verdict, class_named, nameless}
 use Rattle.cl_config.specs.Views.{Configured}
 use Rattle.cl_hierarchy.specs.Imposed.{Sprung, OfReference, OfPreparation, Listed}
 use Rattle.cl_hierarchy.specs.Imposed as imposed
@@ -93,10 +93,8 @@ EndsAtClass true cited c v = IsClassItself cited c v
 -- (5.4.3.1, 5.4.4)
 pub record IsAtClass (r : request.Request) (d c : Rowed) (v : Verdict) : Type 0 where
   pub of : Resolves r d.class.name (index_of r)
-  pub cited : Reference
-  pub found : reference (file_of d.file) (index_of r) ≡ Some cited
-  pub names : class_named cited ≡ Some c.class.name
-  pub ends : EndsAtClass (row_accessible c d.class) cited c.class v
+  pub cites : CitesClass (file_of d.file) (index_of r) c.class.name
+  pub ends : EndsAtClass (row_accessible c d.class) cites.cited c.class v
 
 -- what an end of an entry rests on: the request's class is recorded (5.3)
 abbrev pub entry_basis : Configured → request.Request → Class → Based
@@ -135,9 +133,7 @@ fault_verdict c (faults.Inaccessible owner) = Some (verdicts.Error kinds.Illegal
 -- the entry of d at an index names the class c; looking up its member answers a fault, and this is
 -- its error (5.4.3.2 to 5.4.3.4)
 pub record IsLookupError (d c : Lined) (index : ℕ) (v : verdict.Verdict) : Type 0 where
-  pub cited : Reference
-  pub found : reference (kin_of d).file index ≡ Some cited
-  pub names : class_named cited ≡ Some (kin_of c).class.name
+  pub cites : CitesClass (kin_of d).file index (kin_of c).class.name
   pub fault : LookupFault
   pub lookup : asking.LooksUp d c index (Err fault)
   pub error : fault_verdict c.own.class fault ≡ Some v

@@ -1,10 +1,10 @@
 //! Findings: requests with their answers.
 
-ghost use Rattle.std.specs.Prelude.{◌≡◌, None};
+ghost use Rattle.std.specs.Prelude.{◌≡◌};
 ghost use Rattle.cl_model.specs.declared.verdict.Verdict.TheVariants as verdicts;
 ghost use Rattle.cl_model.specs.declared.answer.Answer.TheVariants as answers;
 ghost use Rattle.cl_findings.specs.Bases.{based};
-ghost use Rattle.cl_findings.specs.Findings.{IsLink, IsLoad, IsSettledFor, Rests, grounded};
+ghost use Rattle.cl_findings.specs.Findings.{IsLink, IsLoad, IsSettledFor, Rests, grounded, ungrounded};
 
 use crate::basis::Basis;
 use cl_model::{Answer, Class, LoaderId, Request, Settled, Told, Verdict};
@@ -58,11 +58,7 @@ impl<T: Told> Finding<T> {
     #[tactic(auto, using(crate::proofs::Plain::class_rests))]
     pub fn class(request: Request, class: Class) -> Finding<T>
         requires { IsLoad request }
-        ensures { result ≡ record {
-          request = request;
-          answer = answers.Said (verdicts.Class class);
-          basis = None;
-        } }
+        ensures { result ≡ ungrounded request (answers.Said (verdicts.Class class)) }
     {
         Finding {
             request,
@@ -75,11 +71,7 @@ impl<T: Told> Finding<T> {
     #[tactic(auto, using(crate::proofs::Plain::linked_rests))]
     pub fn linked(request: Request, class: Class) -> Finding<T>
         requires { IsLink request }
-        ensures { result ≡ record {
-          request = request;
-          answer = answers.Said (verdicts.Linked class);
-          basis = None;
-        } }
+        ensures { result ≡ ungrounded request (answers.Said (verdicts.Linked class)) }
     {
         Finding {
             request,
@@ -92,11 +84,7 @@ impl<T: Told> Finding<T> {
     #[tactic(auto, using(crate::proofs::Plain::settled_rests))]
     pub fn settled(request: Request, settled: Arc<Settled>) -> Finding<T>
         requires { IsSettledFor request settled.value }
-        ensures { result ≡ record {
-          request = request;
-          answer = answers.Shared settled;
-          basis = None;
-        } }
+        ensures { result ≡ ungrounded request (answers.Shared settled) }
     {
         Finding {
             request,
@@ -108,7 +96,7 @@ impl<T: Told> Finding<T> {
     /// Memory ran out.
     #[tactic(auto, using(crate::proofs::Plain::memory_rests))]
     pub fn memory(request: Request) -> Finding<T>
-        ensures { result ≡ record { request = request; answer = answers.Memory; basis = None } }
+        ensures { result ≡ ungrounded request answers.Memory }
     {
         Finding {
             request,
@@ -120,11 +108,7 @@ impl<T: Told> Finding<T> {
     /// The source could not be read at a name of a loader.
     #[tactic(auto, using(crate::proofs::Plain::fault_rests))]
     pub fn source_fault(request: Request, name: Name, loader: LoaderId) -> Finding<T>
-        ensures { result ≡ record {
-          request = request;
-          answer = answers.SourceFault name loader;
-          basis = None;
-        } }
+        ensures { result ≡ ungrounded request (answers.SourceFault name loader) }
     {
         Finding {
             request,

@@ -146,10 +146,10 @@ member_ends : (content : Content) (r : request.Request) (f : Located) (needs : L
     → EndsHere (world_of f.d.config content) s (request_of r) v
 member_ends content r f needs v s to lin other located of found closed rec below met =
     let w = world_of f.d.config content in
-    let same : of.refers ≡ located.refers = some_same of.refers located.refers (sym of.at ∙ located.at) in
+    let same : of.cites.cited ≡ located.cites.cited = some_same of.cites.cited located.cites.cited (sym of.cites.found ∙ located.cites.found) in
     let worked = ap (λ (x : Reference). resolve_in (kin_of f.d) x (kin_of f.c)) (sym same) ∙ of.worked in
-    let ends : ending of.made.ends ≡ v = made_verdict of.made (resolve_in (kin_of f.d) located.refers (kin_of f.c)) _ _ worked located.found ∙ sym (found located.refers located.at) in
-    let goes = member_goes content r f.d f.c f.index of.refers of.made s to lin other of.at of.names of.worked closed below in
+    let ends : ending of.made.ends ≡ v = made_verdict of.made (resolve_in (kin_of f.d) located.cites.cited (kin_of f.c)) _ _ worked located.found ∙ sym (found located.cites.cited located.cites.found) in
+    let goes = member_goes content r f.d f.c f.index of.cites.cited of.made s to lin other of.cites.found of.cites.names of.worked closed below in
     subst (λ (u : Verdict). EndsHere w s (request_of r) u) ends
     (goes_to_end w s r f.d.own.class f.index of.made closed to.of rec goes (subst (λ (ns : List Need). AllMet s ns) of.needs_are met))
 
@@ -222,7 +222,7 @@ asked_rests_at content r (OfReference d c i) needs k need to lin of is = record 
   apart = linkage_apart r need;
   concludes = λ s closed grounds.
       let w = world_of d.config content in
-      let goes = member_goes content r d c i of.refers of.made s to lin.0.lineage lin.1.lineage of.at of.names of.worked closed grounds.needs.1.0 in
+      let goes = member_goes content r d c i of.cites.cited of.made s to lin.0.lineage lin.1.lineage of.cites.found of.cites.names of.worked closed grounds.needs.1.0 in
       let next : IsNext s of.made.needs (need_of need) = subst (λ (ns : List Need). IsNext s ns (need_of need)) of.needs_are (next_at s needs k (need_of need) is grounds.needs.1.1) in
       record { linkage = refl; next = goes_to_next w s r d.own.class i of.made (need_of need) closed to.of grounds.needs.0 goes next; placed = placed_reference w s r d.own.class i (need_of need) to.of };
 }

@@ -58,8 +58,8 @@ imposed_by content x (OfPreparation l) es k n kept lined are stands earlier at u
 imposed_by content x (OfReference d c index) es k n kept lined are stands earlier at unmet free =
     let w = world_of x.config content in
     let s = state_of x in
-    let goes = reference_goes w s d.own.class (kin_of d) (kin_of c) index c.own.class.loader are.refers c.own.class.name are.made (closed_of content x kept) (lineage_at content x d lined.0 stands.0.config) are.at are.names stands.1.recorded
-    (lineage_at content x c lined.1 stands.1.config) (through_made (kin_of d) (kin_of c) are.refers are.made stands.1.accessible are.worked) in
+    let goes = reference_goes w s d.own.class (kin_of d) (kin_of c) index c.own.class.loader are.cites.cited c.own.class.name are.made (closed_of content x kept) (lineage_at content x d lined.0 stands.0.config) are.cites.found are.cites.names stands.1.recorded
+    (lineage_at content x c lined.1 stands.1.config) (through_made (kin_of d) (kin_of c) are.cites.cited are.made stands.1.accessible are.worked) in
     record {
       needs = goes.made.needs;
       imposes = inr (d.own.class, stands.0.recorded, (index, goes.made, goes.resolution, refl));

@@ -51,7 +51,7 @@ names_by told x (OfPreparation l) ns is are stands =
 names_by told x (OfReference d c index) ns is are stands =
     let P : ℕ → Type 0 = λ n. n < length x.config.loaders in
     subst (AllByRecursion (Names P)) (sym are.needs_are)
-    (referred P (kin_of d) (kin_of c) are.refers are.made (lined P d (within_rows x d stands.0.config is.0.within)) (lined P c (within_rows x c stands.1.config is.1.within)) are.worked)
+    (referred P (kin_of d) (kin_of c) are.cites.cited are.made (lined P d (within_rows x d stands.0.config is.0.within)) (lined P c (within_rows x c stands.1.config is.1.within)) are.worked)
 
 pub names_equality : (told : Option Content) (x : Shown) (e : Listed) (k : ℕ) (n : Equality) → IsListed told e → MayImpose x e k → slice_get e.needs k ≡ Some n → EqualityNames (length x.config.loaders) n
 names_equality told x e k n listed may at = named_at (λ l. l < length x.config.loaders) e.needs k n (names_by told x e.origin (needs_of e.needs) listed.lineages listed.are may.stands) at

@@ -93,8 +93,8 @@ listed_stands content x (OfReference d c index) es k before kept lined are confi
     let res = list.2.1 in
     let kin : res.kin ≡ kin_of d = one_lineage w d.own.class res.kin (kin_of d) res.above (lineage_at content x d lined.0 config.0) in
     let made = subst (λ (t : Kin). resolve w res.height t index ≡ Some list.2.0) kin res.made in
-    let whole = sym (resolves_through w res.height (kin_of d) index are.refers c.own.class.name are.at are.names) ∙ made in
-    let r = reached_by w (state_of x) (kin_of d) (kin_of c) are.refers are.made list.2.0 before es k res.height (lineage_at content x c lined.1 config.1) list.1 are.worked are.needs_are list.2.2 within met whole in
+    let whole = sym (resolves_through w res.height (kin_of d) index are.cites.cited c.own.class.name are.cites.found are.cites.names) ∙ made in
+    let r = reached_by w (state_of x) (kin_of d) (kin_of c) are.cites.cited are.made list.2.0 before es k res.height (lineage_at content x c lined.1 config.1) list.1 are.worked are.needs_are list.2.2 within met whole in
     (record { config = config.0; recorded = list.0 }, record { config = config.1; recorded = r.recorded; accessible = r.accessible })
 
 pub allowed_is_imposed : AllowedIsImposed

@@ -40,8 +40,8 @@ member_counts content r d k i es s p to lin other of closed rec below is =
     let q = plans.Resolve (loader_of r) d.own.class.name i in
     let same : IsLineage w (kin_of k) = subst (λ (c : Configured). IsLineage (world_of c content) (kin_of k)) to.config other in
     let goes : GoesThrough w s d.own.class i of.made =
-    reference_goes w s d.own.class (kin_of d) (kin_of k) i k.own.class.loader of.refers k.own.class.name of.made closed (lineage_is_derived w (kin_of d) lin) of.at of.names below (lineage_is_derived w (kin_of k) same)
-    (through_made (kin_of d) (kin_of k) of.refers of.made to.accessible of.worked) in
+    reference_goes w s d.own.class (kin_of d) (kin_of k) i k.own.class.loader of.cites.cited k.own.class.name of.made closed (lineage_is_derived w (kin_of d) lin) of.cites.found of.cites.names below (lineage_is_derived w (kin_of k) same)
+    (through_made (kin_of d) (kin_of k) of.cites.cited of.made to.accessible of.worked) in
     let on = resolve_goes_on w s (loader_of r) d.own.class.loader i d.own.class.name of.made closed rec goes in
     let planned : IsPlan w q p = subst (λ (a : Request). IsPlan w (request_of a) p) to.of is in
     let many : count_by is_equal of.made.needs ≡ length es = ap (λ (ns : List Need). count_by is_equal ns) (sym of.needs_are) ∙ equals_counted es in

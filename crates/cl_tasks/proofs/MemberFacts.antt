@@ -145,7 +145,7 @@ asked_owner (ToInterfaceMethod t k) v owner key asks e = method_owner v owner ke
 
 -- what was found is settled
 pub found_owner : (f : Located) (v : verdict.Verdict) → IsLocated f → IsOfFound f (verdict_of v) → IsOfOwner v f.owner.class
-found_owner f v is of = asked_owner is.refers v f.owner.class f.key is.asks (of is.refers is.at)
+found_owner f v is of = asked_owner is.cites.cited v f.owner.class f.key is.asks (of is.cites.cited is.cites.found)
 
 error_names : (kind : _) (c owner : Class) → owner ≡ c → IsOfOwner (verdicts.Error kind c) owner
 error_names kind c owner same = record { kind = record { is_entry = λ h. cc; is_class_member = λ h. cc }; names = λ count lt. subst (λ (k : Class). k.loader < count) same lt }

@@ -2,22 +2,14 @@
 use Rattle.std.proofs.Common.{◌≡◌, ℕ, zero, suc, ◌+◌, ◌<◌, ◌≤◌, arith, Bool, true, false, ◌||◌, cond, if◌then◌else◌, List, [], ◌∷◌, ◌++◌, length, map, take, get_or, refl, sym, ap, subst, ◌∙◌}
 use Rattle.std.specs.Prelude.{filter}
 use Rattle.std.specs.List.{AllByRecursion}
-use Rattle.std.proofs.lemmas.Bool.Decides.{same_from_decides}
 use Rattle.std.proofs.lemmas.Grind.{take_at_read}
 use Rattle.std.proofs.lemmas.List.Folds.{list_any-append}
 use Rattle.cl_model.specs.declared.class.Class.{Class}
 use Rattle.cl_model.specs.Classes.{is_among, same_class}
 use Rattle.cl_model.specs.Lineages.{Kin, classes, superinterfaces}
-use Rattle.cl_model.proofs.Ancestors.{same_self}
-use Rattle.cl_model.proofs.Complete.{is_class}
+use Rattle.cl_hierarchy.proofs.Ancestry.{same_turned}
 use Rattle.cl_members.specs.Lookups.{beneath}
 use Rattle.cl_members.proofs.Lists.{or_of}
-
-back : (a b : Class) → a ≡ b → same_class a b ≡ true
-back a b e = subst (λ (x : Class). same_class a x ≡ true) e (same_self a)
-
-same_turned : (a b : Class) → same_class a b ≡ same_class b a
-same_turned a b = same_from_decides (same_class a b) (same_class b a) (is_class a b, back a b) (λ e. sym (is_class b a e), λ e. back b a (sym e))
 
 cond_or : (b c : Bool) → cond c true b ≡ b || c
 cond_or true true = refl

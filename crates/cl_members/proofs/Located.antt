@@ -20,7 +20,7 @@ use Rattle.cl_members.specs.Members.{field_in, method_in}
 use Rattle.cl_members.proofs.Keyed.{field_keyed, method_keyed}
 use Rattle.cl_members.proofs.Lists.{among_is}
 use Rattle.cl_members.proofs.Trees.{field_lookup}
-use Rattle.cl_members.proofs.Works.{accessible_is, inaccessible_is, field_found, field_missing, method_found, method_missing, method_of_interface, interface_found, interface_missing, interface_of_class}
+use Rattle.cl_members.proofs.Works.{accessible_is, inaccessible_is, field_found, field_missing, method_found, method_missing, interface_found, interface_missing}
 
 -- an entry is one reference
 one_reference : (o : Option Reference) (r q : Reference) → o ≡ Some r → o ≡ Some q → r ≡ q
@@ -40,20 +40,18 @@ fault_answers d c i r fault at is denied = record {
 pub refused_is : (d c : Lined) (i : ℕ) (s : Symbol) (owner : Rowed) (flags : ℕ) → Reaches d c i s owner flags → (n : Class) → n ≡ owner.class
     → false ≡ member_accessible (kin_of d) (kin_at c owner) flags (kin_of c) → LooksUp d c i (Err (faults.Inaccessible n))
 refused_is d c i s owner flags x n same told =
-    fault_answers d c i x.refers (faults.Inaccessible n) x.at
-    (x.worked ∙ inaccessible_is (kin_of d) (kin_of c) (kin_at c owner) _ x.key (verdict_of x.refers owner.class x.key) flags x.has told ∙ ap (λ (m : Class). fail (IllegalAccess m)) (sym same))
+    fault_answers d c i x.cites.cited (faults.Inaccessible n) x.cites.found
+    (x.worked ∙ inaccessible_is (kin_of d) (kin_of c) (kin_at c owner) _ x.key (verdict_of x.cites.cited owner.class x.key) flags x.has told ∙ ap (λ (m : Class). fail (IllegalAccess m)) (sym same))
     (owner, x.row, same)
 
 located_by : (d c : Lined) (i : ℕ) (s : Symbol) (owner : Rowed) (flags : ℕ) (x : Reaches d c i s owner flags) → true ≡ member_accessible (kin_of d) (kin_at c owner) flags (kin_of c)
     → IsLocated (record { d = d; c = c; index = i; owner = owner; key = x.key; flags = flags })
 located_by d c i s owner flags x told = record {
-  refers = x.refers;
-  at = x.at;
-  names = x.names;
+  cites = x.cites;
   asks = x.asks;
   row = x.row;
   has = x.has;
-  found = x.worked ∙ accessible_is (kin_of d) (kin_of c) (kin_at c owner) _ x.key (verdict_of x.refers owner.class x.key) flags x.has told;
+  found = x.worked ∙ accessible_is (kin_of d) (kin_of c) (kin_at c owner) _ x.key (verdict_of x.cites.cited owner.class x.key) flags x.has told;
 }
 
 pub located_is : (d c : Lined) (i : ℕ) (s : Symbol) (owner : Rowed) (flags : ℕ) → Reaches d c i s owner flags → (k : Key) → k ≡ key_of s.name s.descriptor
@@ -67,7 +65,7 @@ located_answers d c i f is from through at =
     subst (λ (y : Lined). LooksUp d y f.index (Ok f)) through (
     subst (λ (y : Lined). LooksUp y f.c f.index (Ok f)) from (
     record {
-      found = λ q e. subst (λ (x : Reference). IsFoundAs (kin_of f.d) x (kin_of f.c) (Ok f)) (one_reference (reference (kin_of f.d).file f.index) is.refers q is.at e) is.found;
+      found = λ q e. subst (λ (x : Reference). IsFoundAs (kin_of f.d) x (kin_of f.c) (Ok f)) (one_reference (reference (kin_of f.d).file f.index) is.cites.cited q is.cites.found e) is.found;
       of = record { from = refl; through = refl; at = refl; owner = is.row };
       denied = tt;
     }
@@ -88,7 +86,7 @@ located_copy d c e f i owner copy k flags p q r is =
 -- ---- the constraints of a member
 
 pub asks_key : (f : Located) → IsLocated f → key_at (kin_of f.d).file f.index ≡ Some f.key
-asks_key f is = ap (option_and_then asked_key) is.at ∙ is.asks
+asks_key f is = ap (option_and_then asked_key) is.cites.found ∙ is.asks
 
 names_told : (o : Option Key) (key : Key) (names : List (List ℕ)) → o ≡ Some key → option_map (λ k. class_names k.descriptor) o ≡ Some names → names ≡ class_names key.descriptor
 names_told o key names e f = let told : Some names ≡ Some (class_names key.descriptor) = sym f ∙ ap (option_map (λ (k : Key). class_names k.descriptor)) e in cc
@@ -96,10 +94,8 @@ names_told o key names e f = let told : Some names ≡ Some (class_names key.des
 pub are_of : (f : Located) → IsLocated f → (needs : List Need)
     → needs ≡ equals_of f.key f.owner.class.loader (kin_of f.d).class.loader → AreOfReference (kin_of f.d) (kin_of f.c) f.index needs
 are_of f is needs e = record {
-  refers = is.refers;
-  at = is.at;
-  names = is.names;
-  made = record { needs = equals_of f.key f.owner.class.loader (kin_of f.d).class.loader; asked = []; ends = Ok (verdict_of is.refers f.owner.class f.key) };
+  cites = is.cites;
+  made = record { needs = equals_of f.key f.owner.class.loader (kin_of f.d).class.loader; asked = []; ends = Ok (verdict_of is.cites.cited f.owner.class f.key) };
   worked = is.found;
   needs_are = e;
 }
@@ -147,10 +143,8 @@ module _ {R : Type 0} (row : R → Rowed) where
       let found = looked_up c order a.key items (Some owner) ordered (e ∙ ap (λ (o : Option Key). fields_at o items) is) in
       let key = field_keyed s.name s.descriptor a.key is in
       record {
-        refers = ToField a.target a.key;
+        cites = record { cited = ToField a.target a.key; found = a.refers; names = a.named };
         key = a.key;
-        at = a.refers;
-        names = a.named;
         asks = refl;
         keyed = key.keyed;
         described = key.described;
@@ -160,9 +154,6 @@ module _ {R : Type 0} (row : R → Rowed) where
       }
 
 -- ---- methods
-
-pub wrong_class : (d c : Lined) (i : ℕ) → AsksMethod d c i → true ≡ is_interface (kin_of c).file → LooksUp d c i (Err faults.WrongKind)
-wrong_class d c i a kind = fault_answers d c i (ToMethod a.target a.key) faults.WrongKind a.refers (method_of_interface (kin_of d) (kin_of c) a.key (sym kind)) tt
 
 pub no_method : (d c : Lined) (i : ℕ) → (a : AsksMethod d c i) → false ≡ is_interface (kin_of c).file → (key : Option Key) → key ≡ Some a.key → None ≡ option_and_then (lookup_method (kin_of c)) key → LooksUp d c i (Err faults.NoSuchMethod)
 no_method d c i a kind key is e =
@@ -174,10 +165,8 @@ pub method_reached : (d c : Lined) (i : ℕ) (s : Symbol) → (a : AsksMethod d 
 method_reached d c i s a kind is owner e flags has inside =
     let key = method_keyed s.name s.descriptor a.key is in
     record {
-      refers = ToMethod a.target a.key;
+      cites = record { cited = ToMethod a.target a.key; found = a.refers; names = a.named };
       key = a.key;
-      at = a.refers;
-      names = a.named;
       asks = refl;
       keyed = key.keyed;
       described = key.described;
@@ -185,9 +174,6 @@ method_reached d c i s a kind is owner e flags has inside =
       has = ap (λ (o : Option Key). option_map (λ m. m.flags) (method_in o (file_of owner.file))) (sym is) ∙ sym has;
       worked = method_found (kin_of d) (kin_of c) (kin_at c owner) a.key (sym kind) (ap (option_and_then (lookup_method (kin_of c))) (sym is) ∙ sym e);
     }
-
-pub wrong_interface : (d c : Lined) (i : ℕ) → AsksInterfaceMethod d c i → false ≡ is_interface (kin_of c).file → LooksUp d c i (Err faults.WrongKind)
-wrong_interface d c i a kind = fault_answers d c i (ToInterfaceMethod a.target a.key) faults.WrongKind a.refers (interface_of_class (kin_of d) (kin_of c) a.key (sym kind)) tt
 
 pub no_interface_method : (d c : Lined) (i : ℕ) → (a : AsksInterfaceMethod d c i) → true ≡ is_interface (kin_of c).file → (key : Option Key) → key ≡ Some a.key → None ≡ option_and_then (lookup_interface_method (kin_of c)) key
     → LooksUp d c i (Err faults.NoSuchMethod)
@@ -200,10 +186,8 @@ pub interface_method_reached : (d c : Lined) (i : ℕ) (s : Symbol) → (a : Ask
 interface_method_reached d c i s a kind is owner e flags has inside =
     let key = method_keyed s.name s.descriptor a.key is in
     record {
-      refers = ToInterfaceMethod a.target a.key;
+      cites = record { cited = ToInterfaceMethod a.target a.key; found = a.refers; names = a.named };
       key = a.key;
-      at = a.refers;
-      names = a.named;
       asks = refl;
       keyed = key.keyed;
       described = key.described;

@@ -2,7 +2,7 @@
 use Rattle.std.proofs.Common.{◌≡◌, ℕ, true, false, List, [], Option, Some, None, refl, sym, ap, ◌∙◌, append-nil}
 use Rattle.std.specs.Prelude.{option_map}
 use Rattle.cl_classfile.specs.Files.{Key, Member, is_interface}
-use Rattle.cl_model.specs.Classes.{NoSuchField, NoSuchMethod, IncompatibleClassChange, IllegalAccess}
+use Rattle.cl_model.specs.Classes.{NoSuchField, NoSuchMethod, IllegalAccess}
 use Rattle.cl_model.specs.Lineages.{Kin, member_accessible, lookup_field, lookup_method, lookup_interface_method, field_of, method_of}
 use Rattle.cl_model.specs.Plans.{resolve_field, resolve_method, resolve_found, flags_of}
 use Rattle.cl_model.specs.Preparation.{equals_of}
@@ -48,15 +48,9 @@ method_found d c owner key kind e = rw (kind, e) (simp after_none)
 pub method_missing : (d c : Kin) (key : Key) → is_interface c.file ≡ false → lookup_method c key ≡ None → resolve_method false d key c ≡ fail (NoSuchMethod c.class)
 method_missing d c key kind e = rw (kind, e) refl
 
-pub method_of_interface : (d c : Kin) (key : Key) → is_interface c.file ≡ true → resolve_method false d key c ≡ fail (IncompatibleClassChange c.class)
-method_of_interface d c key kind = rw kind refl
-
 pub interface_found : (d c owner : Kin) (key : Key) → is_interface c.file ≡ true → lookup_interface_method c key ≡ Some owner
     → resolve_method true d key c ≡ resolve_found d c owner (method_of owner key) key (IsMethod owner.class key)
 interface_found d c owner key kind e = rw (kind, e) (simp after_none)
 
 pub interface_missing : (d c : Kin) (key : Key) → is_interface c.file ≡ true → lookup_interface_method c key ≡ None → resolve_method true d key c ≡ fail (NoSuchMethod c.class)
 interface_missing d c key kind e = rw (kind, e) refl
-
-pub interface_of_class : (d c : Kin) (key : Key) → is_interface c.file ≡ false → resolve_method true d key c ≡ fail (IncompatibleClassChange c.class)
-interface_of_class d c key kind = rw kind refl

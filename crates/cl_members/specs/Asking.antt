@@ -36,7 +36,7 @@ use Rattle.cl_model.specs.Classes.{
 }
 use Rattle.cl_model.specs.Keys.{key_of, descriptor_of}
 use Rattle.cl_model.specs.Lineages.{Kin, field_of, method_of}
-use Rattle.cl_model.specs.Plans.{member_target, resolve_found, class_named, resolve_in}
+use Rattle.cl_model.specs.Plans.{CitesClass, member_target, resolve_found, resolve_in}
 use Rattle.cl_model.specs.Preparation.{equals_of}
 use Rattle.cl_model.specs.States.{Verdict, IsField, IsMethod, BadEntry}
 use Rattle.cl_model.specs.Works.{fail}
@@ -147,27 +147,25 @@ key_at f index = option_and_then asked_key (reference f index)
 -- these flags: access is left to look at (5.4.3.2 to 5.4.3.4)
 pub record Reaches (d c : Lined) (index : ℕ) (symbol : Symbol) (owner : Rowed) (flags : ℕ)
     : Type 0 where
-  pub refers : Reference
+  pub cites : CitesClass (kin_of d).file index (kin_of c).class.name
   pub key : Key
-  pub at : reference (kin_of d).file index ≡ Some refers
-  pub names : class_named refers ≡ Some (kin_of c).class.name
-  pub asks : asked_key refers ≡ Some key
+  pub asks : asked_key cites.cited ≡ Some key
   pub keyed : key_of symbol.name symbol.descriptor ≡ key
   pub described : IsSome (descriptor_of symbol.descriptor)
   pub row : IsRowIn (rows_in c) owner
-  pub has : option_map (λ m. m.flags) (declared_by refers (kin_at c owner) key) ≡ Some flags
+  pub has : option_map (λ m. m.flags) (declared_by cites.cited (kin_at c owner) key) ≡ Some flags
   pub worked :
-      resolve_in (kin_of d) refers (kin_of c)
+      resolve_in (kin_of d) cites.cited (kin_of c)
       ≡ resolve_found (kin_of d) (kin_of c) (kin_at c owner)
-      (declared_by refers (kin_at c owner) key) key (verdict_of refers owner.class key)
+      (declared_by cites.cited (kin_at c owner) key) key (verdict_of cites.cited owner.class key)
 
 -- what was looked up is what its entry asks for: a class of the lineage of c has it, and it is the
 -- end of the reference (5.4.3.2 to 5.4.3.4)
 pub record IsLocated (f : Located) : Type 0 where
-  pub refers : Reference
-  pub at : reference (kin_of f.d).file f.index ≡ Some refers
-  pub names : class_named refers ≡ Some (kin_of f.c).class.name
-  pub asks : asked_key refers ≡ Some f.key
+  pub cites : CitesClass (kin_of f.d).file f.index (kin_of f.c).class.name
+  pub asks : asked_key cites.cited ≡ Some f.key
   pub row : IsRowIn (rows_in f.c) f.owner
-  pub has : option_map (λ m. m.flags) (declared_by refers (kin_at f.c f.owner) f.key) ≡ Some f.flags
-  pub found : IsFoundAs (kin_of f.d) refers (kin_of f.c) (Ok f)
+  pub has :
+      option_map (λ m. m.flags) (declared_by cites.cited (kin_at f.c f.owner) f.key)
+      ≡ Some f.flags
+  pub found : IsFoundAs (kin_of f.d) cites.cited (kin_of f.c) (Ok f)

@@ -46,6 +46,16 @@ def nothing_made(_root, files, _crates):
     return [f"{it}: what a check made is never committed" for it in files if "out" in it.split("/")[:-1] or it.endswith(".pyc")]
 
 
+def nothing_half_merged(root, files, _crates):
+    """No text has the lines between which git leaves two versions."""
+    found = []
+    for it in files:
+        if os.path.splitext(it)[1] in TEXTS:
+            held = [number for number, line in enumerate(lines_of(f"{root}/{it}"), 1) if line.startswith(("<" * 7 + " ", ">" * 7 + " "))]
+            found += [f"{it}:{number}: two versions stand here, of which one has to be chosen" for number in held]
+    return found
+
+
 def stands_alone(root, files, _crates):
     """No text cites a paper's or an issue's number."""
     found = []
@@ -106,6 +116,7 @@ def code_is_checked(_root, files, crates):
 RULES = (
     handles,
     nothing_made,
+    nothing_half_merged,
     code_is_checked,
     stands_alone,
     files_are_short,

@@ -83,9 +83,6 @@ module _ (p : Rowed → Bool) (rows : List Rowed) (i : ℕ) where
   pub any_later : (b : Bool) → i < length rows → ((r : Rowed) → slice_get rows i ≡ Some r → b ≡ p r) → list_any p (drop i rows) ≡ list_any p rows → b ≡ false → list_any p (drop (i + 1) rows) ≡ list_any p rows
   any_later b h told so not = sym (ap (λ (x : Bool). x || list_any p (drop (i + 1) rows)) not) ∙ sym (left_here b h told) ∙ so
 
-  pub any_nowhere : length rows ≤ i → list_any p (drop i rows) ≡ list_any p rows → false ≡ list_any p rows
-  any_nowhere end so = ap (list_any p) (sym (nothing_left rows i end)) ∙ so
-
 -- ---- the loaders that are listed
 
 -- the class at a place is looked at, where it is told whether its loader is new

@@ -16,8 +16,8 @@ use Rattle.cl_hierarchy.specs.Imposed.{equal_need, needs_of}
 use Rattle.cl_hierarchy.specs.Rows.{Rowed}
 use Rattle.cl_hierarchy.specs.Lineages.{IsRowIn, Lined, kin_at, kin_of, rows_in}
 use Rattle.cl_hierarchy.proofs.Told.{all_forth}
-use Rattle.cl_preparation.specs.Fewer.{equals_from}
-use Rattle.cl_preparation.specs.Inherited.{Inherited, first_loader, inherited_by_rows, second_by_rows}
+use Rattle.cl_preparation.specs.Fewer.{by_superinterfaces}
+use Rattle.cl_preparation.specs.Inherited.{Inherited, equals_from, first_loader, inherited_by_rows, second_by_rows}
 use Rattle.cl_preparation.specs.Relatives.{AreRelatives, bare, of_superclasses}
 use Rattle.cl_preparation.specs.Walks.{is_overridden, opened_by, walked}
 use Rattle.cl_preparation.proofs.Reached.{any_map, overridden_is_walked}
@@ -213,17 +213,17 @@ each_bare l [] = refl
 each_bare l (r ∷ rs) = ap (λ ns. flat_map (for_inherited (kin_of l) (bare r)) (file_of r.file).methods ++ ns) (each_bare l rs)
 
 second_all : (l : Lined) (own : Rowed) (above over : List Rowed) → AreRelatives l own above over
-    → second_by_rows false own above over ≡ flat_map (λ (j : Kin). flat_map (for_inherited (kin_of l) j) j.file.methods) (superinterfaces (kin_of l))
+    → second_by_rows false own above over ≡ by_superinterfaces for_inherited (kin_of l)
 second_all l own above over are =
     flat_same (λ (j : Rowed). flat_map (inherited_by_rows false own above j) (bare j).file.methods) (λ (j : Rowed). flat_map (for_inherited (kin_of l) (bare j)) (bare j).file.methods) over
     (λ j. flat_same (inherited_by_rows false own above j) (for_inherited (kin_of l) (bare j)) (bare j).file.methods (λ m. inherited_all l own above over j m are))
     ∙ sym (each_bare l over) ∙ ap (flat_map (λ (j : Kin). flat_map (for_inherited (kin_of l) j) j.file.methods)) are.over_are
 
 pub second_told : (h : Inherited) (l self : Lined) (own : Rowed) (above over xs ys : List Rowed) → h ≡ record { own = own; above = xs; few = false } → xs ≡ above → ys ≡ over → l ≡ self → AreRelatives l own above over
-    → second_by_rows h.few h.own h.above ys ≡ flat_map (λ (j : Kin). flat_map (for_inherited (kin_of self) j) j.file.methods) (superinterfaces (kin_of self))
+    → second_by_rows h.few h.own h.above ys ≡ by_superinterfaces for_inherited (kin_of self)
 second_told h l self own above over xs ys is xe ye view are =
     ap (λ (x : Inherited). second_by_rows x.few x.own x.above ys) is ∙ ap (λ (rs : List Rowed). second_by_rows false own rs ys) xe ∙ ap (second_by_rows false own above) ye
-    ∙ second_all l own above over are ∙ ap (λ (x : Lined). flat_map (λ (j : Kin). flat_map (for_inherited (kin_of x) j) j.file.methods) (superinterfaces (kin_of x))) view
+    ∙ second_all l own above over are ∙ ap (λ (x : Lined). by_superinterfaces for_inherited (kin_of x)) view
 
 -- ---- the rows of a lineage
 
@@ -245,17 +245,10 @@ relatives_are l m own above over e o a b = subst (λ (x : Lined). AreRelatives x
 
 -- ---- the whole list
 
--- what the second half adds
-pub second_half : (l self : Lined) (own : Rowed) (above over : List Rowed) (old new : List Need) (b : Bool) → l ≡ self → AreRelatives l own above over → b ≡ is_interface (file_of own.file) → new ≡ old ++ (if b then [] else flat_map (λ (j : Kin). flat_map (for_inherited (kin_of self) j) j.file.methods) (superinterfaces (kin_of self)))
-    → new ≡ old ++ (if is_interface (kin_of self).file then [] else flat_map (λ (j : Kin). flat_map (for_inherited (kin_of self) j) j.file.methods) (superinterfaces (kin_of self)))
-second_half l self own above over old new b view are kind more =
-    more ∙ ap (λ (x : Bool). old ++ (if x then [] else flat_map (λ (j : Kin). flat_map (for_inherited (kin_of self) j) j.file.methods) (superinterfaces (kin_of self))))
-    (kind ∙ ap (λ (r : Rowed). is_interface (file_of r.file)) are.own_is ∙ ap (λ (x : Lined). is_interface (file_of x.own.file)) view)
-
 pub both_halves : (c : Kin) (first middle new : List Need) → first ≡ [] → middle ≡ first ++ flat_map (for_declared c) c.file.methods
-    → new ≡ middle ++ (if is_interface c.file then [] else flat_map (λ (j : Kin). flat_map (for_inherited c j) j.file.methods) (superinterfaces c)) → new ≡ constraints_of c
+    → new ≡ middle ++ (if is_interface c.file then [] else by_superinterfaces for_inherited c) → new ≡ constraints_of c
 both_halves c first middle new empty one two =
-    two ∙ ap (λ ns. ns ++ (if is_interface c.file then [] else flat_map (λ (j : Kin). flat_map (for_inherited c j) j.file.methods) (superinterfaces c))) (one ∙ ap (λ ns. ns ++ flat_map (for_declared c) c.file.methods) empty)
+    two ∙ ap (λ ns. ns ++ (if is_interface c.file then [] else by_superinterfaces for_inherited c)) (one ∙ ap (λ ns. ns ++ flat_map (for_declared c) c.file.methods) empty)
 
 -- the methods of the class, as a row and in the tree
 pub methods_are : (l : Lined) (own : Rowed) (ms : List Member) → own ≡ l.own → ms ≡ (file_of own.file).methods → ms ≡ (kin_of l).file.methods
@@ -277,9 +270,9 @@ nothing_inherited l false ks e = ap (λ (xs : List Kin). flat_map (λ (j : Kin).
 pub interface_none : (l : Lined) (own : Rowed) (ms : List Member) → own ≡ l.own → ms ≡ (file_of own.file).methods → list_any (λ m. takes_part m.key (bare own)) ms ≡ false → true ≡ is_interface (file_of own.file) → [] ≡ constraints_of (kin_of l)
 interface_none l own ms e m none kind =
     sym (
-    ap (λ (ns : List Need). ns ++ (if is_interface (kin_of l).file then [] else flat_map (λ j. flat_map (for_inherited (kin_of l) j) j.file.methods) (superinterfaces (kin_of l))))
+    ap (λ (ns : List Need). ns ++ (if is_interface (kin_of l).file then [] else by_superinterfaces for_inherited (kin_of l)))
     (ap (λ (xs : List Member). flat_map (for_declared (kin_of l)) xs) (sym (methods_are l own ms e m)) ∙ none_declared l own ms e none)
-    ∙ ap (λ (b : Bool). if b then [] else flat_map (λ j. flat_map (for_inherited (kin_of l) j) j.file.methods) (superinterfaces (kin_of l)))
+    ∙ ap (λ (b : Bool). if b then [] else by_superinterfaces for_inherited (kin_of l))
     (sym (kind ∙ ap (λ (r : Rowed). is_interface (file_of r.file)) e))
     )
 
@@ -287,7 +280,7 @@ interface_none l own ms e m none kind =
 pub imposed_none : (l : Lined) (own : Rowed) (ms : List Member) → own ≡ l.own → ms ≡ (file_of own.file).methods → list_any (λ m. takes_part m.key (bare own)) ms ≡ false → [] ≡ superinterfaces (kin_of l) → [] ≡ constraints_of (kin_of l)
 imposed_none l own ms e m none over =
     sym (
-    ap (λ (ns : List Need). ns ++ (if is_interface (kin_of l).file then [] else flat_map (λ (j : Kin). flat_map (for_inherited (kin_of l) j) j.file.methods) (superinterfaces (kin_of l))))
+    ap (λ (ns : List Need). ns ++ (if is_interface (kin_of l).file then [] else by_superinterfaces for_inherited (kin_of l)))
     (ap (λ (xs : List Member). flat_map (for_declared (kin_of l)) xs) (sym (methods_are l own ms e m)) ∙ none_declared l own ms e none)
     ∙ nothing_inherited l (is_interface (kin_of l).file) (superinterfaces (kin_of l)) over
     )

@@ -49,11 +49,6 @@ pub opened_tell : (part wide : Bool) (r : Option Bool) (b : Bool) → r ≡ (if 
 opened_tell true wide r b e none some = some wide e
 opened_tell false wide r b e none some = none e
 
--- where one takes part, whether it is open
-pub opened_wide : (part wide : Bool) (r : Option Bool) (b : Bool) → r ≡ (if part then Some wide else None) → (r ≡ None → b ≡ false) → ((x : Bool) → r ≡ Some x → b ≡ x) → b ≡ (part && wide)
-opened_wide true wide r b e none some = some wide e
-opened_wide false wide r b e none some = none e
-
 pub flags_stand : (o : Option files.Member) → is_some (option_map (λ m. m.flags) o) ≡ is_some o
 flags_stand None = refl
 flags_stand (Some m) = refl

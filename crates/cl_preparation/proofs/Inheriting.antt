@@ -6,8 +6,7 @@ use Rattle.cl_model.specs.Lineages.{method_of}
 use Rattle.cl_model.specs.Preparation.{equals_of, takes_part}
 use Rattle.cl_model.specs.States.{Need}
 use Rattle.cl_hierarchy.specs.Rows.{Rowed}
-use Rattle.cl_preparation.specs.Fewer.{equals_from}
-use Rattle.cl_preparation.specs.Inherited.{Inherited, inherited_by_rows, loader_with}
+use Rattle.cl_preparation.specs.Inherited.{Inherited, equals_from, inherited_by_rows, loader_with}
 use Rattle.cl_preparation.specs.Relatives.{bare}
 
 module _ (h : Inherited) (own : Rowed) (j : Rowed) (m : Member) (k : Key) (mine : own ≡ h.own) (same : k ≡ m.key) where

@@ -1,19 +1,20 @@
 -- The few equalities as rows tell them are those of the tree.
 use Rattle.std.proofs.Common.{◌≡◌, ◌<◌, ◌≤◌, ◌+◌, ℕ, Bool, true, false, ◌&&◌, ◌||◌, not, if◌then◌else◌, Option, Some, None, List, [], ◌∷◌, ◌++◌, map, filter, length, refl, ap, sym, subst, ◌∙◌, get_or, suc, drop, arith, append-nil, append_assoc}
-use Rattle.std.specs.Prelude.{◌==◌, find, flat_map, is_some, option_map}
+use Rattle.std.specs.Prelude.{◌==◌, find, flat_map, is_some, nat_le, option_map}
 use Rattle.std.specs.List.{AllByRecursion, list_any}
 use Rattle.std.proofs.lemmas.Bool.{eqb-true, eq-eqb}
-use Rattle.cl_classfile.specs.Files.{Key, Member, file_of, is_interface}
+use Rattle.std.proofs.lemmas.Cmp.{nat_eq_equiv}
+use Rattle.cl_classfile.specs.Files.{Key, Member, Name, file_of, is_interface}
 use Rattle.cl_model.specs.declared.class.Class.{Class}
 use Rattle.cl_model.specs.Lineages.{Kin, is_offered, method_of, superclasses, superinterfaces}
-use Rattle.cl_model.specs.Preparation.{constraints_of, equals_of, overridden, takes_part}
-use Rattle.cl_model.specs.States.{Need}
+use Rattle.cl_model.specs.Preparation.{class_names, constraints_of, equals_of, inherited_from, overridden, takes_part, with_inherited}
+use Rattle.cl_model.specs.States.{Equal, Need}
 use Rattle.cl_hierarchy.specs.Imposed.{AreEnough}
 use Rattle.cl_hierarchy.specs.Rows.{Rowed}
 use Rattle.cl_hierarchy.specs.Lineages.{IsRowIn, Lined, is_of_other, kin_at, kin_of, others_of, row_of, rows_in}
 use Rattle.cl_hierarchy.specs.Trees.{kin_under, kins}
-use Rattle.cl_preparation.specs.Fewer.{equals_from, fewer_constraints_of, fewer_declared, fewer_inherited, fewer_second, is_new, loaders, loaders_over, other_than, others_after}
-use Rattle.cl_preparation.specs.Inherited.{away_from, first_loader, inherited_by_rows, second_by_rows}
+use Rattle.cl_preparation.specs.Fewer.{by_superinterfaces, fewer_constraints_of, fewer_declared, fewer_inherited, is_between, is_new, loaders, loaders_over, others_after}
+use Rattle.cl_preparation.specs.Inherited.{away_from, equals_from, first_loader, inherited_by_rows, other_than, second_by_rows}
 use Rattle.cl_preparation.specs.Nearby.{AddAll, AreNear, near_declared, near_loaders}
 use Rattle.cl_preparation.specs.Relatives.{bare}
 use Rattle.cl_preparation.specs.Walks.{counts, opens}
@@ -174,10 +175,39 @@ declared_here l away over m are =
 
 -- ---- the second half
 
+-- of equalities, those between two loaders
+between_each : (less same : Bool) (a b : ℕ) (ns : List Name) → (a == b) ≡ same → (b == a) ≡ same
+    → filter is_between (map (λ n. if less then Equal n a b else Equal n b a) ns) ≡ (if same then [] else map (λ n. if less then Equal n a b else Equal n b a) ns)
+between_each less true a b [] e f = refl
+between_each less false a b [] e f = refl
+between_each true true a b (n ∷ ns) e f = rw e (between_each true true a b ns e f)
+between_each false true a b (n ∷ ns) e f = rw f (between_each false true a b ns e f)
+between_each true false a b (n ∷ ns) e f = rw e (ap (λ (xs : List Need). Equal n a b ∷ xs) (between_each true false a b ns e f))
+between_each false false a b (n ∷ ns) e f = rw f (ap (λ (xs : List Need). Equal n b a ∷ xs) (between_each false false a b ns e f))
+
+between_two : (key : Key) (a of : ℕ) (same : Bool) → (a == of) ≡ same → filter is_between (equals_of key a of) ≡ equals_from key of (if same then None else Some a)
+between_two key a of true e = between_each (nat_le a of) true a of (class_names key.descriptor) e (nat_eq_equiv.symm of a ∙ e)
+between_two key a of false e = between_each (nat_le a of) false a of (class_names key.descriptor) e (nat_eq_equiv.symm of a ∙ e)
+
+between_with : (key : Key) (j : Kin) (o : Option Kin) → filter is_between (with_inherited key j o) ≡ equals_from key j.class.loader (other_than j.class.loader (option_map (λ a. a.class.loader) o))
+between_with key j None = refl
+between_with key j (Some a) = between_two key a.class.loader j.class.loader (a.class.loader == j.class.loader) refl
+
+between_if : (b : Bool) (ns few : List Need) → filter is_between ns ≡ few → filter is_between (if b then ns else []) ≡ (if b then few else [])
+between_if true ns few e = e
+between_if false ns few e = refl
+
+-- the few with what is inherited, by its loader
+pub inherited_is : (c j : Kin) (m : Member)
+    → fewer_inherited c j m
+    ≡ (if takes_part m.key j && not (is_some (method_of c m.key)) then equals_from m.key j.class.loader (other_than j.class.loader (option_map (λ a. a.class.loader) (inherited_from c m.key))) else [])
+inherited_is c j m = between_if (takes_part m.key j && not (is_some (method_of c m.key))) (with_inherited m.key j (inherited_from c m.key)) _ (between_with m.key j (inherited_from c m.key))
+
 pub inherited_here : (l : Lined) (above : List Rowed) (j : Rowed) (m : Member) → map (kin_at l) above ≡ superclasses (kin_of l) → inherited_by_rows true l.own above j m ≡ fewer_inherited (kin_of l) (bare j) m
 inherited_here l above j m are =
     ap (λ (o : Option ℕ). if takes_part m.key (bare j) && not (is_some (method_of (kin_of l) m.key)) then equals_from m.key j.class.loader (other_than j.class.loader o) else [])
     (sym (found_bare m.key l above) ∙ ap (λ (ks : List Kin). option_map (λ a. a.class.loader) (find (is_offered m.key) ks)) are)
+    ∙ sym (inherited_is (kin_of l) (bare j) m)
 
 second_bare : (l : Lined) (rs : List Rowed) → flat_map (λ (j : Kin). flat_map (fewer_inherited (kin_of l) j) j.file.methods) (map (kin_at l) rs) ≡ flat_map (λ (j : Rowed). flat_map (fewer_inherited (kin_of l) (bare j)) (bare j).file.methods) rs
 second_bare l [] = refl
@@ -190,7 +220,7 @@ all_added l over overs = record {
   second_are = λ b. sym (second_bare l over) ∙ ap (flat_map (λ (j : Kin). flat_map (fewer_inherited (kin_of l) j) j.file.methods)) overs;
 }
 
-second_here : (l : Lined) (above over : List Rowed) → map (kin_at l) above ≡ superclasses (kin_of l) → AddAll l over → is_interface (file_of l.own.file) ≡ false → second_by_rows true l.own above over ≡ fewer_second (kin_of l)
+second_here : (l : Lined) (above over : List Rowed) → map (kin_at l) above ≡ superclasses (kin_of l) → AddAll l over → is_interface (file_of l.own.file) ≡ false → second_by_rows true l.own above over ≡ by_superinterfaces fewer_inherited (kin_of l)
 second_here l above over are overs class =
     flat_same (λ (j : Rowed). flat_map (inherited_by_rows true l.own above j) (bare j).file.methods) (λ (j : Rowed). flat_map (fewer_inherited (kin_of l) (bare j)) (bare j).file.methods) over
     (λ j. flat_same (inherited_by_rows true l.own above j) (fewer_inherited (kin_of l) (bare j)) (bare j).file.methods (λ m. inherited_here l above j m are))
@@ -206,12 +236,12 @@ declared_near l own away over are =
 
 -- all that is imposed
 pub needs_told : (l : Lined) (own : Rowed) (away over : List Rowed) (ms xs : List Member) (none one all : List Need) → AreNear l own away over → ms ≡ (bare own).file.methods → xs ≡ ms → none ≡ []
-    → one ≡ none ++ flat_map (near_declared own away over) xs → all ≡ one ++ (if is_interface (file_of own.file) then [] else fewer_second (kin_of l)) → all ≡ fewer_constraints_of (kin_of l)
+    → one ≡ none ++ flat_map (near_declared own away over) xs → all ≡ one ++ (if is_interface (file_of own.file) then [] else by_superinterfaces fewer_inherited (kin_of l)) → all ≡ fewer_constraints_of (kin_of l)
 needs_told l own away over ms xs none one all near made same empty first second =
-    let rest : List Need = if is_interface (file_of own.file) then [] else fewer_second (kin_of l) in
+    let rest : List Need = if is_interface (file_of own.file) then [] else by_superinterfaces fewer_inherited (kin_of l) in
     second
     ∙ ap (λ ns. ns ++ rest) (first ∙ ap (λ ns. ns ++ flat_map (near_declared own away over) xs) empty ∙ ap (flat_map (near_declared own away over)) (same ∙ made) ∙ declared_near l own away over near)
-    ∙ ap (λ (r : Rowed). flat_map (fewer_declared (kin_of l)) (kin_of l).file.methods ++ (if is_interface (file_of r.file) then [] else fewer_second (kin_of l))) near.own_is
+    ∙ ap (λ (r : Rowed). flat_map (fewer_declared (kin_of l)) (kin_of l).file.methods ++ (if is_interface (file_of r.file) then [] else by_superinterfaces fewer_inherited (kin_of l))) near.own_is
 
 class_of : (l : Lined) (own : Rowed) → own ≡ l.own → is_interface (file_of own.file) ≡ false → is_interface (file_of l.own.file) ≡ false
 class_of l own same class = ap (λ (r : Rowed). is_interface (file_of r.file)) (sym same) ∙ class
@@ -226,7 +256,7 @@ module _ {A : Type 0} (f : A → Rowed) (l : Lined) (own : Rowed) (xs ys : List 
   away_given =
       away_rows l away above near.away_are near.away_in above_are (mapped_in f l xs ys above one made within) ∙ ap (λ (r : Rowed). away_from r.class.loader above) (sym near.own_is)
 
-  pub second_given : (rs : List Rowed) → rs ≡ over → is_interface (file_of own.file) ≡ false → second_by_rows true own above rs ≡ fewer_second (kin_of l)
+  pub second_given : (rs : List Rowed) → rs ≡ over → is_interface (file_of own.file) ≡ false → second_by_rows true own above rs ≡ by_superinterfaces fewer_inherited (kin_of l)
   second_given rs is class =
       ap (second_by_rows true own above) is ∙ ap (λ (r : Rowed). second_by_rows true r above over) near.own_is
       ∙ second_here l above over above_are near.over_are (class_of l own near.own_is class)
@@ -248,7 +278,7 @@ none_there c (r ∷ rs) none =
     ∙ none_there c rs (nothing_right (bare r).file.methods more none)
 
 pub second_none : (l : Lined) (own : Rowed) (away over rs : List Rowed) → AreNear l own away over → is_interface (file_of own.file) ≡ false → rs ≡ over → flat_map (λ (r : Rowed). (bare r).file.methods) rs ≡ []
-    → [] ≡ fewer_second (kin_of l)
+    → [] ≡ by_superinterfaces fewer_inherited (kin_of l)
 second_none l own away over rs near class same none =
     sym (none_there (kin_of l) over (ap (flat_map (λ (r : Rowed). (bare r).file.methods)) (sym same) ∙ none)) ∙ near.over_are.second_are (class_of l own near.own_is class)
 

@@ -23,14 +23,14 @@ use Rattle.cl_hierarchy.specs.Rows.{Rowed}
 use Rattle.cl_hierarchy.specs.Trees.{SupersBefore, forest, in_front, interface_places, interfaces_in, kin_named, kin_under, kins, kins_after, superclass_in}
 use Rattle.cl_hierarchy.proofs.Climbs.{placed_row, rows_more}
 use Rattle.cl_hierarchy.proofs.Told.{all_forth}
-use Rattle.cl_preparation.specs.Fewer.{equals_from, fewer_inherited, loaders, other_than, others_after}
+use Rattle.cl_preparation.specs.Fewer.{fewer_inherited, loaders, others_after}
 use Rattle.cl_preparation.specs.Nearby.{AddAll}
-use Rattle.cl_preparation.specs.Inherited.{away_from, first_loader, inherited_by_rows}
+use Rattle.cl_preparation.specs.Inherited.{away_from, equals_from, first_loader, inherited_by_rows, other_than}
 use Rattle.cl_preparation.specs.Quiet.{is_heard, is_silent, names_other}
 use Rattle.cl_preparation.specs.Relatives.{bare}
 use Rattle.cl_preparation.proofs.Constraints.{flat_same}
 use Rattle.cl_preparation.proofs.Reached.{any_map}
-use Rattle.cl_preparation.proofs.Nearby.{all_added, away_rows, inherited_here, inherits, none_differs}
+use Rattle.cl_preparation.proofs.Nearby.{all_added, away_rows, inherited_here, inherited_is, inherits, none_differs}
 use Rattle.std.proofs.lemmas.Option.{same_Some}
 
 -- ---- tests
@@ -309,7 +309,7 @@ first_mine own p (k ∷ ks) mine = by (own == k.class.loader) (p k) refl refl mi
     by false false e off all more = more all.1
 
 one_same : (c j : Kin) (m : Member) → (takes_part m.key j ≡ true → other_than j.class.loader (option_map (λ (a : Kin). a.class.loader) (inherited_from c m.key)) ≡ None) → fewer_inherited c j m ≡ []
-one_same c j m none = by (takes_part m.key j) (not (is_some (method_of c m.key))) none
+one_same c j m none = inherited_is c j m ∙ by (takes_part m.key j) (not (is_some (method_of c m.key))) none
   where
     by : (part new : Bool) → (part ≡ true → other_than j.class.loader (option_map (λ (a : Kin). a.class.loader) (inherited_from c m.key)) ≡ None)
         → (if part && new then equals_from m.key j.class.loader (other_than j.class.loader (option_map (λ (a : Kin). a.class.loader) (inherited_from c m.key))) else []) ≡ []

@@ -1,21 +1,21 @@
 -- The few equalities of a preparation stand for all of them.
-use Rattle.std.proofs.Common.{◌≡◌, inl, inr, ◌≤◌, ℕ, Bool, true, false, ◌&&◌, ◌||◌, not, if◌then◌else◌, Option, Some, None, List, [], ◌∷◌, ◌++◌, map, filter, length, refl, ap, sym, subst, ◌∙◌, arith, length-append}
-use Rattle.std.specs.Prelude.{◌==◌, flat_map, is_some, option_map, nat_le}
+use Rattle.std.proofs.Common.{◌≡◌, inl, inr, ◌≤◌, ℕ, Bool, true, false, ◌&&◌, ◌||◌, not, if◌then◌else◌, List, [], ◌∷◌, ◌++◌, map, filter, length, refl, ap, sym, subst, ◌∙◌, arith, length-append}
+use Rattle.std.specs.Prelude.{◌==◌, flat_map, nat_le}
 use Rattle.std.specs.List.{Contains, list_any}
 use Rattle.std.proofs.lemmas.Bool.{eqb-true}
 use Rattle.std.proofs.lemmas.List.Folds.{list_any-append}
 use Rattle.std.proofs.lemmas.List.Elements.{Contains-append_cases, Contains-append_left, Contains-append_right}
 use Rattle.std.proofs.lemmas.Grind.{flat_map-append}
 use Rattle.cl_classfile.specs.Files.{Name, Key, Member, is_interface}
-use Rattle.cl_model.specs.Lineages.{Kin, method_of, superinterfaces}
-use Rattle.cl_model.specs.Preparation.{class_names, constraints_of, equals_of, equals_with, for_declared, for_inherited, inherited_from, overridden, takes_part, with_inherited}
-use Rattle.cl_model.specs.States.{AllMet, Equal, IsNext, Need, State}
+use Rattle.cl_model.specs.Lineages.{Kin, superinterfaces}
+use Rattle.cl_model.specs.Preparation.{class_names, constraints_of, equals_of, equals_with, for_declared, for_inherited, overridden, takes_part}
+use Rattle.cl_model.specs.States.{AllMet, Entry, Equal, IsNext, Met, Need, State}
 use Rattle.cl_model.proofs.Aims.{next_left, next_right}
 use Rattle.cl_model.proofs.Closed.{met_both}
 use Rattle.cl_model.proofs.Progress.{met_split, next_split}
 use Rattle.cl_model.proofs.Runs.{joined_self}
 use Rattle.cl_hierarchy.specs.Imposed.{AreEnough}
-use Rattle.cl_preparation.specs.Fewer.{equals_from, fewer_constraints_of, fewer_declared, fewer_inherited, is_new, loaders, loaders_over, other_than, others_after}
+use Rattle.cl_preparation.specs.Fewer.{by_superinterfaces, fewer_constraints_of, fewer_declared, fewer_inherited, is_between, is_new, loaders, loaders_over, others_after}
 
 -- ---- few that stand for all where this holds
 
@@ -169,22 +169,7 @@ declared_stand c m =
     (stand_where (AreMet f own []) Any all few (λ s k. none_listed s m.key own)
     (subst (λ ns. Stand (AreMet f own []) ns few) (sym (over_loaders c m.key)) (stand_others f own [] (loaders_over c m.key))))
 
--- ---- the second half
-
-other_stand : (key : Key) (a of : ℕ) (b : Bool) → (a == of) ≡ b → Stand Any (equals_of key a of) (equals_from key of (if b then None else Some a))
-other_stand key a of true e = stand_left Any (equals_of key a of) (λ s k. equals_met s key a of e)
-other_stand key a of false e = stand_same Any (equals_of key a of)
-
-from_stand : (key : Key) (j : Kin) (o : Option Kin) → Stand Any (with_inherited key j o) (equals_from key j.class.loader (other_than j.class.loader (option_map (λ a. a.class.loader) o)))
-from_stand key j None = stand_same Any []
-from_stand key j (Some a) = other_stand key a.class.loader j.class.loader (a.class.loader == j.class.loader) refl
-
-inherited_stand : (c j : Kin) (m : Member) → Stand Any (for_inherited c j m) (fewer_inherited c j m)
-inherited_stand c j m =
-    if_part (takes_part m.key j && not (is_some (method_of c m.key))) (with_inherited m.key j (inherited_from c m.key))
-    (equals_from m.key j.class.loader (other_than j.class.loader (option_map (λ a. a.class.loader) (inherited_from c m.key)))) (from_stand m.key j (inherited_from c m.key))
-
--- ---- all
+-- ---- one list after another
 
 stand_next : (xs ys zs bs : List Need) → Stand Any xs zs → Stand Any ys bs → Stand Any (xs ++ ys) (zs ++ bs)
 stand_next xs ys zs bs first second = stand_both Any xs ys zs bs first (stand_where Any (λ s. Any s × AllMet s zs) ys bs (λ s k. tt) second)
@@ -193,18 +178,33 @@ stand_each : {A : Type 0} (f g : A → List Need) (xs : List A) → ((x : A) →
 stand_each f g [] each = stand_same Any []
 stand_each f g (x ∷ xs) each = stand_next (f x) (flat_map f xs) (g x) (flat_map g xs) (each x) (stand_each f g xs each)
 
-second_stand : (c : Kin) (b : Bool) → Stand Any (if b then [] else flat_map (λ j. flat_map (for_inherited c j) j.file.methods) (superinterfaces c)) (if b then [] else flat_map (λ j. flat_map (fewer_inherited c j) j.file.methods) (superinterfaces c))
+-- ---- the second half
+
+-- equalities of a loader with itself are left out
+without_self : (n : Name) (a b : ℕ) (all few : List Need) (same : Bool) → (a == b) ≡ same → Stand Any all few → Stand Any (Equal n a b ∷ all) (if not same then Equal n a b ∷ few else few)
+without_self n a b all few true e st =
+    stand_next (Equal n a b ∷ []) all [] few (stand_left Any (Equal n a b ∷ []) (λ s k. (subst (λ (c : ℕ). Met s (Equal n a c)) (eqb-true a b e) (joined_self s.equalities n a), tt))) st
+without_self n a b all few false e st = stand_next (Equal n a b ∷ []) all (Equal n a b ∷ []) few (stand_same Any (Equal n a b ∷ [])) st
+
+between_stand : (ns : List Need) → Stand Any ns (filter is_between ns)
+between_stand [] = stand_same Any []
+between_stand (Entry l n p ∷ ns) = stand_next (Entry l n p ∷ []) ns (Entry l n p ∷ []) (filter is_between ns) (stand_same Any (Entry l n p ∷ [])) (between_stand ns)
+between_stand (Equal n a b ∷ ns) = without_self n a b ns (filter is_between ns) (a == b) refl (between_stand ns)
+
+second_stand : (c : Kin) (b : Bool) → Stand Any (if b then [] else by_superinterfaces for_inherited c) (if b then [] else by_superinterfaces fewer_inherited c)
 second_stand c true = stand_same Any []
 second_stand c false =
     stand_each (λ (j : Kin). flat_map (for_inherited c j) j.file.methods) (λ (j : Kin). flat_map (fewer_inherited c j) j.file.methods) (superinterfaces c)
-    (λ j. stand_each (for_inherited c j) (fewer_inherited c j) j.file.methods (inherited_stand c j))
+    (λ j. stand_each (for_inherited c j) (fewer_inherited c j) j.file.methods (λ m. between_stand (for_inherited c j m)))
+
+-- ---- the whole list
 
 -- the few stand for all
 pub fewer_stand : (c : Kin) → AreEnough (constraints_of c) (fewer_constraints_of c)
 fewer_stand c =
     let st : Stand Any (constraints_of c) (fewer_constraints_of c) =
-    stand_next (flat_map (for_declared c) c.file.methods) (if is_interface c.file then [] else flat_map (λ j. flat_map (for_inherited c j) j.file.methods) (superinterfaces c))
-    (flat_map (fewer_declared c) c.file.methods) (if is_interface c.file then [] else flat_map (λ j. flat_map (fewer_inherited c j) j.file.methods) (superinterfaces c))
+    stand_next (flat_map (for_declared c) c.file.methods) (if is_interface c.file then [] else by_superinterfaces for_inherited c)
+    (flat_map (fewer_declared c) c.file.methods) (if is_interface c.file then [] else by_superinterfaces fewer_inherited c)
     (stand_each (for_declared c) (fewer_declared c) c.file.methods (declared_stand c)) (second_stand c (is_interface c.file)) in
     record {
       no_more = st.no_more;

@@ -1,10 +1,10 @@
 -- The few equalities of a preparation that stand for all of them (JVMS SE 8, 5.3.4, 5.4.2).
-use Rattle.std.specs.Prelude.{◌==◌, ℕ, Bool, ◌&&◌, not, if◌then◌else◌, List, [], ◌∷◌, ◌++◌, map, filter, flat_map, Option, Some, None, is_some, option_map}
+use Rattle.std.specs.Prelude.{◌==◌, ℕ, Bool, true, ◌&&◌, not, if◌then◌else◌, List, [], ◌∷◌, ◌++◌, map, filter, flat_map}
 use Rattle.std.specs.List.{list_any}
 use Rattle.cl_classfile.specs.Files.{Key, Member, is_interface}
-use Rattle.cl_model.specs.Lineages.{Kin, method_of, superinterfaces}
-use Rattle.cl_model.specs.Preparation.{equals_of, inherited_from, overridden, takes_part}
-use Rattle.cl_model.specs.States.{Need}
+use Rattle.cl_model.specs.Lineages.{Kin, superinterfaces}
+use Rattle.cl_model.specs.Preparation.{equals_of, for_inherited, overridden, takes_part}
+use Rattle.cl_model.specs.States.{Entry, Equal, Need}
 
 -- a loader is another than the own one, and none of these (5.3.4)
 abbrev pub is_new : ℕ → List ℕ → ℕ → Bool
@@ -39,41 +39,27 @@ fewer_declared c m =
     (others_after c.class.loader [] (loaders_over c m.key))
     else []
 
--- a loader, if there is one, and another than this
-abbrev pub other_than : ℕ → Option ℕ → Option ℕ
-other_than of None = None
-other_than of (Some a) = if a == of then None else Some a
+-- a need is no equality of a loader with itself (5.3.4)
+abbrev pub is_between : Need → Bool
+is_between (Entry loader name place) = true
+is_between (Equal name a b) = not (a == b)
 
--- equalities of a loader, if there is one, with another (5.4.2)
-abbrev pub equals_from : Key → ℕ → Option ℕ → List Need
-equals_from key of None = []
-equals_from key of (Some a) = equals_of key a of
-
--- a method of a superinterface j takes part, and the class c does not declare it (5.4.2)
-abbrev pub is_inherited : Kin → Kin → Member → Bool
-is_inherited c j m = takes_part m.key j && not (is_some (method_of c m.key))
-
--- second half: for a method of a superinterface j that c does not declare, equalities with the
--- loader of the inherited implementation, if that is another (5.4.2)
+-- second half: what a method of a superinterface j imposes that c does not declare, but for
+-- equalities of a loader with itself (5.4.2)
 abbrev pub fewer_inherited : Kin → Kin → Member → List Need
-fewer_inherited c j m =
-    if is_inherited c j m
-    then
-    equals_from m.key j.class.loader
-    (other_than j.class.loader (option_map (λ a. a.class.loader) (inherited_from c m.key)))
-    else []
+fewer_inherited c j m = filter is_between (for_inherited c j m)
 
 -- what the methods of these classes impose, in order (5.4.2)
 abbrev pub by_methods : {A : Type 0} → (A → Kin) → (A → Member → List Need) → List A → List Need
 by_methods kin imposed xs = flat_map (λ x. flat_map (imposed x) (kin x).file.methods) xs
 
--- second half: what all superinterfaces of c impose with what it inherits (5.4.2)
-abbrev pub fewer_second : Kin → List Need
-fewer_second c = by_methods (λ j. j) (fewer_inherited c) (superinterfaces c)
+-- second half: what the methods of all superinterfaces of c impose so, in order (5.4.2)
+abbrev pub by_superinterfaces : (Kin → Kin → Member → List Need) → Kin → List Need
+by_superinterfaces imposed c = by_methods (λ j. j) (imposed c) (superinterfaces c)
 
 -- of the loading constraints that the preparation of a class imposes, in order: none of a loader
 -- with itself, and for each method that it declares each loader once (5.4.2)
 abbrev pub fewer_constraints_of : Kin → List Need
 fewer_constraints_of c =
     flat_map (fewer_declared c) c.file.methods
-    ++ (if is_interface c.file then [] else fewer_second c)
+    ++ (if is_interface c.file then [] else by_superinterfaces fewer_inherited c)

@@ -7,7 +7,7 @@ use Rattle.cl_model.specs.Preparation.{equals_of, takes_part}
 use Rattle.cl_model.specs.States.{Need}
 use Rattle.cl_hierarchy.specs.Rows.{Rowed}
 use Rattle.cl_hierarchy.specs.Lineages.{IsRowIn, Lined, kin_at, kin_of, others_of, rows_in}
-use Rattle.cl_preparation.specs.Fewer.{by_methods, fewer_inherited, fewer_second, loaders, others_after}
+use Rattle.cl_preparation.specs.Fewer.{by_methods, by_superinterfaces, fewer_inherited, loaders, others_after}
 use Rattle.cl_preparation.specs.Relatives.{bare}
 use Rattle.cl_preparation.specs.Walks.{opens}
 
@@ -21,7 +21,8 @@ pub record AddAll (l : Lined) (over : List Rowed) : Type 0 where
       (loaders (filter (takes_part key) (superinterfaces (kin_of l))))
   pub second_are :
       is_interface (file_of l.own.file) ≡ false
-      → by_methods bare (λ j. fewer_inherited (kin_of l) (bare j)) over ≡ fewer_second (kin_of l)
+      → by_methods bare (λ j. fewer_inherited (kin_of l) (bare j)) over
+      ≡ by_superinterfaces fewer_inherited (kin_of l)
 
 -- the rows of a class, of its superclasses of other loaders, and of superinterfaces that add what
 -- all do (5.4.2)

@@ -7,7 +7,7 @@ ghost use Rattle.cl_model.specs.Lineages.{superclasses};
 ghost use Rattle.cl_model.specs.Preparation.{constraints_of};
 ghost use Rattle.cl_hierarchy.specs.Imposed.{AreEnough, OfPreparation, needs_of};
 ghost use Rattle.cl_hierarchy.specs.Lineages.{IsRowIn, kin_at, kin_of, others_of, rows_in};
-ghost use Rattle.cl_preparation.specs.Fewer.{fewer_constraints_of, fewer_second, loaders, others_after};
+ghost use Rattle.cl_preparation.specs.Fewer.{by_superinterfaces, fewer_constraints_of, fewer_inherited, loaders, others_after};
 ghost use Rattle.cl_preparation.specs.Nearby.{AreNear, near_declared, near_loaders};
 ghost use Rattle.cl_preparation.specs.Relatives.{bare};
 ghost use Rattle.cl_preparation.specs.Walks.{opens};
@@ -168,8 +168,8 @@ impl<'a, T: Told> Nearby<'a, T> {
         requires near { AreNear lineage.now self.now.own self.now.away
             self.now.over.items }
         requires class { is_interface (file_of self.now.own.file) ≡ false }
-        ensures { OnOk result (needs_of needs.new.items ≡ needs_of needs.old.items ++ fewer_second
-            (kin_of lineage.now)) }
+        ensures { OnOk result (needs_of needs.new.items ≡ needs_of needs.old.items
+            ++ by_superinterfaces fewer_inherited (kin_of lineage.now)) }
     {
         let over = self.over.as_slice();
         // only where a superinterface declares methods is a list of all superclasses made
@@ -191,8 +191,8 @@ impl<'a, T: Told> Nearby<'a, T> {
     ) -> Result<(), AllocError>
         requires { AreNear lineage.now self.now.own self.now.away self.now.over.items }
         ensures { OnOk result (needs_of needs.new.items ≡ needs_of needs.old.items
-            ++ (if is_interface (file_of self.now.own.file) then [] else fewer_second
-            (kin_of lineage.now))) }
+            ++ (if is_interface (file_of self.now.own.file) then [] else by_superinterfaces
+            fewer_inherited (kin_of lineage.now))) }
     {
         if self.own.is_interface() {
             return Ok(());

@@ -4,8 +4,7 @@ ghost use Rattle.std.specs.Prelude.{◌≡◌, ◌++◌, false, flat_map, IfSome
 ghost use Rattle.std.specs.List.{list_any};
 ghost use Rattle.cl_model.specs.Lineages.{is_offered};
 ghost use Rattle.cl_hierarchy.specs.Imposed.{needs_of};
-ghost use Rattle.cl_preparation.specs.Fewer.{other_than};
-ghost use Rattle.cl_preparation.specs.Inherited.{away_from, first_loader, inherited_by_rows, loader_with, second_by_rows};
+ghost use Rattle.cl_preparation.specs.Inherited.{away_from, first_loader, inherited_by_rows, loader_with, other_than, second_by_rows};
 ghost use Rattle.cl_preparation.specs.Relatives.{bare};
 
 use crate::away::Away;

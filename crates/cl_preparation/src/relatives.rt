@@ -7,7 +7,7 @@ ghost use Rattle.cl_model.specs.Lineages.{superclasses, superinterfaces};
 ghost use Rattle.cl_model.specs.Preparation.{constraints_of, for_declared, for_inherited, takes_part};
 ghost use Rattle.cl_hierarchy.specs.Imposed.{OfPreparation, needs_of};
 ghost use Rattle.cl_hierarchy.specs.Lineages.{kin_at, kin_of};
-ghost use Rattle.cl_preparation.specs.Fewer.{by_methods};
+ghost use Rattle.cl_preparation.specs.Fewer.{by_superinterfaces};
 ghost use Rattle.cl_preparation.specs.Relatives.{bare};
 
 use crate::described::Described;
@@ -201,8 +201,7 @@ impl<T: Told> Relatives<T> {
     /// Adds what the methods of the superinterfaces impose.
     fn push_interfaces(&self, alloc: Global, needs: &mut Vec<Equality>) -> Result<(), AllocError>
         ensures { OnOk result (needs_of needs.new.items ≡ needs_of needs.old.items
-            ++ by_methods (λ j. j) (for_inherited (kin_of self.now))
-            (superinterfaces (kin_of self.now))) }
+            ++ by_superinterfaces for_inherited (kin_of self.now)) }
     {
         let inherited = Inheritance::of(&self.own, self.superclasses.as_slice(), None);
         inherited.push_interfaces(alloc, needs, self.superinterfaces.as_slice())
@@ -211,8 +210,8 @@ impl<T: Told> Relatives<T> {
     /// Adds what is inherited where the class is no interface.
     fn push_second(&self, alloc: Global, needs: &mut Vec<Equality>) -> Result<(), AllocError>
         ensures { OnOk result (needs_of needs.new.items ≡ needs_of needs.old.items
-            ++ (if is_interface (kin_of self.now).file then [] else by_methods (λ j. j)
-            (for_inherited (kin_of self.now)) (superinterfaces (kin_of self.now)))) }
+            ++ (if is_interface (kin_of self.now).file then [] else by_superinterfaces for_inherited
+            (kin_of self.now))) }
     {
         if self.own.is_interface() {
             return Ok(());

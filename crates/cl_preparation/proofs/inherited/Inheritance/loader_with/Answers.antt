@@ -1,8 +1,7 @@
 use Rattle.std.proofs.Common.{◌∙◌, Bool, ap, if◌then◌else◌, sym}
 use Rattle.std.specs.Prelude.{is_some}
 use Rattle.cl_hierarchy.proofs.Stems.{if_some}
-use Rattle.cl_preparation.specs.Fewer.{other_than}
-use Rattle.cl_preparation.specs.Inherited.{Inherited, away_from, first_loader}
+use Rattle.cl_preparation.specs.Inherited.{Inherited, away_from, first_loader, other_than}
 use Rattle.cl_preparation.proofs.inherited.Inheritance.loader_with.Goals as goal
 
 pub other_loader-requires : goal.other_loader-requires

@@ -1,6 +1,5 @@
 use Rattle.std.proofs.Common.{◌≡◌, ◌∙◌, ap, rules}
-use Rattle.cl_preparation.specs.Fewer.{other_than}
-use Rattle.cl_preparation.specs.Inherited.{Inherited, first_loader}
+use Rattle.cl_preparation.specs.Inherited.{Inherited, first_loader, other_than}
 use Rattle.cl_preparation.proofs.Nearby.{none_differs}
 use Rattle.cl_preparation.proofs.inherited.Inheritance.other_loader.Goals as goal
 

@@ -6,6 +6,7 @@ use Rattle.cl_classfile.specs.Files.{file_of}
 use Rattle.cl_model.specs.Content.{Content}
 use Rattle.cl_model.specs.Classes.{Above, supers}
 use Rattle.cl_model.specs.States.{recorded}
+use Rattle.cl_model.specs.Tables.{Records}
 use Rattle.cl_delegation.specs.Searches.{Located}
 use Rattle.cl_hierarchy.specs.Drafts.{Drafted}
 use Rattle.cl_hierarchy.specs.Rows.{FitsAs, Rowed}
@@ -13,7 +14,7 @@ use Rattle.cl_registry.specs.declared.registry.RegistryFault.{RegistryFault}
 use Rattle.cl_registry.specs.declared.registry.RegistryFault.TheVariants.{Memory, Stray, Violates, AlreadyPosted, NotYet}
 use Rattle.cl_registry.specs.Refusals.{InitiateRefusedFor, MemoryOrStray}
 use Rattle.cl_registry.specs.Parts.{EachHas, place_by, row_by}
-use Rattle.cl_registry.specs.Tables.{Shown, records_of, IsKept, looked, row_for, place_in, Records, LacksRecord, MayEnter, SupertypesFit, MayJoin, Defines, DefinedAs, Initiates, InitiatedAs}
+use Rattle.cl_registry.specs.Tables.{Shown, records_of, IsKept, looked, row_for, place_in, state_of, LacksRecord, MayEnter, SupertypesFit, MayJoin, Defines, DefinedAs, Initiates, InitiatedAs}
 use Rattle.cl_registry.proofs.Looked.{place_looked, looked_records, looked_lacks}
 
 is_some_map : {A B : Type 0} (f : A → B) (o : Option A) → is_some (option_map f o) ≡ is_some o
@@ -34,7 +35,7 @@ below_count raw loader count most h e f = subst (λ (n : ℕ). n < most) e (subs
 
 -- what was found is what the loader has recorded
 module _ {Q R : Type 0} (now : Q → R) (value : R → Rowed) (told : Option Content) (x : Shown) (l : ℕ) (n : List ℕ) (k : IsKept told x) (at : Option R) (is : option_map value at ≡ looked x l n) where
-  pub found_is : (o : Option Q) → option_map now o ≡ at → MatchOption o (LacksRecord x l n) (λ r. Records x l n (value (now r)))
+  pub found_is : (o : Option Q) → option_map now o ≡ at → MatchOption o (LacksRecord x l n) (λ r. Records (state_of x) l n (value (now r)).class)
   found_is None e = looked_lacks told x l n k (sym (ap (option_map value) e ∙ is))
   found_is (Some r) e = looked_records told x l n (value (now r)) k (sym (ap (option_map value) e ∙ is))
 
@@ -116,8 +117,8 @@ join_refused x h NotYet fresh r = r
 
 -- ---- a name that is recorded
 
-pub known_defined : (x : Shown) (d : Drafted) (row : Rowed) → Records x d.class.loader d.class.name row → looked x d.class.loader d.class.name ≡ Some row → Defines x x d row
-known_defined x d row r is = subst (λ (o : Option ℕ). DefinedAs x x d row o) (sym r.recorded) (refl, is)
+pub known_defined : (x : Shown) (d : Drafted) (row : Rowed) → Records (state_of x) d.class.loader d.class.name row.class → looked x d.class.loader d.class.name ≡ Some row → Defines x x d row
+known_defined x d row r is = subst (λ (o : Option ℕ). DefinedAs x x d row o) (sym r.1) (refl, is)
 
-pub known_initiated : (x : Shown) (h : Located) (row : Rowed) → Records x h.asked h.name row → looked x h.asked h.name ≡ Some row → Initiates x x h row
-known_initiated x h row r is = subst (λ (o : Option ℕ). InitiatedAs x x h row o) (sym r.recorded) (refl, is)
+pub known_initiated : (x : Shown) (h : Located) (row : Rowed) → Records (state_of x) h.asked h.name row.class → looked x h.asked h.name ≡ Some row → Initiates x x h row
+known_initiated x h row r is = subst (λ (o : Option ℕ). InitiatedAs x x h row o) (sym r.1) (refl, is)

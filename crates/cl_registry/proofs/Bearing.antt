@@ -14,7 +14,6 @@ use Rattle.cl_findings.specs.Findings.{Decides}
 use Rattle.cl_hierarchy.specs.Rows.{Rowed}
 use Rattle.cl_registry.specs.References.{IsSettledIn, IsUnsettled}
 use Rattle.cl_registry.specs.Tables.{Shown, state_of, records_of, LacksRecord}
-use Rattle.cl_registry.specs.Tables as shown
 use Rattle.cl_registry.proofs.Verdicts.{verdict_same}
 use Rattle.cl_model.proofs.Bind.{none_not_some, value_same}
 use Rattle.cl_model.proofs.Tables.{one_linked}
@@ -42,12 +41,12 @@ some_same : (v w : Verdict) (o : Option Verdict) → o ≡ Some v → o ≡ Some
 some_same v w o e f = cc
 
 -- a loader records one class for a name
-one_class : (s : State) (l : ℕ) (n : Name) (c d : Class) → Records s l n c → Records s l n d → c ≡ d
+pub one_class : (s : State) (l : ℕ) (n : Name) (c d : Class) → Records s l n c → Records s l n d → c ≡ d
 one_class s l n c d r t = ap (λ (m : Name). class m c.loader) (r.0 ∙ sym t.0) ∙ ap (λ (p : ℕ). class d.name p) (value_same c.loader d.loader (recorded s.records l n) r.1 t.1)
 
 -- the class of a row that a loader has recorded
-row_records : (x : Shown) (l : ℕ) (n : Name) (r : Rowed) (c : Class) → shown.Records x l n r → c ≡ r.class → Records (state_of x) l n c
-row_records x l n r c rec is = subst (λ (d : Class). Records (state_of x) l n d) (sym is) (rec.named, rec.recorded)
+row_records : (x : Shown) (l : ℕ) (n : Name) (r : Rowed) (c : Class) → Records (state_of x) l n r.class → c ≡ r.class → Records (state_of x) l n c
+row_records x l n r c rec is = subst (λ (d : Class). Records (state_of x) l n d) (sym is) rec
 
 abbrev NeverSettled : Verdict → Type 0
 NeverSettled v = (v ≡ BadEntry) ⊎ (v ≡ ArrayMember)
@@ -56,7 +55,7 @@ pub bears_unrecorded : (x : Shown) (l i : ℕ) (n : Name) (v : Verdict) → Lack
 bears_unrecorded x l i n v none = λ d r. absurd (none_not_some (recorded (records_of x) l n) none r.1)
 
 -- the entry of a class that is recorded is not settled
-pub bears_unsettled : (x : Shown) (l i : ℕ) (n : Name) (r : Rowed) (c : Class) (v : Verdict) → shown.Records x l n r → c ≡ r.class → IsUnsettled x c i → (NeverSettled v → ⊥) → Bears (state_of x) (Resolve l n i) v → ⊥
+pub bears_unsettled : (x : Shown) (l i : ℕ) (n : Name) (r : Rowed) (c : Class) (v : Verdict) → Records (state_of x) l n r.class → c ≡ r.class → IsUnsettled x c i → (NeverSettled v → ⊥) → Bears (state_of x) (Resolve l n i) v → ⊥
 bears_unsettled x l i n r c v rec is none not all =
     elim (all c (row_records x l n r c rec is)) [
       | inl e ↦ not (inl e)
@@ -64,7 +63,7 @@ bears_unsettled x l i n r c v rec is none not all =
     ]
 
 -- or is settled to this
-pub bears_settled : (b : Bool) (x : Shown) (l i : ℕ) (n : Name) (r : Rowed) (c : Class) (s : Settled) (v : rust.Verdict) → shown.Records x l n r → c ≡ r.class → IsSettledIn x c i s → (NeverSettled (verdict_of v) → ⊥)
+pub bears_settled : (b : Bool) (x : Shown) (l i : ℕ) (n : Name) (r : Rowed) (c : Class) (s : Settled) (v : rust.Verdict) → Records (state_of x) l n r.class → c ≡ r.class → IsSettledIn x c i s → (NeverSettled (verdict_of v) → ⊥)
     → MatchBool b (s.verdict ≡ v) (s.verdict ≢ v) → Decides b (Bears (state_of x) (Resolve l n i) (verdict_of v))
 bears_settled true x l i n r c s v rec is at not same =
     λ d t.

@@ -7,8 +7,9 @@ use Rattle.cl_model.specs.declared.request.Request.TheVariants as requests
 use Rattle.cl_model.specs.declared.settled.Settled.{Settled}
 use Rattle.cl_model.specs.Classes.{class}
 use Rattle.cl_model.specs.States.{recorded}
+use Rattle.cl_model.specs.Tables.{Records}
 use Rattle.cl_hierarchy.specs.Rows.{Rowed}
-use Rattle.cl_registry.specs.Tables.{Shown, records_of, LacksRecord, Records, settled_at}
+use Rattle.cl_registry.specs.Tables.{Shown, state_of, records_of, LacksRecord, settled_at}
 use Rattle.cl_registry.specs.References.{Cited, cited_by, settled_by, IsSettledIn, IsUnsettled}
 use Rattle.cl_registry.proofs.Settled.{settled_is_told, unsettled_is_told}
 
@@ -30,10 +31,10 @@ cited_is x (requests.Resolve l n i) e h = at (recorded (records_of x) l n) refl 
         subst (λ (d : Cited). IsCitedBy x (requests.Resolve l n i) d) same (record { loader = l; request = refl; recorded = k })
 
 -- the class of a row that the loader has recorded is cited
-pub cited_found : (x : Shown) (l i : ℕ) (r : Rowed) (c : Class) (n : _) → Records x l n r → c ≡ r.class → Some (record { class = c; index = i }) ≡ cited_by x (requests.Resolve l n i)
+pub cited_found : (x : Shown) (l i : ℕ) (r : Rowed) (c : Class) (n : _) → Records (state_of x) l n r.class → c ≡ r.class → Some (record { class = c; index = i }) ≡ cited_by x (requests.Resolve l n i)
 cited_found x l i r c n rec is =
-    let named : class n r.class.loader ≡ c = ap (λ m. class m r.class.loader) (sym rec.named) ∙ sym is in
-    sym (ap (λ (o : Option ℕ). option_map (λ p. record { class = class n p; index = i }) o) rec.recorded ∙ ap (λ (d : Class). Some (record { class = d; index = i })) named)
+    let named : class n r.class.loader ≡ c = ap (λ m. class m r.class.loader) (sym rec.0) ∙ sym is in
+    sym (ap (λ (o : Option ℕ). option_map (λ p. record { class = class n p; index = i }) o) rec.1 ∙ ap (λ (d : Class). Some (record { class = d; index = i })) named)
 
 pub cited_lacks : (x : Shown) (l i : ℕ) (n : _) → LacksRecord x l n → None ≡ cited_by x (requests.Resolve l n i)
 cited_lacks x l i n lacks = sym (ap (λ (o : Option ℕ). option_map (λ p. record { class = class n p; index = i }) o) lacks)

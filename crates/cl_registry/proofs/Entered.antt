@@ -14,6 +14,7 @@ use Rattle.cl_model.specs.declared.settled.Settled.{Settled}
 use Rattle.cl_model.specs.Content.{Content}
 use Rattle.cl_model.specs.Classes.{class, Above, supers}
 use Rattle.cl_model.specs.States.{State, Record, Need, Entry, recorded, added, Refused}
+use Rattle.cl_model.specs.Tables.{Records}
 use Rattle.cl_model.specs.Machine.{Define, Initiate, after, May}
 use Rattle.cl_config.specs.Views.{Configured}
 use Rattle.cl_delegation.specs.Searches.{Located, LeadsTo}
@@ -31,7 +32,7 @@ use Rattle.cl_registry.specs.declared.registry.RegistryFault.TheVariants.{Memory
 use Rattle.cl_registry.specs.Kept.{Fields, IsRegistry}
 use Rattle.cl_registry.specs.Parts.{IsPut}
 use Rattle.cl_registry.specs.Refusals.{AddRefusedFor, Blames, BlamesIn, DefineRefusedFor, InitiateRefusedFor, MemoryOrStray, RecordRefusedFor}
-use Rattle.cl_registry.specs.Tables.{Shown, state_of, records_of, IsKept, ArePlaced, with_define, with_initiate, looked, row_for, place_in, IsNew, LacksRecord, MayEnter, MayJoin, Records, Defines, DefinedAs, Initiates, InitiatedAs}
+use Rattle.cl_registry.specs.Tables.{Shown, state_of, records_of, IsKept, ArePlaced, with_define, with_initiate, looked, row_for, place_in, IsNew, LacksRecord, MayEnter, MayJoin, Defines, DefinedAs, Initiates, InitiatedAs}
 use Rattle.cl_registry.proofs.Running.{may_record}
 use Rattle.cl_registry.proofs.Looked.{looked_push, looked_some, looked_records, at_self, fresh_row, row_push}
 use Rattle.cl_registry.proofs.Allowed.{closed_of, draft_at_home, entered_is_allowed, joined_is_allowed, recorded_at, row_of_some}
@@ -157,7 +158,7 @@ module _ (told : Option Content) (x y : Shown) (d : Drafted) (v : Rowed) (k : Is
   pub shown_defined : looked y d.class.loader d.class.name ≡ Some v
   shown_defined = ap (λ (z : Shown). looked z d.class.loader d.class.name) by.2 ∙ own_looked told x d k fresh ∙ ap (λ (r : Rowed). Some r) (sym by.3)
 
-  pub records_defined : IsKept told y → Records y d.class.loader d.class.name v
+  pub records_defined : IsKept told y → Records (state_of y) d.class.loader d.class.name v.class
   records_defined kept = looked_records told y d.class.loader d.class.name v kept shown_defined
 
 -- ---- an initiation
@@ -231,7 +232,7 @@ module _ (told : Option Content) (x y : Shown) (h : Located) (v : Rowed) (k : Is
   pub shown_initiated : looked y h.asked h.name ≡ Some v
   shown_initiated = ap (λ (z : Shown). looked z h.asked h.name) by.2 ∙ asked_looked told x h v k by.0 fresh by.3
 
-  pub records_initiated : IsKept told y → Records y h.asked h.name v
+  pub records_initiated : IsKept told y → Records (state_of y) h.asked h.name v.class
   records_initiated kept = looked_records told y h.asked h.name v kept shown_initiated
 
 -- ---- refusals

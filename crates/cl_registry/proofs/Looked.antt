@@ -10,12 +10,13 @@ use Rattle.cl_model.specs.declared.class.Class.{Class}
 use Rattle.cl_model.specs.Content.{Content}
 use Rattle.cl_model.specs.Classes.{class, same_class}
 use Rattle.cl_model.specs.States.{IsRecorded, Record, recorded}
+use Rattle.cl_model.specs.Tables.{Records}
 use Rattle.cl_model.proofs.Runs.{names_equal}
 use Rattle.cl_model.proofs.Ancestors.{same_self}
 use Rattle.cl_model.proofs.Complete.{is_class}
 use Rattle.cl_hierarchy.specs.Rows.{Rowed}
 use Rattle.cl_hierarchy.specs.Lineages.{row_of}
-use Rattle.cl_registry.specs.Tables.{Shown, state_of, records_of, defined, IsKept, looked, Records, LacksRecord}
+use Rattle.cl_registry.specs.Tables.{Shown, state_of, records_of, defined, IsKept, looked, LacksRecord}
 use Rattle.cl_registry.proofs.Histories.{eq_nat}
 use Rattle.cl_registry.proofs.Running.{recorded_hold, all_known}
 use Rattle.cl_model.proofs.Bind.{none_not_some, some_same}
@@ -136,16 +137,16 @@ place_looked told x l n k = by_record (recorded (records_of x) l n) refl
         ap (option_map (λ (r : Rowed). r.class.loader)) is.looked ∙ ap (λ (c : Class). Some c.loader) is.named ∙ sym e
 
 -- a row that is looked up is of the class that is recorded
-pub looked_records : (told : Option Content) (x : Shown) (l : ℕ) (n : List ℕ) (r : Rowed) → IsKept told x → looked x l n ≡ Some r → Records x l n r
+pub looked_records : (told : Option Content) (x : Shown) (l : ℕ) (n : List ℕ) (r : Rowed) → IsKept told x → looked x l n ≡ Some r → Records (state_of x) l n r.class
 looked_records told x l n r k e = by_record (recorded (records_of x) l n) refl
   where
-    by_record : (o : Option ℕ) → recorded (records_of x) l n ≡ o → Records x l n r
+    by_record : (o : Option ℕ) → recorded (records_of x) l n ≡ o → Records (state_of x) l n r.class
     by_record None f = absurd (none-some r (sym (looked_none x l n f) ∙ e))
     by_record (Some p) f =
         let is = looked_some told x l p n k f in
         let same : is.row ≡ r = some_same is.row r (sym is.looked ∙ e) in
         let of : r.class ≡ class n p = ap (λ (s : Rowed). s.class) (sym same) ∙ is.named in
-        record { named = ap (λ (c : Class). c.name) of; recorded = f ∙ ap (λ (c : Class). Some c.loader) (sym of) }
+        (ap (λ (c : Class). c.name) of, f ∙ ap (λ (c : Class). Some c.loader) (sym of))
 
 pub looked_lacks : (told : Option Content) (x : Shown) (l : ℕ) (n : List ℕ) → IsKept told x → looked x l n ≡ None → LacksRecord x l n
 looked_lacks told x l n k e = by_record (recorded (records_of x) l n) refl
@@ -154,7 +155,7 @@ looked_lacks told x l n k e = by_record (recorded (records_of x) l n) refl
     by_record None f = f
     by_record (Some p) f = let is = looked_some told x l p n k f in absurd (none-some is.row (sym e ∙ is.looked))
 
-pub looked_is : (told : Option Content) (x : Shown) (l : ℕ) (n : List ℕ) (o : Option Rowed) → IsKept told x → o ≡ looked x l n → MatchOption o (LacksRecord x l n) (Records x l n)
+pub looked_is : (told : Option Content) (x : Shown) (l : ℕ) (n : List ℕ) (o : Option Rowed) → IsKept told x → o ≡ looked x l n → MatchOption o (LacksRecord x l n) (λ r. Records (state_of x) l n r.class)
 looked_is told x l n None k e = looked_lacks told x l n k (sym e)
 looked_is told x l n (Some r) k e = looked_records told x l n r k (sym e)
 

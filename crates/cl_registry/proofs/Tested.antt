@@ -11,6 +11,7 @@ use Rattle.cl_model.proofs.Complete.{is_class}
 use Rattle.std.proofs.lemmas.Map.Views.{Contains-from_any}
 use Rattle.indexmap.specs.IndexSet.{insert_key}
 use Rattle.cl_model.specs.States.{State, Need, Met, AllMet, Refused, recorded}
+use Rattle.cl_model.specs.Tables.{Records}
 use Rattle.cl_hierarchy.specs.Imposed.{Listed, Sprung, OfPreparation, equal_need, needs_of}
 use Rattle.cl_hierarchy.specs.Lineages.{Lined}
 use Rattle.cl_hierarchy.specs.Rows.{Rowed}
@@ -21,7 +22,7 @@ use Rattle.cl_findings.specs.Bases.{IsListed}
 use Rattle.cl_registry.specs.Imposing.{Constrains, Imposes, IsNextOf, IsPreparedAbove, IsPreparedBy, IsReached, IsReady, IsReadyBy, IsStanding, MarksBy, MayImpose, MayPrepareAs, StandsFor, with_constrain}
 use Rattle.cl_registry.specs.declared.registry.RegistryFault.TheVariants.{Memory}
 use Rattle.cl_registry.specs.Refusals.{MarkRefusedFor}
-use Rattle.cl_registry.specs.Tables.{Shown, IsKept, LacksRecord, Records, records_of, state_of}
+use Rattle.cl_registry.specs.Tables.{Shown, IsKept, LacksRecord, records_of, state_of}
 use Rattle.cl_model.proofs.Bind.{some_same, none_not_some}
 
 -- ---- equalities that are met
@@ -103,12 +104,12 @@ ready_by x l needs false stands above h = λ ready. h ready.imposed
 -- ---- direct supertypes
 
 -- the supertype that was looked up is prepared, if it is
-pub above_by : (x : Shown) (c : Class) (a : Above) (row : Rowed) (b : Bool) → Records x c.loader a.name row → Decides b (Contains (state_of x).prepared row.class) → Decides b (IsPreparedAbove x c a)
-above_by x c a row true r h = record { place = row.class.loader; recorded = r.recorded; prepared = subst (λ (n : List ℕ). Contains (state_of x).prepared (class n row.class.loader)) r.named h }
+pub above_by : (x : Shown) (c : Class) (a : Above) (row : Rowed) (b : Bool) → Records (state_of x) c.loader a.name row.class → Decides b (Contains (state_of x).prepared row.class) → Decides b (IsPreparedAbove x c a)
+above_by x c a row true r h = record { place = row.class.loader; recorded = r.1; prepared = subst (λ (n : List ℕ). Contains (state_of x).prepared (class n row.class.loader)) r.0 h }
 above_by x c a row false r h =
     λ p.
-    let same : row.class.loader ≡ p.place = some_same row.class.loader p.place (sym r.recorded ∙ p.recorded) in
-    h (subst (λ (d : Class). Contains (state_of x).prepared d) (ap (λ (n : List ℕ). class n p.place) (sym r.named) ∙ ap (λ (q : ℕ). class row.class.name q) (sym same)) p.prepared)
+    let same : row.class.loader ≡ p.place = some_same row.class.loader p.place (sym r.1 ∙ p.recorded) in
+    h (subst (λ (d : Class). Contains (state_of x).prepared d) (ap (λ (n : List ℕ). class n p.place) (sym r.0) ∙ ap (λ (q : ℕ). class row.class.name q) (sym same)) p.prepared)
 
 pub above_none : (x : Shown) (c : Class) (a : Above) → LacksRecord x c.loader a.name → IsPreparedAbove x c a → ⊥
 above_none x c a none p = none_not_some _ none p.recorded

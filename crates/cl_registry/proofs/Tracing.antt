@@ -7,11 +7,12 @@ use Rattle.cl_model.specs.declared.class.Class.{Class}
 use Rattle.cl_model.specs.Content.{Content}
 use Rattle.cl_model.specs.Classes.{class, same_class}
 use Rattle.cl_model.specs.States.{IsRecorded, recorded}
+use Rattle.cl_model.specs.Tables.{Records}
 use Rattle.cl_model.proofs.Complete.{is_class}
 use Rattle.cl_hierarchy.specs.Lineages.{IsRowIn, Lined, rows_in, row_of}
 use Rattle.cl_hierarchy.specs.RowTables.{IsMadeOf}
 use Rattle.cl_hierarchy.specs.Rows.{Rowed}
-use Rattle.cl_registry.specs.Tables.{Shown, state_of, records_of, looked, IsKept, IsPlaced, LacksRecord, Records}
+use Rattle.cl_registry.specs.Tables.{Shown, state_of, records_of, looked, IsKept, IsPlaced, LacksRecord}
 use Rattle.cl_registry.specs.Traced.{IsRowOf, IsTraced}
 use Rattle.cl_registry.proofs.Looked.{row_is}
 use Rattle.cl_registry.proofs.Placed.{recorded_row}
@@ -67,12 +68,12 @@ none_or : (o : Option Rowed) → ((r : Rowed) → o ≡ Some r → ⊥) → o �
 none_or None h = refl
 none_or (Some r) h = absurd (h r refl)
 
-pub own_row : (x : Shown) (l : ℕ) (n : List ℕ) (r : Rowed) → Records x l n r → looked x l n ≡ Some r → r.class.loader ≡ l → Some r ≡ row_of x.rows (class n l)
-own_row x l n r rec at own = sym at ∙ looked_row x l l n (rec.recorded ∙ ap (λ (p : ℕ). Some p) own)
+pub own_row : (x : Shown) (l : ℕ) (n : List ℕ) (r : Rowed) → Records (state_of x) l n r.class → looked x l n ≡ Some r → r.class.loader ≡ l → Some r ≡ row_of x.rows (class n l)
+own_row x l n r rec at own = sym at ∙ looked_row x l l n (rec.1 ∙ ap (λ (p : ℕ). Some p) own)
 
-pub other_row : (told : Option Content) (x : Shown) (l : ℕ) (n : List ℕ) (r : Rowed) → IsKept told x → Records x l n r → (r.class.loader ≡ l → ⊥) → None ≡ row_of x.rows (class n l)
+pub other_row : (told : Option Content) (x : Shown) (l : ℕ) (n : List ℕ) (r : Rowed) → IsKept told x → Records (state_of x) l n r.class → (r.class.loader ≡ l → ⊥) → None ≡ row_of x.rows (class n l)
 other_row told x l n r k rec other =
-    sym (none_or (row_of x.rows (class n l)) (λ s e. other (value_same r.class.loader l (recorded (records_of x) l n) rec.recorded (row_recorded told x (class n l) s k e))))
+    sym (none_or (row_of x.rows (class n l)) (λ s e. other (value_same r.class.loader l (recorded (records_of x) l n) rec.1 (row_recorded told x (class n l) s k e))))
 
 pub lacks_row : (told : Option Content) (x : Shown) (l : ℕ) (n : List ℕ) → IsKept told x → LacksRecord x l n → None ≡ row_of x.rows (class n l)
 lacks_row told x l n k none = sym (none_or (row_of x.rows (class n l)) (λ s e. none_not_some (recorded (records_of x) l n) none (row_recorded told x (class n l) s k e)))

@@ -18,7 +18,7 @@ use Rattle.cl_model.specs.Machine.{MaySettle}
 use Rattle.cl_model.specs.Service.{ComesTo}
 use Rattle.cl_model.specs.Tables.{BearsAnswer, Records}
 use Rattle.cl_model.specs.Views.{answer_of, request_of, verdict_of}
-use Rattle.cl_findings.specs.Findings.{Answered, Based, IsLookedUp, Rests, Stands}
+use Rattle.cl_findings.specs.Findings.{Answered, Based, IsLookedUp, Rests, Stands, ungrounded}
 use Rattle.cl_registry.specs.declared.registry.RegistryFault.TheVariants.{Stray}
 use Rattle.cl_registry.specs.Tables.{Shown, state_of, records_of, IsKept, settled_at, machine}
 use Rattle.cl_registry.specs.References.{IsSettledIn, IsUnsettled, cited_by, settled_by}
@@ -99,4 +99,4 @@ LinkedIsPrepared =
 abbrev pub SettledIsBacked : Type 0
 SettledIsBacked =
     (told : Option Content) (x : Shown) (r : Request) (s : Arc Settled Global) → IsKept told x → settled_by x r ≡ Some s.value
-    → IsBacked x (record { request = r; answer = answers.Shared s; basis = None })
+    → IsBacked x (ungrounded r (answers.Shared s))

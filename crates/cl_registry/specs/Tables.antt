@@ -169,11 +169,6 @@ settled_at x c index = find (λ s. same_class s.class c && (s.index == index)) (
 
 -- ---- calls
 
--- the loader has recorded the name as this row's class (5.3)
-pub record Records (x : Shown) (loader : ℕ) (name : List ℕ) (row : Rowed) : Type 0 where
-  pub named : row.class.name ≡ name
-  pub recorded : recorded (records_of x) loader name ≡ Some row.class.loader
-
 -- the loader has not recorded the name (5.3)
 abbrev pub LacksRecord : Shown → ℕ → List ℕ → Type 0
 LacksRecord x loader name = recorded (records_of x) loader name ≡ None

@@ -3,9 +3,10 @@
 ghost use Rattle.std.specs.Prelude.{◌≡◌, ◌<◌, Some, None, IfErr, IfOk, IfSome, MatchOption, length};
 ghost use Rattle.cl_delegation.specs.Searches.{LeadsTo};
 ghost use Rattle.cl_findings.specs.Findings.{Decides};
+ghost use Rattle.cl_model.specs.Tables.{Records};
 ghost use Rattle.cl_registry.specs.declared.registry.RegistryFault.TheVariants.{Memory};
 ghost use Rattle.cl_registry.specs.Refusals.{AddRefusedFor, DefineRefusedFor, InitiateRefusedFor, MemoryOrStray};
-ghost use Rattle.cl_registry.specs.Tables.{DefinedAs, Defines, InitiatedAs, Initiates, IsKept, IsNew, LacksRecord, MayEnter, MayJoin, Records, looked};
+ghost use Rattle.cl_registry.specs.Tables.{DefinedAs, Defines, InitiatedAs, Initiates, IsKept, IsNew, LacksRecord, MayEnter, MayJoin, looked, state_of};
 ghost use Rattle.cl_findings.specs.Loads.{asked_record, own_record};
 
 use crate::entries::{asked_row, defined_row, has_supers, join, own_row, record};
@@ -40,8 +41,8 @@ impl<T: Told> Registry<T> {
         draft: Draft<T>,
     ) -> Result<Arc<ClassRow<T>>, DefineRefused<T>>
         ensures defined { IfOk result (λ r. Defines self.old self.new draft r.value) }
-        ensures found { IfOk result (λ r. Records self.new draft.class.loader draft.class.name
-            r.value) }
+        ensures found { IfOk result (λ r. Records (state_of self.new) draft.class.loader
+            draft.class.name r.value.class) }
         ensures shown { IfOk result (λ r. looked self.new draft.class.loader draft.class.name
             ≡ Some r.value) }
         ensures refused { IfErr result (λ e. DefineRefusedFor self.old draft e.fault) }
@@ -72,7 +73,8 @@ impl<T: Told> Registry<T> {
         home: &Home<T>,
     ) -> Result<Arc<ClassRow<T>>, RegistryFault>
         ensures initiated { IfOk result (λ r. Initiates self.old self.new home.now r.value) }
-        ensures found { IfOk result (λ r. Records self.new home.now.asked home.now.name r.value) }
+        ensures found { IfOk result (λ r. Records (state_of self.new) home.now.asked
+            home.now.name r.value.class) }
         ensures shown { IfOk result (λ r. looked self.new home.now.asked home.now.name
             ≡ Some r.value) }
         ensures refused { IfErr result (λ fault. InitiateRefusedFor self.old home.now fault) }

@@ -2,7 +2,8 @@
 
 ghost use Rattle.std.specs.Prelude.{◌≡◌, OnOk, IfOk, IfErr, MatchOption, map};
 ghost use Rattle.std.specs.Option.{option_map};
-ghost use Rattle.cl_registry.specs.Tables.{IsKept, LacksRecord, MayGoOn, Records, empty_of, looked, round_of, with_round};
+ghost use Rattle.cl_model.specs.Tables.{Records};
+ghost use Rattle.cl_registry.specs.Tables.{IsKept, LacksRecord, MayGoOn, empty_of, looked, round_of, state_of, with_round};
 ghost use Rattle.cl_registry.specs.Refusals.{RoundRefusedFor};
 ghost use Rattle.cl_registry.specs.Reports.{IsBack, IsReported};
 ghost use Rattle.cl_findings.specs.Findings.{Decides};
@@ -195,7 +196,7 @@ impl<T: Told> Registry<T> {
     pub fn look(&self, loader: LoaderId, name: &Name) -> Option<&Arc<ClassRow<T>>>
         ensures row { option_map (λ r. r.now.value) result ≡ looked self.now loader name.now }
         ensures found { MatchOption result (LacksRecord self.now loader name.now)
-            (λ r. Records self.now loader name.now r.now.value) }
+            (λ r. Records (state_of self.now) loader name.now r.now.value.class) }
         ensures kept { IsKept T.told self.now }
     {
         find(&self.tables, loader, name)

@@ -1,8 +1,9 @@
 use Rattle.std.proofs.Common.{◌≡◌, ◌∙◌, Some, None, ap, sym, subst}
 use Rattle.std.specs.Prelude.{IfOk}
 use Rattle.cl_model.specs.States.{recorded}
+use Rattle.cl_model.specs.Tables.{Records}
 use Rattle.cl_hierarchy.specs.Rows.{Rowed}
-use Rattle.cl_registry.specs.Tables.{Shown, Defines, IsKept, IsNew, Records, records_of, looked}
+use Rattle.cl_registry.specs.Tables.{Shown, Defines, IsKept, IsNew, records_of, state_of, looked}
 use Rattle.cl_registry.specs.View.{shown}
 use Rattle.cl_registry.proofs.Asked.{found_none, found_some, known_defined}
 use Rattle.cl_registry.proofs.Looked.{looked_records}
@@ -18,7 +19,7 @@ found : (g : _) (c : goal.Joined-share g) → looked (known g c) c.args.draft.cl
 found g c =
     found_some (λ r. r.now) (λ r. r.value) g.T.Told.told (known g c) c.args.draft.class.loader c.args.draft.class.name c.self.invariant.kept _ (c.self.invariant.rows c.args.draft.class.loader c.args.draft.class.name) c.own_row.result c.in-Some.row c.own_row.ensures c.in-Some.is
 
-records : (g : _) (c : goal.Joined-share g) → Records (known g c) c.args.draft.class.loader c.args.draft.class.name c.in-Some.row.now.value
+records : (g : _) (c : goal.Joined-share g) → Records (state_of (known g c)) c.args.draft.class.loader c.args.draft.class.name c.in-Some.row.now.value.class
 records g c = looked_records g.T.Told.told (known g c) c.args.draft.class.loader c.args.draft.class.name c.in-Some.row.now.value c.self.invariant.kept (found g c)
 
 pub returns-in-Some-clause-defined : goal.returns-in-Some-clause-defined
@@ -32,9 +33,9 @@ returns-in-Some-clause-defined g c =
 
 pub returns-in-Some-clause-found : goal.returns-in-Some-clause-found
 returns-in-Some-clause-found g c =
-    subst (λ (y : Shown). IfOk c.match-share.result (λ r. Records y c.args.draft.class.loader c.args.draft.class.name r.value)) c.self.view_is
+    subst (λ (y : Shown). IfOk c.match-share.result (λ r. Records (state_of y) c.args.draft.class.loader c.args.draft.class.name r.value.class)) c.self.view_is
     elim c.match-share.branch [
-      | in-Ok w ↦ rw w.result-is (subst (λ (v : Rowed). Records (known g c) c.args.draft.class.loader c.args.draft.class.name v) (sym w.in-Ok.ensures.row) (records g c))
+      | in-Ok w ↦ rw w.result-is (subst (λ (v : Rowed). Records (state_of (known g c)) c.args.draft.class.loader c.args.draft.class.name v.class) (sym w.in-Ok.ensures.row) (records g c))
       | in-Err w ↦ rw w.result-is tt
     ]
 
@@ -53,7 +54,7 @@ returns-in-Some-clause-refused g c =
       | in-Err w ↦
           rw (w.result-is, w.in-Err.ensures.memory)
           (λ none.
-          absurd (none_not_some _ (subst (λ (y : Shown). recorded (records_of y) c.args.draft.class.loader c.args.draft.class.name ≡ None) (sym c.self.view_is) none) (records g c).recorded))
+          absurd (none_not_some _ (subst (λ (y : Shown). recorded (records_of y) c.args.draft.class.loader c.args.draft.class.name ≡ None) (sym c.self.view_is) none) (records g c).1))
     ]
 
 fresh : (g : _) (c : goal.After-drop-draft-in-Ok-define_new g) → IsNew c.args.self.now c.args.draft

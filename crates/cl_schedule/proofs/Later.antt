@@ -113,12 +113,12 @@ row_stays old more new c row e found =
 pub recorded_as_later : (old new : Shown) (loader : ℕ) (name : List ℕ) (row : Rowed) → GoesOn old new → IsRecordedAs old loader name row → IsRecordedAs new loader name row
 recorded_as_later old new loader name row h is =
     let place = row.class.loader in
-    let there = record_later old new loader place name h is.records.recorded in
+    let there = record_later old new loader place name h is.records.1 in
     record {
-      records = record { named = is.records.named; recorded = there };
+      records = (is.records.0, there);
       kept =
           looked_row new loader place name there
-          ∙ row_stays old.rows h.more new.rows (class name place) row h.rows (sym (looked_row old loader place name is.records.recorded) ∙ is.kept);
+          ∙ row_stays old.rows h.more new.rows (class name place) row h.rows (sym (looked_row old loader place name is.records.1) ∙ is.kept);
     }
 
 accepted_later : (old new : Shown) → GoesOn old new → (c : Class) (ts : List Class) (others : List Above) → HaveAccepted old c ts others → HaveAccepted new c ts others

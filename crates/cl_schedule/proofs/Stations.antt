@@ -7,11 +7,11 @@ use Rattle.cl_model.specs.declared.request.Request.{Request}
 use Rattle.cl_model.specs.declared.request.Request.TheVariants as requests
 use Rattle.cl_model.specs.declared.verdict.Verdict.TheVariants as verdicts
 use Rattle.cl_model.specs.States.{State, Verdict, Said, IsClass, IsLinked, recorded, settled_to}
-use Rattle.cl_model.specs.Tables.{Records}
 use Rattle.cl_model.specs.Views.{answer_of, request_of, verdict_of}
 use Rattle.cl_hierarchy.specs.Rows.{Rowed}
 use Rattle.cl_findings.specs.Findings.{Answered, loader_of, name_of}
 use Rattle.cl_registry.specs.Tables.{Shown, records_of, state_of, with_post}
+use Rattle.cl_registry.proofs.Bearing.{one_class}
 use Rattle.cl_tasks.specs.Facts.{IsRecordedAs}
 use Rattle.cl_tasks.specs.Follows.{Posts, Refuses, refusal}
 use Rattle.cl_tasks.specs.Tasks.{Tasked}
@@ -40,18 +40,12 @@ no_posts a u p call = no_post_or a u (posts_or a u p) call
 
 -- ---- stations
 
-one_class : (s : State) (loader : ℕ) (name : List ℕ) (c d : Class) → Records s loader name c → d.name ≡ name → recorded s.records loader name ≡ Some d.loader → c ≡ d
-one_class s loader name c d kept named is =
-    let at : c.loader ≡ d.loader = some_same c.loader d.loader (sym kept.1 ∙ is) in
-    let n : c.name ≡ d.name = kept.0 ∙ sym named in
-    rw (n, at) refl
-
 has_of : (x : Shown) (r : Request) (v : Verdict) (row : Rowed) → Has (state_of x) (request_of r) v → IsRecordedAs x (loader_of r) (name_of r) row → HasOf (state_of x) (request_of r) row.class v
-has_of x (requests.Load loader name) v row h k = h.2 ∙ ap (λ (c : Class). IsClass c) (one_class (state_of x) loader name h.0 row.class h.1 k.records.named k.records.recorded)
+has_of x (requests.Load loader name) v row h k = h.2 ∙ ap (λ (c : Class). IsClass c) (one_class (state_of x) loader name h.0 row.class h.1 k.records)
 has_of x (requests.Resolve loader name i) v row h k =
-    subst (λ (c : Class). settled_to (state_of x).settled c i ≡ Some v) (one_class (state_of x) loader name h.0 row.class h.1 k.records.named k.records.recorded) h.2
+    subst (λ (c : Class). settled_to (state_of x).settled c i ≡ Some v) (one_class (state_of x) loader name h.0 row.class h.1 k.records) h.2
 has_of x (requests.Link loader name) v row h k =
-    let same = one_class (state_of x) loader name h.0 row.class h.1 k.records.named k.records.recorded in
+    let same = one_class (state_of x) loader name h.0 row.class h.1 k.records in
     (subst (λ (c : Class). Contains (state_of x).prepared c) same h.2.0, h.2.1 ∙ ap (λ (c : Class). IsLinked c) same)
 
 has_record : (s : State) (r : Request) (v : Verdict) → Has s (request_of r) v → (place : ℕ) × (recorded s.records (loader_of r) (name_of r) ≡ Some place)

@@ -31,7 +31,7 @@ use Rattle.cl_model.proofs.Service.{resolve_wants, said_comes}
 use Rattle.cl_model.proofs.Tables.{recorded_reached}
 use Rattle.cl_model.proofs.Bind.{some_same}
 use Rattle.cl_config.specs.Views.{Configured}
-use Rattle.cl_findings.specs.Findings.{Answered, Based, Rests, loader_of, grounded}
+use Rattle.cl_findings.specs.Findings.{Answered, Based, Rests, loader_of, grounded, ungrounded}
 use Rattle.cl_hierarchy.specs.Rows.{Rowed}
 use Rattle.cl_registry.proofs.Named.{recorded_is_named}
 use Rattle.cl_findings.specs.References.{EndsAtClass, EndsAtOnce, IsAtClass, IsAtOnce, class_basis, entry_basis}
@@ -131,7 +131,7 @@ settled_comes g s l d i v sound kept settled =
     one_class e is = let same : d.loader ≡ e.loader = some_same d.loader e.loader (sym kept ∙ is.1) in rw (same, sym is.0) refl
 
 pub leads_shared : (A : Type 0) (told : Option Content) (c : Configured) (q : ℕ) (r : Request) (d : Class) (i : ℕ) (s : Arc Settled Global) (room : Room) (holds : Shown → Type 0) → r ≡ requests.Resolve (loader_of r) d.name i → loader_of r < length c.loaders → ((x : Shown) → holds x → recorded (records_of x) (loader_of r) d.name ≡ Some d.loader)
-    → ((x : Shown) → holds x → IsSettledIn x d i s.value) → 0 < room.turns → HasPost room → LeadsBy {A = A} told c q r room holds (record { stage = stages.Done q; turn = turn.Post (record { request = r; answer = answers.Shared s; basis = None }) })
+    → ((x : Shown) → holds x → IsSettledIn x d i s.value) → 0 < room.turns → HasPost room → LeadsBy {A = A} told c q r room holds (record { stage = stages.Done q; turn = turn.Post (ungrounded r (answers.Shared s)) })
 leads_shared A told c q r d i s room holds is asked kept settled more post =
     leads_post refl more post
     (λ x config named consistent h. record {
@@ -224,7 +224,7 @@ class_stood A told c config e k v entry same ends rests = record {
   within = λ x is named h. record {
     loader = subst (λ (k : Configured). loader_of e.request < length k.loaders) (sym is) entry.asked;
     answer =
-        class_names (length x.config.loaders) k.class v (ends_of_class _ ends.cited k.class (verdict_of v) ends.ends)
+        class_names (length x.config.loaders) k.class v (ends_of_class _ ends.cites.cited k.class (verdict_of v) ends.ends)
         (recorded_is_named x e.d.value.class.loader k.class.loader k.class.name named h.1.0);
   };
 }
@@ -265,7 +265,7 @@ settles_class A told c config e kept k v f n entry same_kept same ends kind h is
     (same_entry c e kept entry same_kept) same_kept.number same_kept.request (λ x t. same_told x e kept same_kept (t.0, tt)) (omega arith) (λ w p s. omega arith))
 
 -- what the entry was found to be settled to is the answer
-pub shares_entry : (A : Type 0) (told : Option Content) (c : Configured) (e : entries.Entry A) (o : Option (Arc Settled Global)) (s : Arc Settled Global) (n : Next A) → IsEntry c e → o ≡ Some s → n ≡ record { stage = stages.Done e.q; turn = turn.Post (record { request = e.request; answer = answers.Shared s; basis = None }) }
+pub shares_entry : (A : Type 0) (told : Option Content) (c : Configured) (e : entries.Entry A) (o : Option (Arc Settled Global)) (s : Arc Settled Global) (n : Next A) → IsEntry c e → o ≡ Some s → n ≡ record { stage = stages.Done e.q; turn = turn.Post (ungrounded e.request (answers.Shared s)) }
     → LeadsBy told c e.q e.request reference_room (SettledTold e o) n
 shares_entry A told c e o s n entry found is =
     subst (λ (m : Next A). LeadsBy told c e.q e.request reference_room (SettledTold e o) m) (sym is)

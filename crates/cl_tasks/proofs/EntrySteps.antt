@@ -109,7 +109,7 @@ failed_unrecorded told c f failed g x served facts =
 
 -- so nothing is found there
 found_never : {A : Type 0} (told : Option Content) (c : Configured) (f : Failed A) → IsFailed told c f → (row : Arc (ClassRow A) Global) (g : Setting) (x : Shown) → ServedIn told c g (state_of x) → Tells {A = A} x (resolving_at c (resolutions.Checking f)) (reply.Looked (Some row)) → ⊥
-found_never told c f failed row g x served h = none-some _ (sym (failed_unrecorded told c f failed g x served h.before.facts) ∙ h.now.records.recorded)
+found_never told c f failed row g x served h = none-some _ (sym (failed_unrecorded told c f failed g x served h.before.facts) ∙ h.now.records.1)
 
 pub found_steps : {A : Type 0} (told : Option Content) (c : Configured) (f : Failed A) (row : Arc (ClassRow A) Global) (n : Next A) → IsFailed told c f → row.value.class.name ≡ name_of f.request → ReachesBy f.q f.request row n
     → GoesOnWith f.request row.value.class (task_at c n.stage) n.turn → IsPlain n.turn → IsPast n.stage → Steps told (resolving_at c (resolutions.Checking f)) (reply.Looked (Some row)) n

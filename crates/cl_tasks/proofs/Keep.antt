@@ -29,7 +29,7 @@ Has x f = HaveAccepted x f.class f.accepted (supers f.file)
 one_kept : (x : Shown) (c t : Class) (a : Above) → HasAccepted x c t a → Keeps (state_of x) c.loader t
 one_kept x c t a h =
     subst (λ (k : Class). Keeps (state_of x) c.loader k) h.is
-    (subst (λ (n : Name). recorded (records_of x) c.loader n ≡ Some h.row.class.loader) (sym h.recorded.records.named) h.recorded.records.recorded)
+    (subst (λ (n : Name). recorded (records_of x) c.loader n ≡ Some h.row.class.loader) (sym h.recorded.records.0) h.recorded.records.1)
 
 accepted_kept : (x : Shown) (c : Class) (ts : List Class) (others : List Above) → HaveAccepted x c ts others → AllByRecursion (Keeps (state_of x) c.loader) ts
 accepted_kept x c [] others h = tt
@@ -46,7 +46,7 @@ all_kept x (f ∷ fs) h = (frame_kept x f h.0, all_kept x fs h.1)
 accepted_named : (x : Shown) (c : Class) (ts : List Class) (others : List Above) → HaveAccepted x c ts others → NamedAs ts others
 accepted_named x c [] others h = tt
 accepted_named x c (t ∷ ts) [] h = absurd h
-accepted_named x c (t ∷ ts) (a ∷ others) h = (sym (ap (λ (k : Class). k.name) h.0.is) ∙ h.0.recorded.records.named, accepted_named x c ts others h.1)
+accepted_named x c (t ∷ ts) (a ∷ others) h = (sym (ap (λ (k : Class). k.name) h.0.is) ∙ h.0.recorded.records.0, accepted_named x c ts others h.1)
 
 pub frame_named : (x : Shown) (f : Frame) → Has x f → NamedAs f.accepted (supers f.file)
 frame_named x f h = accepted_named x f.class f.accepted (supers f.file) h
@@ -120,7 +120,7 @@ takes x p before last row top h told fits =
     subst (λ (z : Frame). Has x z) (sym f) (accepting_has x (frame_of last) a (class a.name row.class.loader) h top.wants (record {
       row = row;
       recorded = by_loader;
-      is = class_at row.class a.name by_loader.records.named;
+      is = class_at row.class a.name by_loader.records.0;
       fits = sym (top.judged row.class (file_of row.file)) ∙ fits;
     }))
 

@@ -19,7 +19,7 @@ use Rattle.cl_config.specs.Views.{Configured}
 use Rattle.cl_delegation.specs.Worlds.{world_of}
 use Rattle.cl_hierarchy.specs.Lineages.{IsInOrder, IsLineageOf, Lined, kin_of, rows_in}
 use Rattle.cl_hierarchy.specs.Rows.{Rowed}
-use Rattle.cl_findings.specs.Findings.{Answered, IsLookedUp, loader_of}
+use Rattle.cl_findings.specs.Findings.{Answered, IsLookedUp, loader_of, ungrounded}
 use Rattle.cl_findings.proofs.Links.{lineage_classes}
 use Rattle.cl_registry.specs.Posting.{IsBacked}
 use Rattle.cl_registry.specs.Tables.{NamesLoaders, Shown, records_of, state_of}
@@ -116,7 +116,7 @@ linked_borne s r d is at prepared =
 
 -- the answer of a link
 abbrev pub linked_answer : request.Request → Class → Answered
-linked_answer r d = record { request = r; answer = answers.Said (verdicts.Linked d); basis = None }
+linked_answer r d = ungrounded r (answers.Said (verdicts.Linked d))
 
 linked_backed : (c : Configured) (x : Shown) (r : request.Request) (d : Class) → x.config ≡ c → NamesLoaders x → loader_of r < length c.loaders → r ≡ requests.Link (loader_of r) d.name
     → recorded (records_of x) (loader_of r) d.name ≡ Some d.loader → Contains (state_of x).prepared d → IsBacked x (linked_answer r d)

@@ -163,7 +163,7 @@ defined_calls : {A : Type 0} (told : Option Content) (c : Configured) (j : Job A
 defined_calls {A = A} told c j w row whole draft =
     let now : Shown → Type 0 = λ x. TellsNow {A = A} x (loading_at c (loads.Defining j w)) (reply.Defined row) in
     subst (λ (l : ℕ). Holds told j now 1 (calls_at phases.Defining j l) (defining_calls j w)) (ap (λ (k : Class). k.loader) draft.placed)
-    (defined_holds told j w.draft.class row.value.class.loader now whole.named (λ x t. t.told.now.records.recorded))
+    (defined_holds told j w.draft.class row.value.class.loader now whole.named (λ x t. t.told.now.records.1))
 
 pub steps_defined : {A : Type 0} (told : Option Content) (c : Configured) (j : Job A) (w : Framed) (row : Arc (ClassRow A) Global) (n : Next A) → j.path.config ≡ c → IsWhole told j.path w → IsDraft told w.draft → LeadsFrom told phases.Defining j w.draft.home.place (FindsBy j w.draft.home row.value) n
     → IsPlain n.turn → Derives IsNone (frames_of j.path) n.stage → IsFor j.request j.target j.path → (IsOwnTarget j.target → j.path.frames ≡ [] → w.draft.home.place ≡ at_loader j.path → GoesOnWith j.request row.value.class (task_at c n.stage) n.turn)
@@ -199,7 +199,7 @@ pub steps_initiated : {A : Type 0} (told : Option Content) (c : Configured) (j :
     → Derives IsNone (frames_of j.path) n.stage → (IsOwnTarget j.target → j.path.frames ≡ [] → GoesOnWith j.request row.value.class (task_at c n.stage) n.turn) → Steps told (loading_at c (loads.Initiating j h)) (reply.Initiated row) n
 steps_initiated told c j h row n e sought l plain derives goes =
     plain_steps (loading_at c (loads.Initiating j h)) (reply.Initiated row) n e refl refl l (omega arith)
-    (initiated_holds told j row.value.class.loader _ (λ x t. (initiated_finds x c j h row sought t.told).now.records.recorded))
+    (initiated_holds told j row.value.class.loader _ (λ x t. (initiated_finds x c j h row sought t.told).now.records.1))
     (λ x t. initiated_finds x c j h row sought t) tt tt (λ h. tt) (derives_more IsNone _ (frames_of j.path) n.stage (λ k e. absurd e) derives) (initiated_own c j h row (task_at c n.stage) n.turn goes) plain
 
 initiate_refused : {A : Type 0} (x : Shown) (c : Configured) (j : Job A) (h : Arc (Home A) Global) (need : needs.Need) → need_of need ≡ next_need {A = A} (nexts.Initiate h) → Tells {A = A} x (loading_at c (loads.Initiating j h)) (reply.Refused need) → RefusedOn {A = A} {B = A} j (nexts.Initiate h) x

@@ -1,5 +1,5 @@
 -- What the resolution of an entry that asks for a member does on a reply.
-use Rattle.std.proofs.Common.{Global, ◌≡◌, ◌<◌, ◌≤◌, ◌+◌, ◌-◌, ℕ, [], ◌∷◌, ◌++◌, length, Option, Some, None, inl, refl, sym, subst, arith}
+use Rattle.std.proofs.Common.{Global, ◌≡◌, ◌<◌, ◌≤◌, ◌+◌, ◌-◌, ℕ, [], ◌∷◌, ◌++◌, length, Option, Some, inl, refl, sym, subst, arith}
 use Rattle.std.specs.Prelude.{slice_get, IfSome}
 use Rattle.std.specs.declared.sync.Arc.{Arc}
 use Rattle.cl_model.specs.declared.answer.Answer.TheVariants as answers
@@ -16,7 +16,7 @@ use Rattle.cl_config.specs.Views.{Configured}
 use Rattle.cl_hierarchy.specs.Imposed.{equal_need}
 use Rattle.cl_hierarchy.specs.Lineages.{Lined}
 use Rattle.cl_hierarchy.specs.Rows.{Rowed}
-use Rattle.cl_findings.specs.Findings.{loader_of}
+use Rattle.cl_findings.specs.Findings.{loader_of, ungrounded}
 use Rattle.cl_registry.specs.References.{IsSettledIn}
 use Rattle.cl_registry.specs.Tables.{Shown, records_of, state_of}
 use Rattle.cl_registry.proofs.Schedules.{some_at}
@@ -96,7 +96,7 @@ settled_in : (x : Shown) (r : Request) (d : Class) (i : ℕ) (s : Settled) → r
 settled_in x r d i s is at h = subst (λ (q : Request). IsSettledOf x q s) is h d (refl, at)
 
 pub settled_steps : {A : Type 0} (told : Option Content) (c : Configured) (e : entries.Entry A) (s : Arc Settled Global) → IsEntry c e
-    → Steps {A = A} told (resolving_at c (resolutions.Settling e)) (reply.Settled s) (record { stage = stages.Done e.q; turn = turn.Post (record { request = e.request; answer = answers.Shared s; basis = None }) })
+    → Steps {A = A} told (resolving_at c (resolutions.Settling e)) (reply.Settled s) (record { stage = stages.Done e.q; turn = turn.Post (ungrounded e.request (answers.Shared s)) })
 settled_steps {A} told c e s entry =
     let holds : Shown → Type 0 = λ x. Tells {A = A} x (resolving_at c (resolutions.Settling e)) (reply.Settled s) in
     let kept : (x : Shown) → holds x → recorded (records_of x) (loader_of e.request) e.d.value.class.name ≡ Some e.d.value.class.loader = λ x h. h.before.facts.0 in

@@ -69,7 +69,7 @@ end_met x j (obstacles.Missing u) stops told = tt
 end_met x j (obstacles.Unreadable u) stops told = tt
 end_met x j (obstacles.Circle h) stops told = tt
 end_met x j (obstacles.Misfit row c kind) stops told =
-    (subst (λ (n : List ℕ). recorded (records_of x) (at_loader j.path) n ≡ Some c.loader) (sym stops.1) (told.records.recorded ∙ ap (λ (k : Class). Some k.loader) stops.0), tt)
+    (subst (λ (n : List ℕ). recorded (records_of x) (at_loader j.path) n ≡ Some c.loader) (sym stops.1) (told.records.1 ∙ ap (λ (k : Class). Some k.loader) stops.0), tt)
 
 moved : {c d : Configured} {n : ℕ} → c ≡ d → n < length c.loaders → n < length d.loaders
 moved {n = n} e h = subst (λ (k : Configured). n < length k.loaders) e h
@@ -86,7 +86,7 @@ end_within x r t p (obstacles.Circle h) law named config asked at stops within t
 end_within x r t p (obstacles.Misfit row c kind) law named config asked at stops within told = record {
   loader = moved config asked;
   answer =
-      subst (λ (k : Class). k.loader < length x.config.loaders) stops.0 (law x (at_loader p) row.value.class.loader (at_name p) named told.records.recorded);
+      subst (λ (k : Class). k.loader < length x.config.loaders) stops.0 (law x (at_loader p) row.value.class.loader (at_name p) named told.records.1);
 }
 
 -- an obstacle is the end of a load

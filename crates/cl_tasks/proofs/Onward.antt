@@ -162,9 +162,7 @@ for_moved r targets.Own p q loader name h = record { loader = h.loader ∙ sym l
 for_moved r (targets.Reference d) p q loader name h = record {
   index = h.index;
   of = h.of;
-  cited = h.cited;
-  found = h.found;
-  names = h.names ∙ ap (λ (n : List ℕ). Some n) (sym name);
+  cites = record { cited = h.cites.cited; found = h.cites.found; names = h.cites.names ∙ ap (λ (n : List ℕ). Some n) (sym name) };
   loader = loader ∙ h.loader;
 }
 
@@ -255,7 +253,7 @@ accepts_last old new place o x e h = subst (λ (k : Option Framed). MatchOption 
 
 home_records : (x : Shown) (p : Pathed) (h : Located) (row : Rowed) → IsSought p h → IsRecordedAs x h.place (at_name p) row → row.class.loader ≡ h.place → recorded (records_of x) h.place h.name ≡ Some h.place
 home_records x p h row sought told own =
-    subst (λ (n : List ℕ). recorded (records_of x) h.place n ≡ Some h.place) (sym sought.name) (told.records.recorded ∙ ap (λ (l : ℕ). Some l) own)
+    subst (λ (n : List ℕ). recorded (records_of x) h.place n ≡ Some h.place) (sym sought.name) (told.records.1 ∙ ap (λ (l : ℕ). Some l) own)
 
 away_wanted : {A : Type 0} (told : Option Content) (j : Job A) (h : Arc (Home A) Global) → IsJob told j.path.config j → IsPath told j.path → IsSought j.path h.value → h.value.place ≢ at_loader j.path → LeadsTo told h.value.config h.value.asked h.value.name (Some h.value.place)
     → (g : Setting) (y : Shown) → ServedIn told j.path.config g (state_of y) → HoldsOn j y → recorded (records_of y) h.value.place h.value.name ≡ Some h.value.place → IsWanted g (state_of y) j.request (Entry h.value.asked h.value.name h.value.place)

@@ -12,6 +12,7 @@ use Rattle.cl_model.specs.Homes.{World}
 use Rattle.cl_model.specs.Machine.{AnswersPlan}
 use Rattle.cl_model.specs.Plans as plans
 use Rattle.cl_model.specs.States.{State, IsClass, recorded}
+use Rattle.cl_model.specs.Tables.{Records}
 use Rattle.cl_model.proofs.Looks.{recorded_answers}
 use Rattle.cl_model.proofs.Service.{load_comes}
 use Rattle.cl_config.specs.Views.{Configured}
@@ -56,7 +57,7 @@ abbrev pub reached_room : Request → Room
 reached_room r = room_of (reached_left r) (reached_calls r)
 
 record_for : (x : Shown) (l : ℕ) (n : List ℕ) (row : Rowed) → IsRecordedAs x l n row → recorded (records_of x) l row.class.name ≡ Some row.class.loader
-record_for x l n row h = subst (λ (k : List ℕ). recorded (records_of x) l k ≡ Some row.class.loader) (sym h.records.named) h.records.recorded
+record_for x l n row h = subst (λ (k : List ℕ). recorded (records_of x) l k ≡ Some row.class.loader) (sym h.records.0) h.records.1
 
 reaches_load : (A : Type 0) (told : Option Content) (c : Configured) (q l : ℕ) (n : List ℕ) (row : Arc (ClassRow A) Global) → l < length c.loaders → LeadsBy {A = A} told c q (requests.Load l n) (reached_room (requests.Load l n)) (RowFor (requests.Load l n) row.value) (reached q (requests.Load l n) row row.value.class)
 reaches_load A told c q l n row asked =
@@ -64,22 +65,22 @@ reaches_load A told c q l n row asked =
     (λ x config named consistent h. record {
       within = record {
         loader = subst (λ (k : Configured). l < length k.loaders) (sym config) asked;
-        answer = recorded_is_named x l row.value.class.loader n named h.records.recorded;
+        answer = recorded_is_named x l row.value.class.loader n named h.records.1;
       };
       answer = record {
         grounded = inl tt;
-        borne = λ d is. let same : row.value.class ≡ d = class_is row.value.class d is in (sym (ap (λ (k : Class). k.name) same) ∙ h.records.named, h.records.recorded ∙ ap (λ (k : Class). Some k.loader) same);
+        borne = λ d is. subst (λ (k : Class). Records (state_of x) l n k) (class_is row.value.class d is) h.records;
       };
     })
     (λ g x served h.
     load_comes g (state_of x) l n (IsClass row.value.class)
-    (subst (λ (k : Class). AnswersPlan g (state_of x) (plans.Load l n) (IsClass k)) (row_class x l n row.value h) (recorded_answers g (state_of x) l row.value.class.loader n served.sound.closed h.records.recorded)))
+    (subst (λ (k : Class). AnswersPlan g (state_of x) (plans.Load l n) (IsClass k)) (row_class x l n row.value h) (recorded_answers g (state_of x) l row.value.class.loader n served.sound.closed h.records.1)))
   where
     class_is : (a b : Class) → IsClass a ≡ IsClass b → a ≡ b
     class_is a b e = cc
 
     row_class : (x : Shown) (l : ℕ) (n : List ℕ) (row : Rowed) → IsRecordedAs x l n row → class n row.class.loader ≡ row.class
-    row_class x l n row h = ap (λ (k : List ℕ). class k row.class.loader) (sym h.records.named)
+    row_class x l n row h = ap (λ (k : List ℕ). class k row.class.loader) (sym h.records.0)
 
 reaches_reference : (A : Type 0) (told : Option Content) (c : Configured) (q l : ℕ) (n : List ℕ) (i : ℕ) (row : Arc (ClassRow A) Global) → l < length c.loaders → row.value.class.name ≡ n
     → LeadsBy {A = A} told c q (requests.Resolve l n i) (reached_room (requests.Resolve l n i)) (RowFor (requests.Resolve l n i) row.value) (reached q (requests.Resolve l n i) row row.value.class)

@@ -1,5 +1,5 @@
 -- What a request asks of its class once that is recorded (JVMS SE 8, 5.3, 5.4, 5.4.3).
-use Rattle.std.specs.Prelude.{◌≡◌, ◌⊎◌, ℕ, None}
+use Rattle.std.specs.Prelude.{◌≡◌, ◌⊎◌, ℕ}
 use Rattle.std.specs.declared.alloc.Global.{Global}
 use Rattle.std.specs.declared.sync.Arc.{Arc}
 use Rattle.cl_model.specs.declared.answer.Answer.TheVariants as answers
@@ -8,6 +8,7 @@ use Rattle.cl_model.specs.declared.request.Request.{Request}
 use Rattle.cl_model.specs.declared.request.Request.TheVariants as requests
 use Rattle.cl_model.specs.declared.verdict.Verdict.TheVariants as verdicts
 use Rattle.cl_hierarchy.specs.declared.row.ClassRow.{ClassRow}
+use Rattle.cl_findings.specs.Findings.{ungrounded}
 use Rattle.cl_tasks.specs.Steps.{memory_ends}
 use Rattle.cl_tasks.specs.declared.stage.Link.TheVariants as links
 use Rattle.cl_tasks.specs.declared.stage.Next.{Next}
@@ -20,7 +21,7 @@ abbrev pub reached : {A : Type 0} → ℕ → Request → Arc (ClassRow A) Globa
 reached q (requests.Load loader name) row c =
     record {
       stage = stages.Done q;
-      turn = turn.Post (record { request = requests.Load loader name; answer = answers.Said (verdicts.Class c); basis = None });
+      turn = turn.Post (ungrounded (requests.Load loader name) (answers.Said (verdicts.Class c)));
     }
 reached q (requests.Resolve loader name i) row c =
     record {

@@ -1,6 +1,7 @@
 -- The requests of the next round, one number after another, and that those are who waits once the round began.
 use Rattle.std.proofs.Common.{◌≡◌, inl, inr, ◌∙◌, ◌+◌, ◌<◌, ◌≤◌, ℕ, zero, suc, Bool, true, false, List, [], ◌∷◌, ◌++◌, length, Option, Some, None, refl, sym, ap, subst, arith, is_some, add-one}
 use Rattle.std.specs.Prelude.{◌&&◌, nat_eq, is_none, slice_get, IsSome}
+use Rattle.std.specs.List.{range_with_len}
 use Rattle.std.proofs.lemmas.List.{length_push}
 use Rattle.std.proofs.lemmas.Bool.{cases_lt}
 use Rattle.std.proofs.lemmas.Bool.Decides.{nat_tests}
@@ -25,20 +26,19 @@ use Rattle.cl_schedule.proofs.Rounds.{schedule_length, within}
 use Rattle.cl_schedule.proofs.Waiting.{none_some, none_there, put}
 use Rattle.cl_model.proofs.Bind.{some_same}
 use Rattle.cl_schedule.proofs.Serving.{numbers_push}
-use Rattle.cl_schedule.specs.Serving.{numbers_from}
 
 -- ---- while they are put down
 
 -- those that were put down so far
 pub record Gathering (s : Scripted) (first : ℕ) (ws : List ℕ) (next : ℕ) : Type 0 where
-  pub numbers : ws ≡ numbers_from first (length ws)
+  pub numbers : ws ≡ range_with_len first (length ws)
   pub until : next ≡ first + length ws
   pub within : next ≤ length s.requests
   pub alike : (p : ℕ) → first ≤ p → p < next → slice_get s.rounds_of p ≡ slice_get s.rounds_of first
 
 pub gathering_none : (s : Scripted) (first : ℕ) (ws : List ℕ) → ws ≡ [] → first ≤ length s.requests → Gathering s first ws first
 gathering_none s first ws none within = record {
-  numbers = none ∙ ap (λ (xs : List ℕ). numbers_from first (length xs)) (sym none);
+  numbers = none ∙ ap (λ (xs : List ℕ). range_with_len first (length xs)) (sym none);
   until = let size : length ws ≡ 0 = ap length none in omega arith;
   within = within;
   alike = λ p least below. absurd (omega arith);
@@ -49,8 +49,8 @@ gathering_push s first ws new next g is within same =
     let size : length new ≡ suc (length ws) = ap length is ∙ length_push ws next ∙ add-one (length ws) in
     record {
       numbers =
-          is ∙ ap (λ (xs : List ℕ). xs ++ next ∷ []) g.numbers ∙ ap (λ (k : ℕ). numbers_from first (length ws) ++ k ∷ []) g.until
-          ∙ numbers_push first (length ws) ∙ ap (numbers_from first) (sym size);
+          is ∙ ap (λ (xs : List ℕ). xs ++ next ∷ []) g.numbers ∙ numbers_push first (length ws) next (sym g.until)
+          ∙ ap (range_with_len first) (sym size);
       until = let until = g.until in omega arith;
       within = omega arith;
       alike = λ p least below. elim (cases_lt p next) [
@@ -70,22 +70,23 @@ waiting_none s k (r ∷ rs) none =
 
 -- where so many wait at the head of a list, and nobody behind them
 waiting_first : (s : State) (k n : ℕ) (rs : List Scheduled) → n ≤ length rs → ((p q : ℕ) (r : Scheduled) → q ≡ k + p → slice_get rs p ≡ Some r → q < k + n → is_waiting s q r ≡ true)
-    → ((p q : ℕ) (r : Scheduled) → q ≡ k + p → slice_get rs p ≡ Some r → k + n ≤ q → is_waiting s q r ≡ false) → waiting_from s k rs ≡ numbers_from k n
+    → ((p q : ℕ) (r : Scheduled) → q ≡ k + p → slice_get rs p ≡ Some r → k + n ≤ q → is_waiting s q r ≡ false) → waiting_from s k rs ≡ range_with_len k n
 waiting_first s k zero rs few those others = waiting_none s k rs (λ p q r is at. others p q r is at (omega arith))
 waiting_first s k (suc n) [] few those others = absurd (omega arith)
 waiting_first s k (suc n) (r ∷ rs) few those others =
     ap (λ (b : Bool). put b k (waiting_from s (suc k) rs)) (those 0 k r (omega arith) refl (omega arith))
     ∙ ap (λ (ws : List ℕ). k ∷ ws)
-    (waiting_first s (suc k) n rs (omega arith) (λ p q e is at less. those (suc p) q e (omega arith) at (omega arith)) (λ p q e is at least. others (suc p) q e (omega arith) at (omega arith)))
+    (waiting_first s (suc k) n rs (omega arith) (λ p q e is at less. those (suc p) q e (omega arith) at (omega arith)) (λ p q e is at least. others (suc p) q e (omega arith) at (omega arith))
+    ∙ ap (λ (a : ℕ). range_with_len a n) (sym (add-one k)))
 
 -- where so many wait from a number on, and nobody before or behind them
 waiting_there : (s : State) (skip k first n : ℕ) (rs : List Scheduled) → first ≡ k + skip → skip + n ≤ length rs → ((p q : ℕ) (r : Scheduled) → q ≡ k + p → slice_get rs p ≡ Some r → q < first → is_waiting s q r ≡ false)
     → ((p q : ℕ) (r : Scheduled) → q ≡ k + p → slice_get rs p ≡ Some r → first ≤ q → q < first + n → is_waiting s q r ≡ true)
-    → ((p q : ℕ) (r : Scheduled) → q ≡ k + p → slice_get rs p ≡ Some r → first + n ≤ q → is_waiting s q r ≡ false) → waiting_from s k rs ≡ numbers_from first n
+    → ((p q : ℕ) (r : Scheduled) → q ≡ k + p → slice_get rs p ≡ Some r → first + n ≤ q → is_waiting s q r ≡ false) → waiting_from s k rs ≡ range_with_len first n
 waiting_there s zero k first n rs here few before those behind =
     let same : k ≡ first = omega arith in
     waiting_first s k n rs (omega arith) (λ p q r is at less. those p q r is at (omega arith) (omega arith)) (λ p q r is at least. behind p q r is at (omega arith))
-    ∙ ap (λ (f : ℕ). numbers_from f n) same
+    ∙ ap (λ (f : ℕ). range_with_len f n) same
 waiting_there s (suc skip) k first n [] here few before those behind = absurd (omega arith)
 waiting_there s (suc skip) k first n (r ∷ rs) here few before those behind =
     ap (λ (b : Bool). put b k (waiting_from s (suc k) rs)) (before 0 k r (omega arith) refl (omega arith))

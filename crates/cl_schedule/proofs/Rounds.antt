@@ -1,7 +1,7 @@
 -- Rounds between requests, and one request after another (own choice).
 use Rattle.std.proofs.Common.{◌≡◌, inl, inr, ◌∙◌, ◌+◌, ◌-◌, ◌<◌, ◌≤◌, ℕ, zero, suc, Bool, true, false, List, [], ◌∷◌, ◌++◌, length, take, Option, Some, None, refl, sym, ap, subst, arith, append_assoc, add-one, is_some}
 use Rattle.std.specs.Prelude.{◌||◌, ◌⊎◌, nat_eq, option_map, slice_get, slice_index_or, slice_set, IsSome, All}
-use Rattle.std.specs.List.{list_any}
+use Rattle.std.specs.List.{list_any, range_with_len}
 use Rattle.std.proofs.lemmas.List.{append-nil}
 use Rattle.std.proofs.lemmas.Option.{slice_get_within}
 use Rattle.std.proofs.lemmas.Bool.{cases_lt}
@@ -34,11 +34,11 @@ use Rattle.cl_registry.proofs.Schedules.{schedule_round}
 use Rattle.cl_registry.proofs.Calm.{post_other}
 use Rattle.cl_tasks.proofs.LinkPlan.{taken_long}
 use Rattle.cl_schedule.specs.Known.{Has, KnownStays, SaysOrLacks, TellsKnown}
-use Rattle.cl_schedule.specs.Serving.{GoesBy, InOrder, IsDone, IsPost, NoPosts, upto}
+use Rattle.cl_schedule.specs.Serving.{GoesBy, InOrder, IsDone, IsPost, NoPosts}
 use Rattle.cl_schedule.specs.Rounds.{RoundsPassed}
 use Rattle.cl_schedule.proofs.Histories.{goes_event}
 use Rattle.cl_schedule.proofs.Known.{KeepsKnown, SaysKnown, known_at, known_piece, known_quiet}
-use Rattle.cl_schedule.proofs.Serving.{bare, in_upto, none_is_open}
+use Rattle.cl_schedule.proofs.Serving.{bare, in_numbers, none_is_open}
 use Rattle.cl_schedule.proofs.States.{same_machine, state_goes}
 
 -- ---- while rounds begin
@@ -164,9 +164,9 @@ some_of None e = absurd cc
 some_of (Some a) e = (a, refl)
 
 -- a request below a number has its answer where all below it are posted
-answered_below : (x : Shown) (n p : ℕ) → IsTrusted x → posts x.history ≡ upto n → p < n → IsSome (answer_to (state_of x).answers p)
+answered_below : (x : Shown) (n p : ℕ) → IsTrusted x → posts x.history ≡ range_with_len 0 n → p < n → IsSome (answer_to (state_of x).answers p)
 answered_below x n p t order below =
-    let there = some_of (answer_at (answers_of x.answers) p) (sym (t.posted p) ∙ ap (list_any (nat_eq p)) order ∙ in_upto n p below) in
+    let there = some_of (answer_at (answers_of x.answers) p) (sym (t.posted p) ∙ ap (list_any (nat_eq p)) order ∙ in_numbers 0 n p (omega arith) (omega arith)) in
     ap is_some (answer_there x p there.0 t there.1)
 
 -- ---- the round of a request
@@ -194,7 +194,7 @@ within rounds ns q n all at = subst (λ (k : ℕ). k < rounds) (index_is ns q n 
     index_is (k ∷ ns) (suc q) n at = index_is ns q n at
 
 -- once all before it are posted, and no further round may begin, the next request is of no later round
-pub next_is_now : (x : Shown) (q : ℕ) → IsTrusted x → posts x.history ≡ upto q → (tables.MayGoOn x → ⊥) → IsLater x q → ⊥
+pub next_is_now : (x : Shown) (q : ℕ) → IsTrusted x → posts x.history ≡ range_with_len 0 q → (tables.MayGoOn x → ⊥) → IsLater x q → ⊥
 next_is_now x q t order over late = over (record { answered = answered; later = later })
   where
     later : round_of x + 1 < x.script.rounds
@@ -219,7 +219,7 @@ next_is_now x q t order over late = over (record { answered = answered; later = 
         (is_before p e (schedule_round x.script.requests x.script.rounds_of p e at) same (cases_lt p q))
 
 -- where all requests are posted, and no further round may begin, nothing is left
-pub nothing_left : (x : Shown) (n : ℕ) → IsTrusted x → posts x.history ≡ upto n → length x.script.requests ≡ n → (tables.MayGoOn x → ⊥) → IsUnfinished x → ⊥
+pub nothing_left : (x : Shown) (n : ℕ) → IsTrusted x → posts x.history ≡ range_with_len 0 n → length x.script.requests ≡ n → (tables.MayGoOn x → ⊥) → IsUnfinished x → ⊥
 nothing_left x n t order whole over (inl open_one) = none_is_open x n t order whole open_one
 nothing_left x n t order whole over (inr later) = over (record { answered = answered; later = later })
   where

@@ -1,7 +1,7 @@
 -- Which requests are posted, and what a report tells of a registry.
 use Rattle.std.proofs.Common.{◌≡◌, ◌∙◌, ◌+◌, ◌<◌, ◌≤◌, ◌∷◌, ◌++◌, [], ℕ, zero, suc, Bool, true, false, List, length, Option, Some, None, map, refl, ap, sym, subst, arith, is_some, add-one}
 use Rattle.std.specs.Prelude.{◌||◌, nat_eq, slice_get, slice_index_or}
-use Rattle.std.specs.List.{list_any}
+use Rattle.std.specs.List.{list_any, range_with_len}
 use Rattle.std.proofs.lemmas.Bool.Decides.{nat_tests}
 use Rattle.std.proofs.lemmas.Option.{slice_get_within}
 use Rattle.cl_model.specs.declared.answer.Answer.{Answer}
@@ -15,18 +15,15 @@ use Rattle.cl_registry.specs.declared.report.Report.{Report}
 use Rattle.cl_config.specs.Views.{Configured}
 use Rattle.cl_registry.specs.Tables.{Shown, IsTrusted, RunsAs, IsOpen, posts}
 use Rattle.cl_registry.specs.Reports.{IsReport}
-use Rattle.cl_registry.proofs.Histories.{is_in_push, unposted}
-use Rattle.cl_schedule.specs.Serving.{upto, reported, numbers_from}
+use Rattle.cl_registry.proofs.Histories.{unposted}
+use Rattle.cl_schedule.specs.Serving.{reported}
 
-pub numbers_push : (q n : ℕ) → numbers_from q n ++ (q + n) ∷ [] ≡ numbers_from q (suc n)
-numbers_push q zero = let same : q + 0 ≡ q = omega arith in ap (λ (k : ℕ). k ∷ []) same
-numbers_push q (suc n) = let same : q + suc n ≡ suc q + n = omega arith in ap (λ (k : ℕ). q ∷ (numbers_from (suc q) n ++ k ∷ [])) same ∙ ap (λ (xs : List ℕ). q ∷ xs) (numbers_push (suc q) n)
+pub numbers_push : (a n j : ℕ) → a + n ≡ j → range_with_len a n ++ j ∷ [] ≡ range_with_len a (suc n)
+numbers_push a zero j e = let same : j ≡ a = omega arith in ap (λ (k : ℕ). k ∷ []) same
+numbers_push a (suc n) j e = ap (λ (xs : List ℕ). a ∷ xs) (numbers_push (a + 1) n j (omega arith))
 
-pub upto_push : (n : ℕ) → upto n ++ n ∷ [] ≡ upto (suc n)
-upto_push n = let same : n ≡ 0 + n = omega arith in ap (λ (k : ℕ). upto n ++ k ∷ []) same ∙ numbers_push 0 n
-
-pub next_upto : (q : ℕ) (xs ys : List ℕ) → xs ≡ ys ++ q ∷ [] → ys ≡ upto q → xs ≡ upto (q + 1)
-next_upto q xs ys e h = e ∙ ap (λ (zs : List ℕ). zs ++ q ∷ []) h ∙ upto_push q ∙ ap upto (sym (add-one q))
+pub next_upto : (q : ℕ) (xs ys : List ℕ) → xs ≡ ys ++ q ∷ [] → ys ≡ range_with_len 0 q → xs ≡ range_with_len 0 (q + 1)
+next_upto q xs ys e h = e ∙ ap (λ (zs : List ℕ). zs ++ q ∷ []) h ∙ numbers_push 0 q q (omega arith) ∙ ap (range_with_len 0) (sym (add-one q))
 
 -- what a report tells of a registry: all but its rows
 abbrev pub bare : Shown → Shown
@@ -48,38 +45,25 @@ bare_runs (Some content) x run = run
 
 -- ---- which requests are posted
 
-pub in_upto : (n q : ℕ) → q < n → list_any (nat_eq q) (upto n) ≡ true
-in_upto zero q below = absurd (omega arith)
-in_upto (suc n) q below = ap (list_any (nat_eq q)) (sym (upto_push n)) ∙ is_in_push (upto n) q n ∙ by_test (nat_eq q n) refl (in_upto n q)
+pub in_numbers : (a n q : ℕ) → a ≤ q → q < a + n → list_any (nat_eq q) (range_with_len a n) ≡ true
+in_numbers a zero q least below = absurd (omega arith)
+in_numbers a (suc n) q least below = by_test (nat_eq q a) refl (λ more. in_numbers (a + 1) n q more (omega arith))
   where
-    or_true : (b : Bool) → (b || true) ≡ true
-    or_true true = refl
-    or_true false = refl
+    by_test : (b : Bool) → nat_eq q a ≡ b → (a + 1 ≤ q → list_any (nat_eq q) (range_with_len (a + 1) n) ≡ true) → (b || list_any (nat_eq q) (range_with_len (a + 1) n)) ≡ true
+    by_test true e behind = refl
+    by_test false e behind = behind (grind (arith, nat_tests))
 
-    or_left : (b d : Bool) → b ≡ true → (b || d) ≡ true
-    or_left b d e = rw e refl
-
-    less : (a b : ℕ) → a < suc b → nat_eq a b ≡ false → a < b
-    less a b l e = grind (arith, nat_tests)
-
-    by_test : (b : Bool) → nat_eq q n ≡ b → (q < n → list_any (nat_eq q) (upto n) ≡ true) → (list_any (nat_eq q) (upto n) || nat_eq q n) ≡ true
-    by_test true e before = ap (λ (d : Bool). list_any (nat_eq q) (upto n) || d) e ∙ or_true (list_any (nat_eq q) (upto n))
-    by_test false e before = or_left (list_any (nat_eq q) (upto n)) (nat_eq q n) (before (less q n below e))
-
-pub not_in_upto : (n q : ℕ) → n ≤ q → list_any (nat_eq q) (upto n) ≡ false
-not_in_upto zero q above = refl
-not_in_upto (suc n) q above = ap (list_any (nat_eq q)) (sym (upto_push n)) ∙ is_in_push (upto n) q n ∙ both (list_any (nat_eq q) (upto n)) (nat_eq q n) (not_in_upto n q (omega arith)) (other q n above)
+pub not_in_numbers : (a n q : ℕ) → a + n ≤ q → list_any (nat_eq q) (range_with_len a n) ≡ false
+not_in_numbers a zero q above = refl
+not_in_numbers a (suc n) q above = ap (λ (b : Bool). b || list_any (nat_eq q) (range_with_len (a + 1) n)) other ∙ not_in_numbers (a + 1) n q (omega arith)
   where
-    both : (a b : Bool) → a ≡ false → b ≡ false → (a || b) ≡ false
-    both a b p e = rw (p, e) refl
-
-    other : (a b : ℕ) → suc b ≤ a → nat_eq a b ≡ false
-    other a b l = grind (arith, nat_tests)
+    other : nat_eq q a ≡ false
+    other = grind (arith, nat_tests)
 
 -- where the requests before this number are posted, it is not
-pub next_is_open : (x : Shown) (q : ℕ) → IsTrusted x → posts x.history ≡ upto q → q < length x.script.requests → IsOpen x q
+pub next_is_open : (x : Shown) (q : ℕ) → IsTrusted x → posts x.history ≡ range_with_len 0 q → q < length x.script.requests → IsOpen x q
 next_is_open x q t order below =
-    unanswered x.answers q (subst (λ (n : ℕ). q < n) (sym t.whole) below) (sym (t.posted q) ∙ ap (list_any (nat_eq q)) order ∙ not_in_upto q q (omega arith))
+    unanswered x.answers q (subst (λ (n : ℕ). q < n) (sym t.whole) below) (sym (t.posted q) ∙ ap (list_any (nat_eq q)) order ∙ not_in_numbers 0 q q (omega arith))
   where
     unanswered : (xs : List (Option Answer)) (p : ℕ) → p < length xs → is_some (answer_at (answers_of xs) p) ≡ false → slice_get xs p ≡ Some None
     unanswered [] p l e = absurd (omega arith)
@@ -88,10 +72,10 @@ next_is_open x q t order below =
     unanswered (a ∷ xs) (suc p) l e = unanswered xs p (omega arith) e
 
 -- where all requests are posted, none is open
-pub none_is_open : (x : Shown) (n : ℕ) → IsTrusted x → posts x.history ≡ upto n → length x.script.requests ≡ n → (q : ℕ) × IsOpen x q → ⊥
+pub none_is_open : (x : Shown) (n : ℕ) → IsTrusted x → posts x.history ≡ range_with_len 0 n → length x.script.requests ≡ n → (q : ℕ) × IsOpen x q → ⊥
 none_is_open x n t order whole (q, is) =
     let below : q < n = subst (λ (k : ℕ). q < k) (t.whole ∙ whole) (in_range x.answers q is) in
-    let there : list_any (nat_eq q) (posts x.history) ≡ true = ap (list_any (nat_eq q)) order ∙ in_upto n q below in
+    let there : list_any (nat_eq q) (posts x.history) ≡ true = ap (list_any (nat_eq q)) order ∙ in_numbers 0 n q (omega arith) (omega arith) in
     let out : list_any (nat_eq q) (posts x.history) ≡ false = unposted x q t is in
     absurd cc
   where

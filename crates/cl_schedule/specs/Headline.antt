@@ -1,5 +1,6 @@
 -- What a report says where a content is told: the headline, clause by clause (JVMS SE 8, 5.3 to 5.4.3).
 use Rattle.std.specs.Prelude.{◌≡◌, ◌⊎◌, ◌≤◌, ◌+◌, ℕ, List, length, Option, Some, None, slice_get}
+use Rattle.std.specs.List.{range_with_len}
 use Rattle.cl_classfile.specs.Structure.{Structure}
 use Rattle.cl_model.specs.declared.class.Class.{Class}
 use Rattle.cl_model.specs.declared.request.Request as requests
@@ -16,7 +17,7 @@ use Rattle.cl_registry.specs.Reports.{IsNamed}
 use Rattle.cl_registry.specs.Tables.{Shown, IsTrusted, RunsAs, posts, round_of, state_of, machine}
 use Rattle.cl_schedule.specs.Blames.{EachBlames}
 use Rattle.cl_schedule.specs.Known.{KnownStays}
-use Rattle.cl_schedule.specs.Serving.{HasEachBelow, InOrder, reported, upto}
+use Rattle.cl_schedule.specs.Serving.{HasEachBelow, InOrder, reported}
 
 -- each class that is recorded is spelt by its defining loader's bytes, by the grammar (4.1; 5.3.5)
 abbrev pub EachSpelt : Option Content → Shown → Type 0
@@ -82,7 +83,7 @@ pub record IsServed (told : Option Content) (config : Configured) (script : Scri
 -- and a fault of the source blames whom the search for a name asks, a name that its request asks for where a content is told (5.3 to 5.4.3)
 pub record IsServedInOrder (told : Option Content) (config : Configured) (script : Scripted) (r : Report) : Type 0 where
   pub served : IsServed told config script r
-  pub posted : posts r.history ≡ upto (length script.requests)
+  pub posted : posts r.history ≡ range_with_len 0 (length script.requests)
   pub known : KnownStays (reported config r)
   pub in_order : InOrder told (reported config r)
   pub blames : EachBlames told (reported config r)

@@ -1,5 +1,6 @@
 -- A request that was begun and waits for its next turn, and who waits of a script (JVMS SE 8, 5.3 to 5.4.3).
 use Rattle.std.specs.Prelude.{◌≡◌, ◌+◌, ◌<◌, ◌≤◌, ℕ, List, ◌++◌, length, Option, Some, slice_get}
+use Rattle.std.specs.List.{range_with_len}
 use Rattle.cl_config.specs.Loaders.{schedule_of}
 use Rattle.cl_config.specs.Views.{Scripted}
 use Rattle.cl_hierarchy.specs.Rows.{Rowed}
@@ -28,7 +29,6 @@ use Rattle.cl_tasks.specs.declared.turn.Turn.TheVariants as turn
 use Rattle.cl_schedule.specs.Blames.{IsAskedFor}
 use Rattle.cl_schedule.specs.Choices.{waiting}
 use Rattle.cl_schedule.specs.Replies.{Did, IsCall, IsRead}
-use Rattle.cl_schedule.specs.Serving.{numbers_from}
 
 -- ---- a registry later on
 
@@ -145,7 +145,7 @@ pub record MayGather (x : Shown) (next : ℕ) : Type 0 where
 
 -- these are the numbers of all requests of one round that stand from one number on; the next one is of another round
 pub record AreOfRound (s : Scripted) (first : ℕ) (ws : List ℕ) (next : ℕ) : Type 0 where
-  pub numbers : ws ≡ numbers_from first (length ws)
+  pub numbers : ws ≡ range_with_len first (length ws)
   pub until : next ≡ first + length ws
   pub within : next ≤ length s.requests
   pub alike : (p : ℕ) → first ≤ p → p < next → slice_get s.rounds_of p ≡ slice_get s.rounds_of first

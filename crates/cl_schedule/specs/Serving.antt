@@ -1,5 +1,5 @@
 -- What a report says of the requests that were served, and what was done for one (JVMS SE 8, 5.3 to 5.4.3).
-use Rattle.std.specs.Prelude.{◌≡◌, ◌==◌, ℕ, zero, suc, List, [], ◌∷◌, ◌++◌, map, Option, Some, None, count_by, nat_lt, if◌then◌else◌, slice_set}
+use Rattle.std.specs.Prelude.{◌≡◌, ◌==◌, ℕ, List, [], ◌∷◌, ◌++◌, map, Option, Some, None, count_by, nat_lt, if◌then◌else◌, slice_set}
 use Rattle.std.specs.List.{AllByRecursion}
 use Rattle.cl_model.specs.declared.answer.Answer as rust
 use Rattle.cl_model.specs.declared.event.Event.{Event}
@@ -15,15 +15,6 @@ use Rattle.cl_hierarchy.specs.Rows.{Rowed}
 use Rattle.cl_registry.specs.Tables.{Shown, posts, steps, state_of, machine}
 use Rattle.cl_tasks.specs.Blames.{AnswerBlames}
 use Rattle.cl_schedule.specs.Blames.{IsAskedFor}
-
--- so many numbers, from this one on
-abbrev pub numbers_from : ℕ → ℕ → List ℕ
-numbers_from q zero = []
-numbers_from q (suc n) = q ∷ numbers_from (suc q) n
-
--- the numbers below a number, in order
-abbrev pub upto : ℕ → List ℕ
-upto n = numbers_from 0 n
 
 -- how often a number stands in a list
 abbrev pub times : ℕ → List ℕ → ℕ

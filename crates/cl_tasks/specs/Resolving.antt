@@ -7,7 +7,7 @@ use Rattle.cl_model.specs.declared.settled.Settled.{Settled}
 use Rattle.cl_model.specs.declared.verdict.ErrorKind.TheVariants as kinds
 use Rattle.cl_model.specs.declared.verdict.Verdict as verdict
 use Rattle.cl_model.specs.declared.verdict.Verdict.TheVariants as verdicts
-use Rattle.cl_model.specs.Plans.{class_named}
+use Rattle.cl_model.specs.Plans.{CitesClass}
 use Rattle.cl_model.specs.States.{Need, Refused}
 use Rattle.cl_model.specs.Views.{verdict_of}
 use Rattle.cl_config.specs.Views.{Configured}
@@ -78,15 +78,9 @@ IsReply e settled = IfSome settled (λ s. IsSettledFor e.request s.value)
 abbrev pub IsNoneSettled : verdict.Verdict → Type 0
 IsNoneSettled v = IsSettledKind v → ⊥
 
--- the entry at an index of the class of a row names the class of this name (5.4.3.1)
-pub record CitesName (d : Rowed) (index : ℕ) (name : List ℕ) : Type 0 where
-  pub cited : Reference
-  pub found : reference (file_of d.file) index ≡ Some cited
-  pub names : class_named cited ≡ Some name
-
 -- the entry that is resolved names a class (5.4.3.1)
 abbrev pub HasNamed : {A : Type 0} → entries.Entry A → List ℕ → Type 0
-HasNamed e name = CitesName e.d.value e.index name
+HasNamed e name = CitesClass (file_of e.d.value.file) e.index name
 
 -- the entry is the class of a name, or an array of it of so many dimensions (5.4.3.1)
 pub record HasItself {A : Type 0} (e : entries.Entry A) (name : List ℕ) (dims : ℕ) : Type 0 where
@@ -100,7 +94,7 @@ pub record IsItself (d c : Rowed) (dims : ℕ) (v : verdict.Verdict) : Type 0 wh
 
 -- the entry at an index of the class of one lineage names that of the other (5.4.3.1)
 abbrev pub Cites : Lined → Lined → ℕ → Type 0
-Cites own named index = CitesName own.own index named.own.class.name
+Cites own named index = CitesClass (file_of own.own.file) index named.own.class.name
 
 -- the class that the entry names is not accessible to that whose pool has it (5.4.4)
 pub record IsRefusedAccess {A : Type 0} (e : entries.Entry A) (own named : Lined) : Type 0 where

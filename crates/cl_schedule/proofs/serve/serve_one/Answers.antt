@@ -1,11 +1,12 @@
 use Rattle.std.proofs.Common.{◌≡◌, ◌∙◌, ℕ, length, Some, ap, sym, subst, arith}
 use Rattle.std.specs.Prelude.{slice_get}
+use Rattle.std.specs.List.{range_with_len}
 use Rattle.cl_config.specs.Views.{Configured, Scripted}
 use Rattle.cl_config.specs.Scripts.{HasLoaders}
 use Rattle.cl_registry.specs.Tables.{Shown, posts, steps}
 use Rattle.cl_schedule.specs.Blames.{EachBlames}
 use Rattle.cl_schedule.specs.Counting.{Grows, faults}
-use Rattle.cl_schedule.specs.Serving.{reported, upto, InOrder}
+use Rattle.cl_schedule.specs.Serving.{reported, InOrder}
 use Rattle.cl_schedule.proofs.Serving.{bare, bare_trusted, next_upto, next_is_open, has_loader, report_tells}
 use Rattle.cl_schedule.proofs.Rounds.{known_bare, known_next, known_none, next_is_now, none_goes_on, nothing_left, served_bare, served_none, served_next, served_whole}
 use Rattle.cl_schedule.specs.Known.{KnownStays}
@@ -100,7 +101,7 @@ returns-clause-served g c =
     let all = all_served g c ∙ ap (λ (s : Scripted). length s.requests) (sym inv.script) in
     record {
       served = is_served told c.loop-q.registry c.args.config.value c.args.script.value c.in-Ok-into_report.report made (sym inv.config) (sym inv.script);
-      posted = ap posts made.whole.history ∙ inv.order ∙ ap upto (all_served g c);
+      posted = ap posts made.whole.history ∙ inv.order ∙ ap (range_with_len 0) (all_served g c);
       known = subst KnownStays (told_of g c) (known_bare c.loop-q.registry inv.known);
       in_order = subst (InOrder told) (told_of g c) (served_bare told c.loop-q.registry (served_whole told c.loop-q.registry c.loop-q.q (bare_trusted c.loop-q.registry inv.kept.trusted).script inv.served all));
       blames = subst (EachBlames told) (told_of g c) inv.blames;

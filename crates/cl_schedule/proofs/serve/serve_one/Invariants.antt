@@ -1,6 +1,6 @@
 use Rattle.std.proofs.Common.{◌≡◌}
+use Rattle.std.specs.List.{range_with_len}
 use Rattle.cl_registry.specs.Tables.{IsKept, MayGoOn, posts}
-use Rattle.cl_schedule.specs.Serving.{upto}
 use Rattle.cl_schedule.specs.Blames.{EachBlames}
 use Rattle.cl_schedule.specs.Counting.{Grows, faults}
 use Rattle.cl_schedule.proofs.Rounds.{KnownBelow, ServedBelow}
@@ -10,7 +10,7 @@ abbrev pub invariant-loop-q : goal.invariant-loop-q
 invariant-loop-q g l = record {
   config : l.registry.config ≡ l.fn.config.value;
   script : l.registry.script ≡ l.fn.script.value;
-  order : posts l.registry.history ≡ upto l.q;
+  order : posts l.registry.history ≡ range_with_len 0 l.q;
   kept : IsKept g.T.Told.told l.registry;
   over : MayGoOn l.registry → ⊥;
   known : KnownBelow l.registry;

@@ -1,6 +1,6 @@
 //! Posts in their rounds: what is not yet, no longer, or never.
 
-use crate::given::{Kind, Step, Told, are_steps, post_finding, registry};
+use crate::given::{Kind, Step, Told, are_steps, class, post_finding, registry};
 use cl_findings::Finding;
 use cl_given::{APP, LOADERS, Named, PLUG, bytes_of, class_name, config};
 use cl_model::{Answer, LoaderId, Request, Untold};
@@ -162,6 +162,13 @@ fn after_round<R: Abort>(
     }
 }
 
+/// What is told of an answer to a request of the second round that nothing in the tables bears.
+fn post_unrecorded(alloc: Global, tables: &mut Registry<Untold>) -> Result<Told, AllocError> {
+    let found = class(alloc, APP, bytes_of(T))?;
+    let request = request(alloc, Load, 0, APP, T)?;
+    Ok(post_finding(tables, 1, Finding::class(request, found)))
+}
+
 /// A request is answered once, in its round; a round ends when all of it are answered; the report comes after the last.
 #[test]
 fn rounds(rt: HostRuntime) -> Result<(), Fail> {
@@ -171,6 +178,8 @@ fn rounds(rt: HostRuntime) -> Result<(), Fail> {
     drop(loaders);
     let mut tables = made?;
     assert!(rt; is_begun(tables.next_round(), None));
+    // the round is looked at first
+    assert!(rt; matches!(post_unrecorded(alloc, &mut tables), Ok(NotYet)));
     let mut tables = after_round(&rt, alloc, tables, &FIRST)?;
     assert!(rt; is_begun(tables.next_round(), Some(1)));
     let mut tables = after_round(&rt, alloc, tables, &SECOND)?;

@@ -296,15 +296,15 @@ fn ask(
     }
 }
 
-/// Whether the tables take the answer that `plug` found a class of this loader.
-fn is_posted(
+/// What the tables tell of the answer that `plug` found a class of this loader.
+fn post_class(
     alloc: Global,
     tables: &mut Registry<Untold>,
     loader: u16,
-) -> Result<bool, AllocError> {
+) -> Result<Told, AllocError> {
     let found = class(alloc, loader, bytes_of(T))?;
     let request = Request::Load(LoaderId(PLUG), class_name(alloc, bytes_of(T))?);
-    Ok(post_finding(tables, 0, Finding::class(request, found)) == Told::Done)
+    Ok(post_finding(tables, 0, Finding::class(request, found)))
 }
 
 /// The home of a name in a source where `p/T` has these bytes.
@@ -343,14 +343,15 @@ fn ask_steps<R: Abort + Print>(
     Ok(())
 }
 
-/// Posts two answers, of which the first is strayed.
-fn post_both<R: Abort>(
+/// Posts three answers: one that the tables do not bear, one that they do, and the first again, which comes too late.
+fn post_each<R: Abort>(
     rt: &R,
     alloc: Global,
     tables: &mut Registry<Untold>,
 ) -> Result<(), AllocError> {
-    assert!(rt; !is_posted(alloc, tables, PLUG)?);
-    assert!(rt; is_posted(alloc, tables, APP)?);
+    assert!(rt; post_class(alloc, tables, PLUG)? == Told::Stray);
+    assert!(rt; post_class(alloc, tables, APP)? == Told::Done);
+    assert!(rt; post_class(alloc, tables, PLUG)? == Told::AlreadyPosted);
     Ok(())
 }
 
@@ -365,7 +366,7 @@ fn strangers_change_nothing(rt: HostRuntime) -> Result<(), Fail> {
     let asked = ask_steps(&rt, alloc, &mut tables, &own, &other, &STEPS);
     drop(own);
     drop(other);
-    let posted = post_both(&rt, alloc, &mut tables);
+    let posted = post_each(&rt, alloc, &mut tables);
     let are_told = do_report(tables, &HISTORY);
     asked?;
     posted?;

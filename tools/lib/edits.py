@@ -11,6 +11,7 @@ import os
 import re
 from dataclasses import dataclass, field
 
+from copies import can_copy
 from kit import rt
 from source import functions, label, names_of
 
@@ -33,6 +34,7 @@ class Edit:
     turns: str = ""
     functions: set = field(default_factory=set)  # the prover's names of those that have to be refused, once found
     spans: dict = field(default_factory=dict)  # where their code stands: the name to (path, first line, last line)
+    can_copy: bool = False  # whether it may stand in a copy of its function
     changed: set = field(default_factory=set)  # the definitions that it changes, where it is told which functions can reach them
     below: set = field(default_factory=set)  # what those that have to be refused can rest on
 
@@ -57,6 +59,7 @@ class Edit:
                 return
             self.functions.add(names[0])
             self.spans[names[0]] = (it.path, it.first_line, it.last_line)
+        self.can_copy = can_copy(self)
 
     def find_reach(self, reach):
         """Finds which definitions it changes, and what the functions that have to be refused can rest on."""
@@ -119,21 +122,12 @@ def of_crate(crate, wanted=FOLDERS):
     return good, stray
 
 
-def together(edits):
-    """The texts of the files with all these edits."""
-    texts = {}
-    for edit in edits:
-        for (path, number), line in edit.lines.items():
-            texts.setdefault(path, edit.crate.text(path).split("\n"))[number] = line
-    return {path: "\n".join(lines) for path, lines in texts.items()}
-
-
 def are_apart(a, b):
-    """Whether two edits can be told from one check: of other functions, and of other lines; of definitions, none that the other's
-    functions can reach."""
+    """Whether two edits can be told from one check: of other functions, and of other lines, or one in a copy of its function; of
+    definitions, none that the other's functions can reach."""
     if a.is_alone() or b.is_alone() or bool(a.refuses) != bool(b.refuses):
         return False
-    return not (a.functions & b.functions or a.lines.keys() & b.lines.keys() or a.below & b.changed or b.below & a.changed)
+    return a.can_copy or b.can_copy or not (a.functions & b.functions or a.lines.keys() & b.lines.keys() or a.below & b.changed or b.below & a.changed)
 
 
 def grouped(edits):

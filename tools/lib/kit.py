@@ -20,6 +20,7 @@ import time
 from contextlib import contextmanager
 from dataclasses import dataclass, field
 
+from copies import put_proofs
 from source import without_bodies
 
 sys.dont_write_bytecode = True
@@ -318,9 +319,10 @@ def leave_hole(folder, name):
         it.write(TAKEN.format(place=proof_of(name), name=path[-1]))
 
 
-def check(crate, texts, asked, functions=(), is_whole=False, taken=(), known=()):
+def check(crate, texts, asked, functions=(), is_whole=False, taken=(), known=(), copies=()):
     """Checks a copy of the crate with these texts in place of its own: the named functions, or all, going on past those refused
-    unless is_whole. Those of the known functions that are taken are not proved: their callers have what their contracts say."""
+    unless is_whole. Those of the known functions that are taken are not proved: their callers have what their contracts say. Each of
+    the copies of functions that the texts have gets the files of its function's proof."""
     flags = ["--jobs", "1", *([] if is_whole else ["--allow-holes"])]
     for it in sorted(functions):
         flags += ["--only", it.partition("::")[2]]
@@ -331,6 +333,7 @@ def check(crate, texts, asked, functions=(), is_whole=False, taken=(), known=())
         for path, text in texts.items():
             with open(f"{room}/{path}", "w", encoding="utf-8") as it:
                 it.write(text)
+        put_proofs(crate.folder, room, copies)
         if taken:
             take(room, crate.name, taken, known)
         words = [*rtlib.guarded(), rtlib.RATTLE, "check", *crate.of_kit.words(flags, keeps=False), "--incremental", asked.kept]

@@ -1,7 +1,7 @@
 """Tries the wrong bodies of crates, many in one check, and tells of each whether the prover refuses it.
 
-Edits of different functions go into one copy of the crate, and one check of just these functions tells of each; so do edits of
-definitions, where no function that one of them is to have refused can reach what another changes. An edit passes only where a
+The edits go into one copy of the crate, those of one function into copies of it (copies.py), and one check of just these functions
+tells of each; so do edits of definitions, where no function that one of them is to have refused can reach what another changes. An edit passes only where a
 function that it changes, or names, is refused for a reason of its own. One whose function is only not proved because it calls
 another that is refused is tried again, without the edits that were told already. A group that cannot be told as a whole, since it
 does not compile, takes too long, or has a function refused that none of its edits changes, is parted in two, down to one edit.
@@ -18,18 +18,20 @@ from dataclasses import dataclass, field
 
 import kit
 from costs import lines_in
-from edits import are_apart, grouped, of_crate, together
+from copies import spread
+from edits import are_apart, grouped, of_crate
 from reach import Reach
 
 # What a group's check may take, in seconds of processor: so much to load and to prove what its functions call, and so much for each edit.
 LOADING_SECONDS = 240
 LINE_SECONDS = 0.2
 EDIT_SECONDS = 10
-# A crate of more lines than these has so many edits tried by one check first. All others go on from the definitions, lemmas and types
-# that this check kept: in parts side by side, since a crate that stands on all others has its trial last, when other cores would have
-# nothing to do. A part has at least so many edits, and more where its checks then hold less than so many bytes, by what the first held:
-# each check pays for its beginning.
+# A crate of more lines than these, or over so many others, has so many edits tried by one check first. All others go on from the
+# definitions, lemmas and types that this check kept: in parts side by side, since a crate that stands on all others has its trial last,
+# when other cores would have nothing to do. A part has at least so many edits, and more where its checks then hold less than so many
+# bytes, by what the first held: each check pays for its beginning. No check has more.
 LARGE_LINES = 4000
+MANY_BELOW = 18
 FIRST_EDITS = 16
 LEAST_EDITS = 12
 PART_BYTES = 3_000_000_000
@@ -88,24 +90,25 @@ def own_reason(name, checked, span=None, by_lemma=False):
 class Trial:
     """The trial of edits of one crate, whose functions are known."""
 
-    def __init__(self, crate, known, lanes, edits, kept, peak=0, behind=0):
+    def __init__(self, crate, known, lanes, edits, kept, peak=0, behind=0, most=0):
         self.crate, self.edits, self.kept, self.lanes, self.behind = crate, edits, kept, lanes, behind
+        self.most = most or len(edits)  # edits of a check
         self.known, self.taken = known, {it for it in known if kit.can_take(it)}
         self.told = Told(crate.name, [it.name for it in edits], peak=peak)
 
     def fail(self, edit, why):
         self.told.failed.append(f"{edit}: {' '.join(why.split())[:400]}")
 
-    def check(self, texts, functions, number):
-        """Checks these functions in one copy with so many edits. The crates with most left to do go first."""
+    def check(self, tried, number):
+        """Checks the functions of so many edits in one copy of the crate. The crates with most left to do go first."""
         left = self.behind + len(self.edits) - len(self.told.refused) - len(self.told.failed)
         lines = lines_of(self.crate)
         limit = LOADING_SECONDS + LINE_SECONDS * lines + EDIT_SECONDS * number
         needs = int(1.2 * self.told.peak) + kit.LEAST_BYTES if self.told.peak else kit.MOST_BYTES
         asked = kit.Asked(self.kept, limit, self.lanes, needs, left * lines)
         while True:
-            taken = self.taken - functions
-            checked = kit.check(self.crate, texts, asked, functions, taken=taken, known=self.known)
+            taken = self.taken - tried.functions()
+            checked = kit.check(self.crate, tried.texts, asked, tried.functions(), taken=taken, known=self.known, copies=tried.copies)
             self.told.checks += 1
             self.told.seconds += checked.seconds
             self.told.peak = max(self.told.peak, checked.peak)
@@ -116,19 +119,20 @@ class Trial:
             self.taken -= proved
 
     def run(self):
-        waiting = grouped(self.edits)
+        waiting = cut(grouped(self.edits), self.most)
         while waiting:
             before, again = len(self.told.refused) + len(self.told.failed), []
             while waiting:
                 again += self.try_group(waiting.pop(0), waiting)
             is_stuck = len(self.told.refused) + len(self.told.failed) == before
-            waiting = [[it] for it in again] if is_stuck else grouped(again)
+            waiting = [[it] for it in again] if is_stuck else cut(grouped(again), self.most)
         return self.told
 
     def try_group(self, group, waiting):
         """Tries a group and returns those of its edits that have to be tried again. Where it has to be parted, its halves wait."""
-        functions = {name for edit in group for name in edit.functions}
-        checked = self.check(together(group), functions, len(group))
+        tried = spread(group)
+        functions = tried.functions()
+        checked = self.check(tried, len(group))
         late = f"TOO LONG: no answer after {checked.seconds:.0f} seconds of processor"
         why = late if checked.is_late else checked.unread(functions)
         if not why and len(group) > 1:
@@ -144,28 +148,30 @@ class Trial:
         if why:
             self.fail(group[0], why)
             return []
-        return [it for it in group if not self.tell(it, checked, len(group) == 1)]
+        return [it for it in group if not self.tell(it, checked, tried, len(group) == 1)]
 
     def disturbed(self, group, functions, checked):
         """Which function, changed by no edit of the group, is refused for a reason of its own; '' if none is."""
         changed = {it for name in functions for it in closures_too(checked.said, name)}
         return next((it for it in checked.said if it not in changed and own_reason(it, checked)), "")
 
-    def tell(self, edit, checked, is_last):
+    def tell(self, edit, checked, tried, is_last):
         """Notes what the check tells of the edit. Returns whether it tells anything: of an edit tried alone it has to."""
-        for name in sorted(edit.functions):
+        names, spans = sorted(tried.names[edit.name]), tried.spans[edit.name]
+        for name in names:
             for it in closures_too(checked.said, name):
-                why = own_reason(it, checked, edit.spans.get(name), by_lemma=bool(edit.refuses))
+                why = own_reason(it, checked, spans.get(name), by_lemma=bool(edit.refuses))
                 if why:
                     self.told.refused[edit.name] = f"{it}: {why}"
                     self.told.weak += [edit.name] if why.startswith("it stands on ") and checked.only_names(it) else []
                     return True
-        said = {name: checked.said[name] for name in sorted(edit.functions)}
-        names = ", ".join(said)
-        if all(it.startswith(("proved", "no hole", kit.RESTS)) for it in said.values()):
-            self.fail(edit, f"NOT REFUSED: {names} is still proved")
+        said = {name: checked.said[name] for name in names}
+        is_proved = all(it.startswith(("proved", "no hole", kit.RESTS)) for it in said.values())
+        # (of what stands in a copy its function has the last word)
+        if is_proved and (is_last or edit.functions == tried.names[edit.name]):
+            self.fail(edit, f"NOT REFUSED: {', '.join(said)} is still proved")
         elif is_last:
-            self.fail(edit, f"NOT TOLD: {names} is not refused for what it does: {'; '.join(said.values())}")
+            self.fail(edit, f"NOT TOLD: {', '.join(said)} is not refused for what it does: {'; '.join(said.values())}")
         else:
             return False
         return True
@@ -196,6 +202,15 @@ def first_and_others(edits):
     first = max(grouped(edits), key=len)[:FIRST_EDITS]
     names = {it.name for it in first}
     return first, [it for it in edits if it.name not in names]
+
+
+def cut(groups, most):
+    """The groups, each in pieces as even as may be of so many edits at the most."""
+    found = []
+    for group in groups:
+        many = -(-len(group) // most)
+        found += [group[at::many] for at in range(many)]
+    return found
 
 
 def parts(edits, most, least):
@@ -242,7 +257,7 @@ def try_known(crate, edits, known, kept, lanes):
     copy of what those kept."""
     good, bad = found_names(crate, edits, known)
     told = Told(crate.name, [it.name for it in edits if it.bad], failed=bad)
-    is_large = lines_of(crate) > LARGE_LINES and len(good) > FIRST_EDITS
+    is_large = (lines_of(crate) > LARGE_LINES or len([*crate.of_kit.below()]) >= MANY_BELOW) and len(good) > FIRST_EDITS
     first, others = first_and_others(good) if is_large else (good, [])
     told.add(Trial(crate, known, lanes, first, kept, behind=len(others)).run())
     if not others:
@@ -251,7 +266,7 @@ def try_known(crate, edits, known, kept, lanes):
     divided = parts(others, lanes.most, least)
     folders = [kept, *(shutil.copytree(kept, f"{kept}-{at}") for at in range(1, len(divided)))]
     with ThreadPoolExecutor(len(divided)) as pool:
-        for part in pool.map(lambda it: Trial(crate, known, lanes, *it, told.peak).run(), zip(divided, folders)):
+        for part in pool.map(lambda it: Trial(crate, known, lanes, *it, told.peak, most=least).run(), zip(divided, folders)):
             told.add(part)
     return told
 

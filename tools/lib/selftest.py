@@ -1,8 +1,9 @@
 """The tool tried on a crate of its own, whose edits each have to be told for what they are.
 
-Wrong bodies pass, two of one function and one of a constant among them, and wrong definitions. A right one, a right one whose callee
-alone is turned by another edit, one that does not compile, one that is refused for no reason of its own (the borrow checker does not
-cover it), one that changes a line in no body, and a right definition over one that another edit turns must be told by name.
+Wrong bodies pass, two of one function and one of a constant among them, and wrong definitions. A right one, one more of a function
+that others turn, with and without files of its proof, a right one whose callee alone is turned by another edit, one that does not
+compile, one that is refused for no reason of its own (the borrow checker does not cover it), one that changes a line in no body, and a
+right definition over one that another edit turns must be told by name.
 """
 import contextlib
 import io
@@ -45,6 +46,17 @@ pub fn same(n: u32) -> u32
     same
 }
 
+/// The number itself, counted.
+pub fn counted(n: u32) -> u32
+    ensures { result ≡ n }
+{
+    let mut i = 0;
+    while i < n {
+        i += 1;
+    }
+    i
+}
+
 /// The bytes in two parts.
 pub fn halves(s: &mut [u8]) -> (&mut [u8], &mut [u8]) {
     let half = s.len() / 2;
@@ -75,6 +87,16 @@ pub fn four()
 {}
 """
 
+COUNTED = """use Rattle.std.proofs.Common.{◌-◌, ◌≤◌}
+use Rattle.tried.proofs.counted.Given as goal
+
+abbrev pub invariant-loop-i : goal.invariant-loop-i
+invariant-loop-i l = l.i ≤ l.n
+
+abbrev pub decreases-loop-i : goal.decreases-loop-i
+decreases-loop-i l = l.n - l.i
+"""
+
 SUMS = """-- sums of a number with itself
 use Rattle.std.specs.Prelude.{ℕ, ◌+◌}
 
@@ -95,6 +117,9 @@ fourfold n = n + n + n + n
 EDITS = {
     "wrong": ("    n + STEP", "    n + STEP + 1", "refused", ""),
     "wrong_again": ("    n + STEP", "    n", "refused", ""),
+    "right_again": ("    n + STEP", "    STEP + n", "NOT REFUSED", ""),
+    "counted_less": ("    while i < n {", "    while i + 1 < n {", "refused", ""),
+    "counted_right": ("        i += 1;", "        i = i + 1;", "NOT REFUSED", ""),
     "constant": ("const STEP: u32 = 1;", "const STEP: u32 = 2;", "refused", "refuses: tried::next\n"),
     "outside": ("const STEP: u32 = 1;", "const STEP: u32 = 2;", "BAD EDIT: line", ""),
     "caller_right": ("    let first = next(n);", "    let first: u32 = next(n);", "NOT REFUSED", ""),
@@ -111,6 +136,7 @@ def write(root):
     """Makes the repository of the throw-away crate."""
     files = {"crates.txt": "tried:\n", "crates/tried/src/lib.rt": CODE}
     files |= {"crates/tried/specs/Lib.antt": "pub mod Sums\n", "crates/tried/specs/Sums.antt": SUMS}
+    files |= {"crates/tried/proofs/counted/Invariants.antt": COUNTED}
     for name, (old, new, _, more) in EDITS.items():
         file = "specs/Sums.antt" if old in SUMS else "src/lib.rt"
         files[f"crates/tried/wrong/{name}.edit"] = f"{more}file: {file}\nold: {old}\nnew: {new}\n"

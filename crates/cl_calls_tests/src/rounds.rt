@@ -165,7 +165,7 @@ fn after_round<R: Abort>(
 /// What is told of an answer to a request of the second round that nothing in the tables bears.
 fn post_unrecorded(alloc: Global, tables: &mut Registry<Untold>) -> Result<Told, AllocError> {
     let found = class(alloc, APP, bytes_of(T))?;
-    let request = request(alloc, Load, 0, APP, T)?;
+    let request = Request::Load(LoaderId(APP), class_name(alloc, bytes_of(T))?);
     Ok(post_finding(tables, 1, Finding::class(request, found)))
 }
 

@@ -71,7 +71,8 @@ def copy_of(text, edit, number):
     first = first_line_of(lines, holder)
     changed = [edit.lines.get((holder.path, at), lines[at]) for at in range(first, holder.last_line)]
     at = holder.first_line - 1 - first
-    named = re.sub(rf"(?:\bpub(?:\s*\([^)]*\))?\s+)?((?:\b\w+\s+)*)\bfn {holder.name}\b", rf"\1fn {copied(holder.name, number)}", changed[at], count=1)
+    head = rf"(?:\bpub(?:\s*\([^)]*\))?\s+)?((?:\b\w+\s+)*)\bfn {holder.name}\b"
+    named = re.sub(head, rf"\1fn {copied(holder.name, number)}", changed[at], count=1)
     return [*changed[:at], named, *changed[at + 1 :]]
 
 

@@ -1,12 +1,12 @@
 """Tries the wrong bodies of crates, many in one check, and tells of each whether the prover refuses it.
 
 The edits go into one copy of the crate, those of one function into copies of it (copies.py), and one check of just these functions
-tells of each; so do edits of definitions, where no function that one of them is to have refused can reach what another changes. An edit passes only where a
-function that it changes, or names, is refused for a reason of its own. One whose function is only not proved because it calls
-another that is refused is tried again, without the edits that were told already. A group that cannot be told as a whole, since it
-does not compile, takes too long, or has a function refused that none of its edits changes, is parted in two, down to one edit.
-All other functions are taken by their contracts: rt ci has proved them, and an empty body with a hole for its proof costs nothing.
-What does not compile, is still proved, takes too long or is not told even alone is a failure, with its reason.
+tells of each; so do edits of definitions, where no function that one of them is to have refused can reach what another changes. An
+edit passes only where a function that it changes, or names, is refused for a reason of its own. One whose function is only not proved
+because it calls another that is refused is tried again, without the edits that were told already. A group that cannot be told as a
+whole, since it does not compile, takes too long, or has a function refused that none of its edits changes, is parted in two, down to
+one edit. All other functions are taken by their contracts: rt ci has proved them, and an empty body with a hole for its proof costs
+nothing. What does not compile, is still proved, takes too long or is not told even alone is a failure, with its reason.
 """
 import os
 import re

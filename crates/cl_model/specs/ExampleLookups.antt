@@ -11,8 +11,9 @@ use Rattle.cl_model.specs.Plans.{load}
 use Rattle.cl_model.specs.States.{Verdict}
 use Rattle.cl_model.specs.Examples.{boot, app, enough, root, under, plain, interface, taking_none, an_int, a_class, with_fields, with_methods, with_interfaces, referring, bundle, ends_at, resolve_of}
 
--- p/J1 and p/J2 have m with a body, p/J3 and p/J4 under it without; p/D has the first three, p/E the third and the first,
--- p/F the last two; p/G has the field x from the second of its interfaces;
+-- p/J1 and p/J2 have m with a body, p/J3 and p/J4 under it without, p/J5 under p/J1 declares nothing; p/D has the first
+-- three, p/E the third and the first, p/F the third and the fourth, p/H the third and the fifth; p/G has the field x from
+-- the second of its interfaces;
 -- p/C has the field x from p/I, which it implements, and from p/S, which it is under; p/U names these (5.4.3.2 to 5.4.3.4)
 abbrev pub several : World
 several = bundle (
@@ -28,6 +29,8 @@ several = bundle (
     ∷ (app, with_methods ((flag.public + flag.abstract, taking_none "m") ∷ []) (with_interfaces ("p/J3" ∷ []) (interface "p/J4")))
     ∷ (app, with_interfaces ("p/J3" ∷ "p/J4" ∷ []) (plain "p/F"))
     ∷ (app, with_interfaces ("p/J1" ∷ "p/I" ∷ []) (plain "p/G"))
+    ∷ (app, with_interfaces ("p/J1" ∷ []) (interface "p/J5"))
+    ∷ (app, with_interfaces ("p/J3" ∷ "p/J5" ∷ []) (plain "p/H"))
     ∷ (
       app,
       referring (
@@ -38,6 +41,7 @@ several = bundle (
           ∷ ToInterfaceMethod (a_class "p/D") (taking_none "m")
           ∷ ToMethod (a_class "p/F") (taking_none "m")
           ∷ ToField (a_class "p/G") (an_int "x")
+          ∷ ToMethod (a_class "p/H") (taking_none "m")
           ∷ []) (plain "p/U"),
     )
     ∷ [])

@@ -110,6 +110,7 @@ pub fn maximally_specific()
     ensures of_interface { chosen 4 ≡ Some (IsMethod (in_app "p/J1") (taking_none "m")) }
     ensures of_class { chosen 5 ≡ Some (Wrong (IncompatibleClassChange (in_app "p/D"))) }
     ensures none { chosen 6 ≡ Some (IsMethod (in_app "p/J3") (taking_none "m")) }
+    ensures silent { chosen 8 ≡ Some (IsMethod (in_app "p/J1") (taking_none "m")) }
 {}
 
 /// A lineage has the superclass's first, then that of each superinterface in file order, then the class; the superinterfaces

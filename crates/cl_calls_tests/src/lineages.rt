@@ -247,7 +247,7 @@ fn stands_at(
     place: usize,
     above: &[u16],
 ) -> Result<bool, AllocError> {
-    let mut whole = Lineages::of(lineage(alloc, tables, class)?);
+    let whole = Lineages::of(lineage(alloc, tables, class)?);
     let found = whole.lineage_at(alloc, place);
     drop(whole);
     let Some(part) = found? else {
@@ -255,6 +255,27 @@ fn stands_at(
     };
     let is_so = are_of(alloc, part.above(), above);
     drop(part);
+    is_so
+}
+
+/// Whether just these are the superinterfaces of the class at a place of a lineage, in this order.
+fn has_over_at(
+    alloc: Global,
+    tables: &Registry<Untold>,
+    class: u16,
+    place: usize,
+    wanted: &[u16],
+) -> Result<bool, AllocError> {
+    let mut whole = Lineages::of(lineage(alloc, tables, class)?);
+    if place > whole.lineage().above().len() {
+        drop(whole);
+        return Ok(false);
+    }
+    let found = whole.superinterfaces_at(alloc, place);
+    drop(whole);
+    let rows = found?;
+    let is_so = are_of(alloc, rows.as_slice(), wanted);
+    drop(rows);
     is_so
 }
 
@@ -300,13 +321,14 @@ fn ask_classes<R: Abort>(
     assert!(rt; has_superinterfaces(alloc, tables, 6003, &[6001, 6000, 6002])?);
     assert!(rt; has_front(alloc, tables, D, 4, D)?);
     assert!(rt; !has_front(alloc, tables, D, 3, J2)?);
-    assert!(rt; has_front(alloc, tables, 6001, 1, 6000)?);
-    assert!(rt; has_front(alloc, tables, 6003, 2, 6001)?);
     assert!(rt; !has_front(alloc, tables, 6003, 3, 6002)?);
     assert!(rt; stands_at(alloc, tables, 6003, 2, &[TOP, 6000])?);
     assert!(rt; stands_at(alloc, tables, 6003, 3, &[TOP, 6000])?);
     assert!(rt; stands_at(alloc, tables, D, 3, &[TOP])?);
     assert!(rt; !stands_at(alloc, tables, D, 5, &[TOP])?);
+    assert!(rt; has_over_at(alloc, tables, 6003, 3, &[6000])?);
+    assert!(rt; has_over_at(alloc, tables, 6003, 4, &[6001, 6000, 6002])?);
+    assert!(rt; has_over_at(alloc, tables, D, 0, &[])?);
     assert!(rt; is_subclass(alloc, tables, QE, P)?);
     assert!(rt; !is_subclass(alloc, tables, QE, QE)?);
     Ok(())

@@ -1,4 +1,4 @@
--- The rows up to a class's superclass, wherever it stands, are the superclass's lineage, and those up to its first superinterface are that one's.
+-- The rows up to a class's superclass, wherever it stands, are the superclass's lineage.
 use Rattle.std.proofs.Common.{◌≡◌, ◌∙◌, Bool, true, false, if◌then◌else◌, List, [], ◌∷◌, ◌++◌, Option, Some, None, append_assoc, reverse, refl, sym, ap, subst}
 use Rattle.std.specs.List.{AllByRecursion}
 use Rattle.std.proofs.lemmas.List.{reverse-append}
@@ -6,8 +6,8 @@ use Rattle.cl_model.specs.declared.class.Class.{Class}
 use Rattle.cl_model.specs.Ancestors.{EachClassOnce}
 use Rattle.cl_model.specs.Content.{Content}
 use Rattle.cl_model.specs.Homes.{World}
-use Rattle.cl_model.specs.Classes.{Above, is_among, superclass_of, superinterfaces_of}
-use Rattle.cl_model.specs.Lineages.{Forest, Bare, Tree, IsLineage, Kin, StandsFor, alone, classes, lineage, once, once_after, postorder}
+use Rattle.cl_model.specs.Classes.{Above, is_among, superclass_of}
+use Rattle.cl_model.specs.Lineages.{Forest, Bare, IsLineage, Kin, StandsFor, alone, classes, lineage, once, once_after, postorder}
 use Rattle.cl_model.proofs.Ancestors.{Within, among_first, lineage_once, within_more}
 use Rattle.cl_model.proofs.Closed.{all_left}
 use Rattle.cl_config.specs.Views.{Configured}
@@ -15,13 +15,13 @@ use Rattle.cl_delegation.specs.Worlds.{world_of}
 use Rattle.cl_hierarchy.specs.Lineages.{IsInOrder, IsLined, IsLineageOf, IsWithin, Lined, kin_of}
 use Rattle.cl_hierarchy.specs.Places.{IsPlace}
 use Rattle.cl_hierarchy.specs.Rows.{Rowed}
-use Rattle.cl_hierarchy.specs.Trees.{SupersBefore, forest, in_front, interfaces_in, kin_named, kin_under, kins, kins_after, superclass_in}
+use Rattle.cl_hierarchy.specs.Trees.{SupersBefore, forest, in_front, kin_named, kin_under, kins, kins_after, superclass_in}
 use Rattle.cl_hierarchy.proofs.Ancestry.{row_kin}
 use Rattle.cl_hierarchy.proofs.Climbs.{before_split, kins_both, placed_kin, placed_row}
 use Rattle.cl_hierarchy.proofs.Ends.{all_pop}
 use Rattle.cl_hierarchy.proofs.RowTables.{before_push}
 use Rattle.cl_hierarchy.proofs.Told.{lineage_ends, within_cons}
-use Rattle.cl_hierarchy.proofs.Tours.{classes_both, once_skips, within_right}
+use Rattle.cl_hierarchy.proofs.Tours.{classes_both, within_right}
 
 -- ---- each class once
 
@@ -51,9 +51,6 @@ once_behind seen (x ∷ xs) ys zs h =
         → (if b then once_after seen (xs ++ ys) else x ∷ once_after (x.class ∷ seen) (xs ++ ys)) ≡ (if b then once_after seen (xs ++ zs) else x ∷ once_after (x.class ∷ seen) (xs ++ zs))
     at same more true e = same e
     at same more false e = ap (λ (ks : List Kin). x ∷ ks) more
-
-once_again : (xs ys : List Kin) → once (xs ++ (xs ++ ys)) ≡ once (xs ++ ys)
-once_again xs ys = once_behind [] xs (xs ++ ys) ys (λ more s w. once_skips more xs ys w)
 
 -- the class of one of these
 among_these : (xs ys : List Kin) (s : Kin) → is_among (classes (xs ++ s ∷ ys)) s.class ≡ true
@@ -101,22 +98,6 @@ begins_own k xs all before ends begins = record {
 -- a class's superclass, and what stands above it, stand before its superinterfaces
 superclass_first : (k s : Kin) → k.superclass ≡ alone s → Begins (lineage s) (once (postorder k.superclass ++ postorder k.interfaces))
 superclass_first k s up = subst (λ (f : Forest). Begins (lineage s) (once (postorder f ++ postorder k.interfaces))) (sym up) (once_both [] (postorder (alone s)) (postorder k.interfaces))
-
--- what stands above the first superinterface stands before it, and its superclass's are the class's
-first_interface : (j : Kin) (others : Forest) → Begins (lineage j) (once (postorder j.superclass ++ postorder (Tree j.class j.file j.superclass j.interfaces others)))
-first_interface j others =
-    let up = postorder j.superclass in
-    let over = postorder j.interfaces in
-    let rest = postorder others in
-    let whole : once (up ++ ((up ++ over) ++ j ∷ rest)) ≡ once (((up ++ over) ++ j ∷ []) ++ rest) =
-    ap (λ (ks : List Kin). once (up ++ ks)) (append_assoc up over (j ∷ rest)) ∙ once_again up (over ++ j ∷ rest)
-    ∙ ap (λ (ks : List Kin). once ks) (sym (append_assoc up over (j ∷ rest)) ∙ sym (append_assoc (up ++ over) (j ∷ []) rest)) in
-    subst (λ (ks : List Kin). Begins (lineage j) ks) (sym whole) (once_both [] ((up ++ over) ++ j ∷ []) rest)
-
-interface_first : (k j : Kin) (others : Forest) → k.superclass ≡ j.superclass → k.interfaces ≡ in_front (Some j) others → Begins (lineage j) (once (postorder k.superclass ++ postorder k.interfaces))
-interface_first k j others up over =
-    subst (λ (f : Forest). Begins (lineage j) (once (postorder f ++ postorder k.interfaces))) (sym up)
-    (subst (λ (f : Forest). Begins (lineage j) (once (postorder j.superclass ++ postorder f))) (sym over) (first_interface j others))
 
 -- ---- rows
 
@@ -190,28 +171,11 @@ module _ (told : Option Content) (config : Configured) (earlier later : List Row
       let wanted : List Above = superclass_of (kin_of whole).file in
       stands_lineage w own.class (kin_of front) Bare wanted (subst (λ (f : Forest). StandsFor w own.class f wanted) up l.above)
 
-  interface_lineage : (o : Option Content) (others : Forest) → (kin_of whole).interfaces ≡ in_front (Some (kin_of front)) others → IsLineageOf o whole → IsLineageOf o front
-  interface_lineage None others over l = tt
-  interface_lineage (Some content) others over l =
-      let w : World = world_of config content in
-      let wanted : List Above = superinterfaces_of (kin_of whole).file in
-      stands_lineage w own.class (kin_of front) others wanted (subst (λ (f : Forest). StandsFor w own.class f wanted) over l.over)
-
   -- up to its superclass
   at_superclass : IsLined told whole → superclass_in own ≡ r.class ∷ [] → IsLined told front
   at_superclass h up =
       let up_is = superclass_at whole earlier r h.order place up in
       cut_at h (superclass_first (kin_of whole) (kin_of front) up_is) (superclass_lineage told up_is h.lineage)
-
-  -- up to its first superinterface
-  at_interface : (cs : List Class) → IsLined told whole → interfaces_in own ≡ r.class ∷ cs → superclass_in r ≡ superclass_in own → IsLined told front
-  at_interface cs h over same =
-      let known = kins (earlier ++ r ∷ later) in
-      let up_is : (kin_of whole).superclass ≡ (kin_of front).superclass =
-      ap (λ (xs : List Class). forest known xs) (sym same) ∙ ap (λ (k : Kin). k.superclass) (placed_kin (earlier ++ r ∷ later) earlier r h.order.above place) in
-      let over_is : (kin_of whole).interfaces ≡ in_front (Some (kin_of front)) (forest known cs) =
-      ap (λ (xs : List Class). forest known xs) over ∙ ap (λ (o : Option Kin). in_front o (forest known cs)) (named_at (earlier ++ r ∷ later) earlier r h.order.above place) in
-      cut_at h (interface_first (kin_of whole) (kin_of front) (forest known cs) up_is over_is) (interface_lineage told (forest known cs) over_is h.lineage)
 
 -- the rows up to the superclass's, wherever it stands, are its lineage
 pub cut_superclass : (told : Option Content) (config : Configured) (earlier later : List Rowed) (s own : Rowed)
@@ -219,11 +183,3 @@ pub cut_superclass : (told : Option Content) (config : Configured) (earlier late
     → superclass_in own ≡ s.class ∷ []
     → IsLined told (record { config = config; above = earlier; own = s })
 cut_superclass told config earlier later s own h up = at_superclass told config earlier later s own h up
-
--- the rows up to the first superinterface's are its lineage, where it has the superclass of the class
-pub cut_interface : (told : Option Content) (config : Configured) (earlier later : List Rowed) (j own : Rowed) (cs : List Class)
-    → IsLined told (record { config = config; above = earlier ++ j ∷ later; own = own })
-    → interfaces_in own ≡ j.class ∷ cs
-    → superclass_in j ≡ superclass_in own
-    → IsLined told (record { config = config; above = earlier; own = j })
-cut_interface told config earlier later j own cs h over same = at_interface told config earlier later j own cs h over same

@@ -10,14 +10,13 @@ use Rattle.cl_model.specs.Content.{Content}
 use Rattle.cl_model.specs.Lineages.{Kin}
 use Rattle.cl_config.specs.Views.{Configured}
 use Rattle.cl_hierarchy.specs.Above.{AreOnly, AreOvers}
-use Rattle.cl_hierarchy.specs.Ladders.{HasRung, IsBefore, IsEarlier, IsFilled, IsLadder, IsMadeOf, IsNearest, IsNextUp, IsPassed, IsPushed, IsRung, IsRungAt, IsRungOf, IsWay, Laddered, LeadUp, begins}
+use Rattle.cl_hierarchy.specs.Ladders.{HasRung, IsBefore, IsEarlier, IsFilled, IsLadder, IsMadeOf, IsNearest, IsPassed, IsPushed, IsRung, IsRungAt, IsRungOf, IsWay, Laddered, LeadUp, begins}
 use Rattle.cl_hierarchy.specs.Lineages.{IsLined, above_in, others_of}
 use Rattle.cl_hierarchy.specs.Rows.{Rowed}
 use Rattle.cl_hierarchy.specs.Trees.{SupersBefore, interface_places, kin_under, kins, superclass_in}
 use Rattle.cl_hierarchy.specs.declared.over.Overs.{Overs}
 use Rattle.cl_hierarchy.specs.declared.rung.Mark.{Mark}
 use Rattle.cl_hierarchy.specs.declared.rung.Rung.{Rung}
-use Rattle.cl_hierarchy.specs.declared.rung.Way.{Way}
 use Rattle.cl_hierarchy.proofs.Ends.{all_push}
 use Rattle.cl_hierarchy.proofs.Namings.{overs_push}
 use Rattle.cl_hierarchy.proofs.RowTables.{before_push}
@@ -81,14 +80,6 @@ module _ (told : Option Content) (x : Laddered) (h : IsLadder told x) where
             (subst (λ (n : ℕ). IsNearest x.rows (Some n) (above_in x.rows row) g.far) (sym mine) fact.supers.far),
         has_wider x.marks place bound g.far (let lt = k.0 in omega (arith, lt)) fact.supers.far_has,
       )
-
-  pub up_on : (is_over : Bool) (next : Option ℕ) (place : ℕ) (g : Rung) (ks : List Kin) (bound : ℕ) → is_over ≡ true → next ≡ Some place → IsRungAt x.marks place g
-      → IsNextUp x.rows is_over ks next → HasRung x.marks bound next → IsNearest x.rows None ks g.up × HasRung x.marks bound g.up
-  up_on is_over next place g ks bound over here is isnext has =
-      let u : IsNextUp x.rows true ks (Some place) = subst (λ (o : Option ℕ). IsNextUp x.rows true ks o) here (subst (λ (b : Bool). IsNextUp x.rows b ks next) over isnext) in
-      let k : HasRung x.marks bound (Some place) = subst (λ (o : Option ℕ). HasRung x.marks bound o) here has in
-      let fact = rung_fact told x place u.0 g h u.1 is in
-      (far_same x.rows None ks (above_in x.rows u.0) g.up u.2 fact.supers.up, has_wider x.marks place bound g.up (let lt = k.0 in omega (arith, lt)) fact.supers.up_has)
 
 -- ---- one mark more
 
@@ -189,7 +180,7 @@ after_place None = 0
 after_place (Some place) = place + 1
 
 -- the marks up to the last way that was passed, and the ways that are left
-pub record IsClimbing (told : Option Content) (old new : Laddered) (ways : List Way) (next : Option ℕ) : Type 0 where
+pub record IsClimbing (told : Option Content) (old new : Laddered) (ways : List ℕ) (next : Option ℕ) : Type 0 where
   pub longer : IsLonger old new
   pub ups : LeadUp told old.config old.rows ways next
   pub begins_at : begins ways next ≡ Some (length old.rows - 1)
@@ -292,32 +283,32 @@ module _ {A B : Type 0} (w : B → Rowed) (v : A → Rowed) (x : Laddered) (plac
 
 -- ---- the mark of a way
 
-pub way_in : (told : Option Content) (old new : Laddered) (w : Way) (next : Option ℕ) → new.config ≡ old.config → new.rows ≡ old.rows → IsWay told old.config old.rows w next → IsWay told new.config new.rows w next
+pub way_in : (told : Option Content) (old new : Laddered) (w : ℕ) (next : Option ℕ) → new.config ≡ old.config → new.rows ≡ old.rows → IsWay told old.config old.rows w next → IsWay told new.config new.rows w next
 way_in told old new w next config rows h =
     subst (λ (rs : List Rowed). IsWay told new.config rs w next) (sym rows) (subst (λ (c : Configured). IsWay told c old.rows w next) (sym config) h)
 
-pub pass_rung : (told : Option Content) (x : Laddered) (w : Way) (next : Option ℕ) (own : ℕ) (g : Rung) → length x.marks ≡ w.place → IsWay told x.config x.rows w next → HasRung x.marks w.place next
-    → ((ks : List Kin) (bound : ℕ) → IsNextUp x.rows w.is_over ks next → HasRung x.marks bound next → IsRungOf x own ks bound g)
-    → ((r : Rowed) → slice_get x.rows w.place ≡ Some r → own ≡ r.class.loader)
+pub pass_rung : (told : Option Content) (x : Laddered) (w : ℕ) (next : Option ℕ) (own : ℕ) (g : Rung) → length x.marks ≡ w → IsWay told x.config x.rows w next → HasRung x.marks w next
+    → ((ks : List Kin) (bound : ℕ) → IsNearest x.rows None ks next → HasRung x.marks bound next → IsRungOf x own ks bound g)
+    → ((r : Rowed) → slice_get x.rows w ≡ Some r → own ≡ r.class.loader)
     → (r : Rowed) → slice_get x.rows (length x.marks) ≡ Some r → IsRung told x (length x.marks) r g
 pass_rung told x w next own g many h has told_of mine r at =
     subst (λ (n : ℕ). IsRung told x n r g) (sym many) here
   where
-    there : slice_get x.rows w.place ≡ Some r
+    there : slice_get x.rows w ≡ Some r
     there = ap (λ (n : ℕ). slice_get x.rows n) (sym many) ∙ at
 
     same : h.row ≡ r
     same = same_Some h.row r (sym h.here.at ∙ there)
 
-    rung : IsRungOf x own (above_in x.rows r) w.place g
-    rung = told_of (above_in x.rows r) w.place (subst (λ (y : Rowed). IsNextUp x.rows w.is_over (above_in x.rows y) next) same h.up) has
+    rung : IsRungOf x own (above_in x.rows r) w g
+    rung = told_of (above_in x.rows r) w (subst (λ (y : Rowed). IsNearest x.rows None (above_in x.rows y) next) same h.up) has
 
-    here : IsRung told x w.place r g
+    here : IsRung told x w r g
     here = record {
-      lined = subst (λ (y : Rowed). IsLined told (record { config = x.config; above = take w.place x.rows; own = y })) same h.here.lined;
-      supers = subst (λ (n : ℕ). IsRungOf x n (above_in x.rows r) w.place g) (mine r there) rung;
+      lined = subst (λ (y : Rowed). IsLined told (record { config = x.config; above = take w x.rows; own = y })) same h.here.lined;
+      supers = subst (λ (n : ℕ). IsRungOf x n (above_in x.rows r) w g) (mine r there) rung;
       next = λ before s n e up.
-          subst (λ (o : Option ℕ). HasRung x.marks w.place o)
+          subst (λ (o : Option ℕ). HasRung x.marks w o)
           (h.nearest before s n e (ap (λ (y : Rowed). superclass_in y) same ∙ up)) has;
     }
 
@@ -348,24 +339,24 @@ pushed_on (Ok a) old filled new place g f p =
 
 -- ---- from way to way
 
-module _ (told : Option Content) (old new : Laddered) (ways left : List Way) (w : Way) (next : Option ℕ) (h : IsClimbing told old new ways next) (popped : ways ≡ left ++ w ∷ []) where
-  parts : LeadUp told old.config old.rows left (Some w.place) × IsWay told old.config old.rows w next
-  parts = lead_pop told old.config old.rows left w next (subst (λ (ws : List Way). LeadUp told old.config old.rows ws next) popped h.ups)
+module _ (told : Option Content) (old new : Laddered) (ways left : List ℕ) (w : ℕ) (next : Option ℕ) (h : IsClimbing told old new ways next) (popped : ways ≡ left ++ w ∷ []) where
+  parts : LeadUp told old.config old.rows left (Some w) × IsWay told old.config old.rows w next
+  parts = lead_pop told old.config old.rows left w next (subst (λ (ws : List ℕ). LeadUp told old.config old.rows ws next) popped h.ups)
 
   pub climb_way : IsWay told new.config new.rows w next
   climb_way = way_in told old new w next h.longer.config h.longer.rows parts.1
 
-  pub climb_before : length new.marks ≤ w.place
-  climb_before = subst (λ (n : ℕ). n ≤ w.place) (sym h.many) (before next parts.1.before)
+  pub climb_before : length new.marks ≤ w
+  climb_before = subst (λ (n : ℕ). n ≤ w) (sym h.many) (before next parts.1.before)
     where
-      before : (o : Option ℕ) → IsBefore o w.place → after_place o ≤ w.place
+      before : (o : Option ℕ) → IsBefore o w → after_place o ≤ w
       before None k = omega arith
       before (Some p) k = omega (arith, k)
 
-  pub climb_next : HasRung new.marks w.place next
-  climb_next = has_wider new.marks (length new.marks) w.place next climb_before h.has
+  pub climb_next : HasRung new.marks w next
+  climb_next = has_wider new.marks (length new.marks) w next climb_before h.has
 
-  pub climb_on : (after : Laddered) → IsPassed new w.place after → IsClimbing told old after left (Some w.place)
+  pub climb_on : (after : Laddered) → IsPassed new w after → IsClimbing told old after left (Some w)
   climb_on after p = record {
     longer = record {
       config = p.filled.config ∙ h.longer.config;
@@ -374,8 +365,8 @@ module _ (told : Option Content) (old new : Laddered) (ways left : List Way) (w 
       marks = p.filled.marks ∙ ap (λ (ms : List Mark). ms ++ p.filled.more) h.longer.marks ∙ append_assoc old.marks h.longer.more p.filled.more;
     };
     ups = parts.0;
-    begins_at = sym (begins_push left w next) ∙ ap (λ (ws : List Way). begins ws next) (sym popped) ∙ h.begins_at;
-    has = subst (λ (n : ℕ). HasRung after.marks n (Some w.place)) (sym p.filled.many) p.rung;
+    begins_at = sym (begins_push left w next) ∙ ap (λ (ws : List ℕ). begins ws next) (sym popped) ∙ h.begins_at;
+    has = subst (λ (n : ℕ). HasRung after.marks n (Some w)) (sym p.filled.many) p.rung;
     many = p.filled.many;
   }
 

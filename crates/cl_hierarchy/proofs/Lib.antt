@@ -1,4 +1,5 @@
 pub mod Ancestry
+pub mod ClassesAt
 pub mod Climbs
 pub mod Counted
 pub mod Cuts

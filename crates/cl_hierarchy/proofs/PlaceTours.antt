@@ -1,4 +1,4 @@
--- A tour by places is the tour by the rows there, in the order of a lineage.
+-- A tour by places is the tour by the rows there, in the order of superinterfaces.
 use Rattle.std.proofs.Common.{◌≡◌, ◌∙◌, ◌<◌, ◌+◌, ◌⊎◌, inl, inr, ℕ, zero, suc, Bool, true, false, ◌||◌, if◌then◌else◌, arith, List, [], ◌∷◌, ◌++◌, Option, Some, None, Result, Ok, Err, append_assoc, append-nil, get_or, length, map, take, refl, sym, ap, subst}
 use Rattle.std.specs.Prelude.{IfSome, OnOk, option_to_list, replicate, set, slice_get}
 use Rattle.std.specs.List.{AllByRecursion, cons_option}
@@ -16,10 +16,10 @@ use Rattle.cl_hierarchy.specs.declared.tour.Order.TheVariants as orders
 use Rattle.cl_hierarchy.specs.declared.tour.Task.{Task}
 use Rattle.cl_hierarchy.specs.declared.tour.Task.TheVariants as tasks
 use Rattle.cl_hierarchy.specs.Lineages.{IsRowIn}
-use Rattle.cl_hierarchy.specs.PlaceTours.{AreLineageAt, AreMarked, IsPlaced, IsPushed, Placed, Steps, StepsTo, classes_at, mark_at, marks_at, rows_at, toured_at}
+use Rattle.cl_hierarchy.specs.PlaceTours.{AreMarked, AreSuperinterfacesAt, IsOpened, IsPlaced, IsPushed, IsTold, IsTour, Placed, Steps, classes_at, mark_at, marks_at, rows_at, toured_at}
 use Rattle.cl_hierarchy.specs.Rows.{Rowed}
 use Rattle.cl_hierarchy.specs.Supers.{AreAllSupers, HasRow, IsRowAt, place_in, row_at}
-use Rattle.cl_hierarchy.specs.Tours.{Marked, Toured, first_row, interface_row, opened, over_from, step, steps_left, stops, told_at, upwards_of}
+use Rattle.cl_hierarchy.specs.Tours.{Marked, Toured, first_row, interface_row, opened, over_from, step, steps_left, stops, telling, told_at, upwards_of}
 use Rattle.cl_hierarchy.specs.Trees.{SupersBefore, kin_named, kin_under, kins, superclass_in}
 use Rattle.cl_hierarchy.proofs.Ancestry.{keeps, named_first, same_back}
 use Rattle.cl_hierarchy.proofs.Climbs.{placed_row}
@@ -27,7 +27,7 @@ use Rattle.cl_hierarchy.proofs.Ends.{all_pop, all_push}
 use Rattle.cl_hierarchy.proofs.Rungs.{place_of, take_with}
 use Rattle.cl_hierarchy.proofs.Stages.{IsStage, ended_by, first_stage, preserved_by, smaller_by}
 use Rattle.cl_hierarchy.proofs.SuperTables.{supers_at}
-use Rattle.cl_hierarchy.proofs.Tours.{lineage_told}
+use Rattle.cl_hierarchy.proofs.Tours.{superinterfaces_told}
 
 -- ---- rows at places
 
@@ -130,13 +130,13 @@ marked_more rows cs told p r ordered at h = λ q s e. elim (same_or p q) [
 -- ---- what is put
 
 -- one thing more is left to do
-record Pushes (rows : List Rowed) (a : Placed) (m : Marked) (b : Placed) : Type 0 where
-  placed : IsPlaced rows b
+record Pushes (rows : List Rowed) (left : List Class) (a : Placed) (m : Marked) (b : Placed) : Type 0 where
+  placed : IsPlaced rows left b
   told : b.told ≡ a.told
   marks : marks_at rows b.stack ≡ marks_at rows a.stack ++ m ∷ []
 
-pushes : (rows : List Rowed) (a b : Placed) (p : ℕ) (k : Task) (r : Rowed) → slice_get rows p ≡ Some r → IsPlaced rows a → IsPushed a p k b → Pushes rows a (record { row = r; task = k }) b
-pushes rows a b p k r e h put = record {
+pushes : (rows : List Rowed) (left : List Class) (a b : Placed) (p : ℕ) (k : Task) (r : Rowed) → slice_get rows p ≡ Some r → IsPlaced rows left a → IsPushed a p k b → Pushes rows left a (record { row = r; task = k }) b
+pushes rows left a b p k r e h put = record {
   placed = record {
     told_in = subst (λ (ps : List ℕ). AllByRecursion (HasRow rows) ps) (sym put.told) h.told_in;
     stack_in =
@@ -145,123 +145,52 @@ pushes rows a b p k r e h put = record {
     is_told_is =
         subst (λ (bs : List Bool). AreMarked rows (classes_at rows b.told) bs) (sym put.is_told)
         (subst (λ (ps : List ℕ). AreMarked rows (classes_at rows ps) a.is_told) (sym put.told) h.is_told_is);
+    is_left_is = subst (λ (bs : List Bool). AreMarked rows left bs) (sym put.is_left) h.is_left_is;
   };
   told = put.told;
   marks = ap (λ (ss : List Spot). marks_at rows ss) put.stack ∙ marks_push rows a.stack (record { place = p; task = k }) r e;
 }
 
 -- the same, but for what is left to do
-toured_is : (rows : List Rowed) (old new : Placed) (ms : List Marked) → new.told ≡ old.told → marks_at rows new.stack ≡ ms → toured_at rows new ≡ record (toured_at rows old) { stack = ms }
-toured_is rows old new ms told e =
-    ap (λ (ps : List ℕ). let x : Toured = record { told = rows_at rows ps; seen = classes_at rows ps; left = classes_at rows ps; stack = marks_at rows new.stack } in x) told
-    ∙ ap (λ (xs : List Marked). let x : Toured = record { told = rows_at rows old.told; seen = classes_at rows old.told; left = classes_at rows old.told; stack = xs } in x) e
+toured_is : (rows : List Rowed) (left : List Class) (old new : Placed) (ms : List Marked) → new.told ≡ old.told → marks_at rows new.stack ≡ ms → toured_at rows left new ≡ record (toured_at rows left old) { stack = ms }
+toured_is rows left old new ms told e =
+    ap (λ (ps : List ℕ). let x : Toured = record { told = rows_at rows ps; seen = classes_at rows ps; left = left; stack = marks_at rows new.stack } in x) told
+    ∙ ap (λ (xs : List Marked). let x : Toured = record { told = rows_at rows old.told; seen = classes_at rows old.told; left = left; stack = xs } in x) e
 
--- ---- steps
+-- ---- marks
 
--- whether the class at a place was told
-bit : (rows : List Rowed) (old : Placed) (r : Rowed) (p : ℕ) (b : Bool) → slice_get rows p ≡ Some r → IsPlaced rows old → IfSome (slice_get old.is_told p) (λ c. b ≡ c) → b ≡ is_among (classes_at rows old.told) r.class
-bit rows old r p b at placed h = has (slice_get old.is_told p) (placed.is_told_is p r at) h
+-- whether the class at a place is among those that are marked
+bit : (rows : List Rowed) (cs : List Class) (marks : List Bool) (r : Rowed) (p : ℕ) (b : Bool) → slice_get rows p ≡ Some r → AreMarked rows cs marks → IfSome (slice_get marks p) (λ c. b ≡ c) → b ≡ is_among cs r.class
+bit rows cs marks r p b at are h = has (slice_get marks p) (are p r at) h
   where
-    has : (o : Option Bool) → o ≡ Some (is_among (classes_at rows old.told) r.class) → IfSome o (λ c. b ≡ c) → b ≡ is_among (classes_at rows old.told) r.class
+    has : (o : Option Bool) → o ≡ Some (is_among cs r.class) → IfSome o (λ c. b ≡ c) → b ≡ is_among cs r.class
     has None e f = absurd cc
-    has (Some c) e f = f ∙ same_Some c (is_among (classes_at rows old.told) r.class) e
+    has (Some c) e f = f ∙ same_Some c (is_among cs r.class) e
 
-module _ (rows : List Rowed) (old : Placed) (r : Rowed) (p : ℕ) (b : Bool) (at : slice_get rows p ≡ Some r) (placed : IsPlaced rows old) (h : IfSome (slice_get old.is_told p) (λ c. b ≡ c)) (e : b ≡ false) where
-  -- what is left once a class was come to
-  opens : (wanted : Bool) (new : Placed) → new.told ≡ old.told → marks_at rows new.stack ≡ marks_at rows old.stack ++ opened orders.Lineage rows r → toured_at rows new ≡ step orders.Lineage rows (toured_at rows old) r (tasks.Come wanted)
-  opens wanted new told marks =
-      let t = toured_at rows old in
-      toured_is rows old new (t.stack ++ opened orders.Lineage rows r) told marks
-      ∙ ap (λ (c : Bool). let x : Toured = record t { stack = if c then t.stack else t.stack ++ opened orders.Lineage rows r } in x) (sym e ∙ bit rows old r p b at placed h)
+-- ---- a class is told
 
-  two : (old_marks : List Marked) (ms : List Marked) → ms ≡ (old_marks ++ record { row = r; task = tasks.Leave } ∷ []) ++ record { row = r; task = tasks.Over 0 } ∷ [] → first_row rows (superclass_in r) ≡ None → ms ≡ old_marks ++ opened orders.Lineage rows r
-  two old_marks ms is none =
-      is ∙ append_assoc old_marks (record { row = r; task = tasks.Leave } ∷ []) (record { row = r; task = tasks.Over 0 } ∷ [])
-      ∙ ap (λ (o : Option Rowed). old_marks ++ record { row = r; task = tasks.Leave } ∷ record { row = r; task = tasks.Over 0 } ∷ upwards_of orders.Lineage o) (sym none)
+-- it is not to be told
+pub told_not : (table : List Supers) (old : Placed) (p : ℕ) → IsTold table old p false old
+told_not table old p = λ rows left r ordered are at placed. record { placed = placed; toured = refl }
 
-  three : (old_marks : List Marked) (ms : List Marked) (x : Rowed) → ms ≡ ((old_marks ++ record { row = r; task = tasks.Leave } ∷ []) ++ record { row = r; task = tasks.Over 0 } ∷ []) ++ record { row = x; task = tasks.Come true } ∷ []
-      → first_row rows (superclass_in r) ≡ Some x → ms ≡ old_marks ++ opened orders.Lineage rows r
-  three old_marks ms x is some =
-      let leave : List Marked = record { row = r; task = tasks.Leave } ∷ [] in
-      let over : List Marked = record { row = r; task = tasks.Over 0 } ∷ [] in
-      let come : List Marked = record { row = x; task = tasks.Come true } ∷ [] in
-      is ∙ append_assoc (old_marks ++ leave) over come ∙ append_assoc old_marks leave (over ++ come)
-      ∙ ap (λ (o : Option Rowed). old_marks ++ record { row = r; task = tasks.Leave } ∷ record { row = r; task = tasks.Over 0 } ∷ upwards_of orders.Lineage o) (sym some)
-
--- to come to another, which has no superclass
-pub came_alone : (table : List Supers) (old a new : Placed) (p : ℕ) (b wanted : Bool) (up : Option ℕ) → IfSome (slice_get old.is_told p) (λ c. b ≡ c) → b ≡ false → IsPushed old p tasks.Leave a → IsPushed a p (tasks.Over 0) new
-    → ((s : Supers) → slice_get table p ≡ Some s → up ≡ s.up) → up ≡ None → Steps table old p (tasks.Come wanted) new
-came_alone table old a new p b wanted up h e one two_ up_is none = λ rows r ordered are at placed.
-    let first = pushes rows old a p tasks.Leave r at placed one in
-    let second = pushes rows a new p (tasks.Over 0) r at first.placed two_ in
-    let s = supers_at rows rows table p r are at in
-    let gone : first_row rows (superclass_in r) ≡ None = sym s.2.up.row_is ∙ ap (λ (o : Option ℕ). row_at rows o) (sym (up_is s.0 s.1) ∙ none) in
-    record {
-      placed = second.placed;
-      steps = opens rows old r p b at placed h e wanted new (second.told ∙ first.told) (two rows old r p b at placed h e (marks_at rows old.stack) (marks_at rows new.stack) (second.marks ∙ ap (λ (ms : List Marked). ms ++ record { row = r; task = tasks.Over 0 } ∷ []) first.marks) gone);
-    }
-
-row_above : (rows : List Rowed) (row : Option Rowed) (o : Option ℕ) (up : ℕ) → IsRowAt rows row o → o ≡ Some up → (x : Rowed) × (slice_get rows up ≡ Some x) × (row ≡ Some x)
-row_above rows row o up h e =
-    let at : HasRow rows up = subst (λ (y : Option ℕ). IfSome y (HasRow rows)) e h.within in
-    (at.0, at.1, sym h.row_is ∙ ap (λ (y : Option ℕ). row_at rows y) e ∙ at.1)
-
--- and which has one
-pub came_under : (table : List Supers) (old a c new : Placed) (p up : ℕ) (b wanted : Bool) (o : Option ℕ) → IfSome (slice_get old.is_told p) (λ d. b ≡ d) → b ≡ false → IsPushed old p tasks.Leave a → IsPushed a p (tasks.Over 0) c
-    → ((s : Supers) → slice_get table p ≡ Some s → o ≡ s.up) → o ≡ Some up → IsPushed c up (tasks.Come true) new → Steps table old p (tasks.Come wanted) new
-came_under table old a c new p up b wanted o h e one two_ up_is some last = λ rows r ordered are at placed.
-    let first = pushes rows old a p tasks.Leave r at placed one in
-    let second = pushes rows a c p (tasks.Over 0) r at first.placed two_ in
-    let s = supers_at rows rows table p r are at in
-    let x = row_above rows (first_row rows (superclass_in r)) s.0.up up s.2.up (sym (up_is s.0 s.1) ∙ some) in
-    let third = pushes rows c new up (tasks.Come true) x.0 x.1 second.placed last in
-    record {
-      placed = third.placed;
-      steps =
-          opens rows old r p b at placed h e wanted new (third.told ∙ second.told ∙ first.told)
-          (three rows old r p b at placed h e (marks_at rows old.stack) (marks_at rows new.stack) x.0
-          (third.marks ∙ ap (λ (ms : List Marked). ms ++ record { row = x.0; task = tasks.Come true } ∷ []) (second.marks ∙ ap (λ (ms : List Marked). ms ++ record { row = r; task = tasks.Over 0 } ∷ []) first.marks)) x.2);
-    }
-
--- no superinterface is left
-pub went_past : (table : List Supers) (old : Placed) (p at : ℕ) (o : Option ℕ) → ((s : Supers) → slice_get table p ≡ Some s → o ≡ place_in s.over.items at) → o ≡ None → Steps table old p (tasks.Over at) old
-went_past table old p at o over_is none = λ rows r ordered are here placed.
-    let s = supers_at rows rows table p r are here in
-    let gone : interface_row rows r at ≡ None = sym (s.2.over at).row_is ∙ ap (λ (x : Option ℕ). row_at rows x) (sym (over_is s.0 s.1) ∙ none) in
-    let t = toured_at rows old in
+-- it was told before
+pub told_past : (table : List Supers) (old : Placed) (p : ℕ) (b : Bool) → IfSome (slice_get old.is_told p) (λ c. b ≡ c) → b ≡ true → IsTold table old p true old
+told_past table old p b h e = λ rows left r ordered are at placed.
+    let t = toured_at rows left old in
     record {
       placed = placed;
-      steps =
-          ap (λ (ms : List Marked). let x : Toured = record t { stack = ms } in x) (sym (append-nil t.stack))
-          ∙ ap (λ (x : Option Rowed). let y : Toured = record t { stack = t.stack ++ over_from r at x } in y) (sym gone);
+      toured =
+          ap (λ (c : Bool). let x : Toured = record t { told = if c then t.told else t.told ++ r ∷ []; seen = if c then t.seen else t.seen ++ r.class ∷ [] } in x)
+          (sym e ∙ bit rows (classes_at rows old.told) old.is_told r p b at placed.is_told_is h);
     }
 
--- one is
-pub went_over : (table : List Supers) (old a new : Placed) (p at next above : ℕ) (o : Option ℕ) → ((s : Supers) → slice_get table p ≡ Some s → o ≡ place_in s.over.items at) → o ≡ Some above → next ≡ at + 1
-    → IsPushed old p (tasks.Over next) a → IsPushed a above (tasks.Come true) new → Steps table old p (tasks.Over at) new
-went_over table old a new p at next above o over_is some after one two_ = λ rows r ordered are here placed.
-    let s = supers_at rows rows table p r are here in
-    let x = row_above rows (interface_row rows r at) (place_in s.0.over.items at) above (s.2.over at) (sym (over_is s.0 s.1) ∙ some) in
-    let first = pushes rows old a p (tasks.Over next) r here placed one in
-    let second = pushes rows a new above (tasks.Come true) x.0 x.1 first.placed two_ in
-    let t = toured_at rows old in
-    let ms = marks_at rows old.stack in
-    let come : List Marked = record { row = x.0; task = tasks.Come true } ∷ [] in
-    record {
-      placed = second.placed;
-      steps =
-          toured_is rows old new (ms ++ over_from r at (Some x.0)) (second.told ∙ first.told)
-          (second.marks ∙ ap (λ (ns : List Marked). ns ++ come) first.marks ∙ append_assoc ms (record { row = r; task = tasks.Over next } ∷ []) come
-          ∙ ap (λ (n : ℕ). ms ++ record { row = r; task = tasks.Over n } ∷ come) after)
-          ∙ ap (λ (y : Option Rowed). let z : Toured = record t { stack = t.stack ++ over_from r at y } in z) (sym x.2);
-    }
-
--- another is
-pub left_told : (table : List Supers) (old new : Placed) (p : ℕ) (b : Bool) → IfSome (slice_get old.is_told p) (λ c. b ≡ c) → b ≡ false → new.told ≡ old.told ++ p ∷ [] → new.is_told ≡ set old.is_told p true → new.stack ≡ old.stack → Steps table old p tasks.Leave new
-left_told table old new p b h e told is_told stack = λ rows r ordered are at placed.
+-- it is told now
+now_told : (table : List Supers) (old new : Placed) (p : ℕ) (b : Bool) → IfSome (slice_get old.is_told p) (λ c. b ≡ c) → b ≡ false → new.told ≡ old.told ++ p ∷ [] → new.is_told ≡ set old.is_told p true → new.is_left ≡ old.is_left → new.stack ≡ old.stack
+    → IsTold table old p true new
+now_told table old new p b h e told is_told is_left stack = λ rows left r ordered are at placed.
     let cs = classes_at rows old.told in
     let classes : classes_at rows new.told ≡ cs ++ r.class ∷ [] = ap (λ (ps : List ℕ). classes_at rows ps) told ∙ classes_push rows old.told p r at in
-    let t = toured_at rows old in
+    let t = toured_at rows left old in
     record {
       placed = record {
         told_in = subst (λ (ps : List ℕ). AllByRecursion (HasRow rows) ps) (sym told) (all_push (HasRow rows) old.told p placed.told_in (r, at));
@@ -269,19 +198,139 @@ left_told table old new p b h e told is_told stack = λ rows r ordered are at pl
         is_told_is =
             subst (λ (bs : List Bool). AreMarked rows (classes_at rows new.told) bs) (sym is_told)
             (subst (λ (ds : List Class). AreMarked rows ds (set old.is_told p true)) (sym classes) (marked_more rows cs old.is_told p r ordered at placed.is_told_is));
+        is_left_is = subst (λ (bs : List Bool). AreMarked rows left bs) (sym is_left) placed.is_left_is;
       };
-      steps =
-          ap (λ (rs : List Rowed). let x : Toured = record { told = rs; seen = classes_at rows new.told; left = classes_at rows new.told; stack = marks_at rows new.stack } in x) (ap (λ (ps : List ℕ). rows_at rows ps) told ∙ rows_push rows old.told p r at)
-          ∙ ap (λ (ds : List Class). let x : Toured = record { told = t.told ++ r ∷ []; seen = ds; left = ds; stack = marks_at rows new.stack } in x) classes
-          ∙ ap (λ (ss : List Spot). let x : Toured = record { told = t.told ++ r ∷ []; seen = cs ++ r.class ∷ []; left = cs ++ r.class ∷ []; stack = marks_at rows ss } in x) stack
-          ∙ ap (λ (c : Bool).
-          let x : Toured = record {
-            told = if c then t.told else t.told ++ r ∷ [];
-            seen = if c then cs else cs ++ r.class ∷ [];
-            left = if c then cs else cs ++ r.class ∷ [];
-            stack = t.stack;
-          } in x) (sym e ∙ bit rows old r p b at placed h);
+      toured =
+          ap (λ (rs : List Rowed). let x : Toured = record { told = rs; seen = classes_at rows new.told; left = left; stack = marks_at rows new.stack } in x) (ap (λ (ps : List ℕ). rows_at rows ps) told ∙ rows_push rows old.told p r at)
+          ∙ ap (λ (ds : List Class). let x : Toured = record { told = t.told ++ r ∷ []; seen = ds; left = left; stack = marks_at rows new.stack } in x) classes
+          ∙ ap (λ (ss : List Spot). let x : Toured = record { told = t.told ++ r ∷ []; seen = cs ++ r.class ∷ []; left = left; stack = marks_at rows ss } in x) stack
+          ∙ ap (λ (c : Bool). let x : Toured = record t { told = if c then t.told else t.told ++ r ∷ []; seen = if c then cs else cs ++ r.class ∷ [] } in x) (sym e ∙ bit rows cs old.is_told r p b at placed.is_told_is h);
     }
+
+pub told_now : (table : List Supers) (old new : Placed) (p : ℕ) (wanted b : Bool) → wanted ≡ true → IfSome (slice_get old.is_told p) (λ c. b ≡ c) → b ≡ false → new.told ≡ old.told ++ p ∷ [] → new.is_told ≡ set old.is_told p true → new.is_left ≡ old.is_left
+    → new.stack ≡ old.stack → IsTold table old p wanted new
+told_now table old new p wanted b on h e told is_told is_left stack = subst (λ (w : Bool). IsTold table old p w new) (sym on) (now_told table old new p b h e told is_told is_left stack)
+
+-- ---- what stands above a class is to be come to
+
+-- a class that has no superclass
+pub opened_alone : (table : List Supers) (old a new : Placed) (p : ℕ) (up : Option ℕ) → IsPushed old p tasks.Leave a → IsPushed a p (tasks.Over 0) new → ((s : Supers) → slice_get table p ≡ Some s → up ≡ s.up) → up ≡ None → IsOpened table old p new
+opened_alone table old a new p up one two_ up_is none = λ rows left r ordered are at placed.
+    let first = pushes rows left old a p tasks.Leave r at placed one in
+    let second = pushes rows left a new p (tasks.Over 0) r at first.placed two_ in
+    let s = supers_at rows rows table p r are at in
+    let gone : first_row rows (superclass_in r) ≡ None = sym s.2.up.row_is ∙ ap (λ (o : Option ℕ). row_at rows o) (sym (up_is s.0 s.1) ∙ none) in
+    let ms = marks_at rows old.stack in
+    let leave : List Marked = record { row = r; task = tasks.Leave } ∷ [] in
+    let over : List Marked = record { row = r; task = tasks.Over 0 } ∷ [] in
+    record {
+      placed = second.placed;
+      toured =
+          toured_is rows left old new (ms ++ opened orders.Superinterfaces rows r) (second.told ∙ first.told)
+          (second.marks ∙ ap (λ (ns : List Marked). ns ++ over) first.marks ∙ append_assoc ms leave over
+          ∙ ap (λ (o : Option Rowed). ms ++ record { row = r; task = tasks.Leave } ∷ (upwards_of orders.Superinterfaces o ++ over)) (sym gone));
+    }
+
+row_above : (rows : List Rowed) (row : Option Rowed) (o : Option ℕ) (up : ℕ) → IsRowAt rows row o → o ≡ Some up → (x : Rowed) × (slice_get rows up ≡ Some x) × (row ≡ Some x)
+row_above rows row o up h e =
+    let at : HasRow rows up = subst (λ (y : Option ℕ). IfSome y (HasRow rows)) e h.within in
+    (at.0, at.1, sym h.row_is ∙ ap (λ (y : Option ℕ). row_at rows y) e ∙ at.1)
+
+-- and one that has one
+pub opened_under : (table : List Supers) (old a c new : Placed) (p up : ℕ) (o : Option ℕ) → IsPushed old p tasks.Leave a → IsPushed a up (tasks.Come false) c → IsPushed c p (tasks.Over 0) new
+    → ((s : Supers) → slice_get table p ≡ Some s → o ≡ s.up) → o ≡ Some up → IsOpened table old p new
+opened_under table old a c new p up o one two_ last up_is some = λ rows left r ordered are at placed.
+    let s = supers_at rows rows table p r are at in
+    let x = row_above rows (first_row rows (superclass_in r)) s.0.up up s.2.up (sym (up_is s.0 s.1) ∙ some) in
+    let first = pushes rows left old a p tasks.Leave r at placed one in
+    let second = pushes rows left a c up (tasks.Come false) x.0 x.1 first.placed two_ in
+    let third = pushes rows left c new p (tasks.Over 0) r at second.placed last in
+    let ms = marks_at rows old.stack in
+    let leave : List Marked = record { row = r; task = tasks.Leave } ∷ [] in
+    let come : List Marked = record { row = x.0; task = tasks.Come false } ∷ [] in
+    let over : List Marked = record { row = r; task = tasks.Over 0 } ∷ [] in
+    record {
+      placed = third.placed;
+      toured =
+          toured_is rows left old new (ms ++ opened orders.Superinterfaces rows r) (third.told ∙ second.told ∙ first.told)
+          (third.marks ∙ ap (λ (ns : List Marked). ns ++ over) (second.marks ∙ ap (λ (ns : List Marked). ns ++ come) first.marks) ∙ append_assoc (ms ++ leave) come over ∙ append_assoc ms leave (come ++ over)
+          ∙ ap (λ (y : Option Rowed). ms ++ record { row = r; task = tasks.Leave } ∷ (upwards_of orders.Superinterfaces y ++ over)) (sym x.2));
+    }
+
+-- ---- steps
+
+-- a class is come to that was left before
+pub came_past : (table : List Supers) (old mid : Placed) (p : ℕ) (wanted b : Bool) → IsTold table old p wanted mid → IfSome (slice_get mid.is_left p) (λ c. b ≡ c) → b ≡ true → Steps table old p (tasks.Come wanted) mid
+came_past table old mid p wanted b told h e = λ rows left r ordered are at placed.
+    let u = telling wanted (toured_at rows left old) r in
+    let first = told rows left r ordered are at placed in
+    subst (λ (c : Bool). IsTour rows (record u { stack = if c then u.stack else u.stack ++ opened orders.Superinterfaces rows r }) mid) (sym e ∙ bit rows u.left mid.is_left r p b at first.placed.is_left_is h) first
+
+-- and one that was not
+pub came_on : (table : List Supers) (old mid new : Placed) (p : ℕ) (wanted b : Bool) → IsTold table old p wanted mid → IfSome (slice_get mid.is_left p) (λ c. b ≡ c) → b ≡ false → IsOpened table mid p new → Steps table old p (tasks.Come wanted) new
+came_on table old mid new p wanted b told h e opens = λ rows left r ordered are at placed.
+    let u = telling wanted (toured_at rows left old) r in
+    let first = told rows left r ordered are at placed in
+    let second = opens rows u.left r ordered are at first.placed in
+    subst (λ (c : Bool). IsTour rows (record u { stack = if c then u.stack else u.stack ++ opened orders.Superinterfaces rows r }) new) (sym e ∙ bit rows u.left mid.is_left r p b at first.placed.is_left_is h)
+    (subst (λ (x : Toured). IsTour rows (record x { stack = x.stack ++ opened orders.Superinterfaces rows r }) new) first.toured second)
+
+-- no superinterface is left
+pub went_past : (table : List Supers) (old : Placed) (p at : ℕ) (o : Option ℕ) → ((s : Supers) → slice_get table p ≡ Some s → o ≡ place_in s.over.items at) → o ≡ None → Steps table old p (tasks.Over at) old
+went_past table old p at o over_is none = λ rows left r ordered are here placed.
+    let s = supers_at rows rows table p r are here in
+    let gone : interface_row rows r at ≡ None = sym (s.2.over at).row_is ∙ ap (λ (x : Option ℕ). row_at rows x) (sym (over_is s.0 s.1) ∙ none) in
+    let t = toured_at rows left old in
+    record {
+      placed = placed;
+      toured =
+          ap (λ (ms : List Marked). let x : Toured = record t { stack = ms } in x) (sym (append-nil t.stack))
+          ∙ ap (λ (x : Option Rowed). let y : Toured = record t { stack = t.stack ++ over_from r at x } in y) (sym gone);
+    }
+
+-- one is
+pub went_over : (table : List Supers) (old a new : Placed) (p at next above : ℕ) (o : Option ℕ) → ((s : Supers) → slice_get table p ≡ Some s → o ≡ place_in s.over.items at) → o ≡ Some above → next ≡ at + 1
+    → IsPushed old p (tasks.Over next) a → IsPushed a above (tasks.Come true) new → Steps table old p (tasks.Over at) new
+went_over table old a new p at next above o over_is some after one two_ = λ rows left r ordered are here placed.
+    let s = supers_at rows rows table p r are here in
+    let x = row_above rows (interface_row rows r at) (place_in s.0.over.items at) above (s.2.over at) (sym (over_is s.0 s.1) ∙ some) in
+    let first = pushes rows left old a p (tasks.Over next) r here placed one in
+    let second = pushes rows left a new above (tasks.Come true) x.0 x.1 first.placed two_ in
+    let t = toured_at rows left old in
+    let ms = marks_at rows old.stack in
+    let come : List Marked = record { row = x.0; task = tasks.Come true } ∷ [] in
+    record {
+      placed = second.placed;
+      toured =
+          toured_is rows left old new (ms ++ over_from r at (Some x.0)) (second.told ∙ first.told)
+          (second.marks ∙ ap (λ (ns : List Marked). ns ++ come) first.marks ∙ append_assoc ms (record { row = r; task = tasks.Over next } ∷ []) come
+          ∙ ap (λ (n : ℕ). ms ++ record { row = r; task = tasks.Over n } ∷ come) after)
+          ∙ ap (λ (y : Option Rowed). let z : Toured = record t { stack = t.stack ++ over_from r at y } in z) (sym x.2);
+    }
+
+-- a class is left that was left before
+pub left_past : (table : List Supers) (old : Placed) (p : ℕ) (b : Bool) → IfSome (slice_get old.is_left p) (λ c. b ≡ c) → b ≡ true → Steps table old p tasks.Leave old
+left_past table old p b h e = λ rows left r ordered are at placed.
+    let t = toured_at rows left old in
+    subst (λ (c : Bool). IsTour rows (record t { left = if c then left else left ++ r.class ∷ [] }) old) (sym e ∙ bit rows left old.is_left r p b at placed.is_left_is h) (record { placed = placed; toured = refl })
+
+-- and one that was not
+pub left_now : (table : List Supers) (old new : Placed) (p : ℕ) (b : Bool) → IfSome (slice_get old.is_left p) (λ c. b ≡ c) → b ≡ false → new.told ≡ old.told → new.is_told ≡ old.is_told → new.is_left ≡ set old.is_left p true → new.stack ≡ old.stack → Steps table old p tasks.Leave new
+left_now table old new p b h e told is_told is_left stack = λ rows left r ordered are at placed.
+    let t = toured_at rows left old in
+    let more : List Class = left ++ r.class ∷ [] in
+    subst (λ (c : Bool). IsTour rows (record t { left = if c then left else more }) new) (sym e ∙ bit rows left old.is_left r p b at placed.is_left_is h)
+    (record {
+      placed = record {
+        told_in = subst (λ (ps : List ℕ). AllByRecursion (HasRow rows) ps) (sym told) placed.told_in;
+        stack_in = subst (λ (ss : List Spot). AllByRecursion (λ (s : Spot). HasRow rows s.place) ss) (sym stack) placed.stack_in;
+        is_told_is =
+            subst (λ (bs : List Bool). AreMarked rows (classes_at rows new.told) bs) (sym is_told)
+            (subst (λ (ps : List ℕ). AreMarked rows (classes_at rows ps) old.is_told) (sym told) placed.is_told_is);
+        is_left_is = subst (λ (bs : List Bool). AreMarked rows more bs) (sym is_left) (marked_more rows left old.is_left p r ordered at placed.is_left_is);
+      };
+      toured = toured_is rows more old new t.stack told (ap (λ (ss : List Spot). marks_at rows ss) stack);
+    })
 
 -- what goes well
 pub on_ok : {A E : Type 0} (P Q : Type 0) (r : Result A E) → (P → Q) → OnOk r P → OnOk r Q
@@ -294,34 +343,42 @@ none_left (Some x) h = absurd (h x refl)
 
 -- ---- a whole tour
 
+-- what a tour from a class comes to
+abbrev goal : List Rowed → Rowed → List Kin
+goal rows start = once (told_at orders.Superinterfaces (stops orders.Superinterfaces (alone (kin_under (kins rows) start)) false))
+
 -- what holds between two steps
 pub record IsTouring (rows : List Rowed) (start : Rowed) (t : Placed) : Type 0 where
-  pub placed : IsPlaced rows t
-  pub stage : IsStage orders.Lineage rows (once (told_at orders.Lineage (stops orders.Lineage (alone (kin_under (kins rows) start)) true))) (toured_at rows t)
+  pub left : List Class
+  pub placed : IsPlaced rows left t
+  pub stage : IsStage orders.Superinterfaces rows (goal rows start) (toured_at rows left t)
 
 -- none was told
-pub touring : (rows : List Rowed) (p : ℕ) (r : Rowed) (t new : Placed) (told : List Bool) → SupersBefore [] rows → slice_get rows p ≡ Some r → t.told ≡ [] → t.is_told ≡ told → ((place : ℕ) → place < length rows → slice_get told place ≡ Some false) → t.stack ≡ []
-    → IsPushed t p (tasks.Come true) new → IsTouring rows r new
-touring rows p r t new told ordered at none bits each empty put =
-    let placed : IsPlaced rows t = record {
+pub touring : (rows : List Rowed) (p : ℕ) (r : Rowed) (t new : Placed) (told left : List Bool) → SupersBefore [] rows → slice_get rows p ≡ Some r → t.told ≡ [] → t.is_told ≡ told → t.is_left ≡ left
+    → ((place : ℕ) → place < length rows → slice_get told place ≡ Some false) → ((place : ℕ) → place < length rows → slice_get left place ≡ Some false) → t.stack ≡ []
+    → IsPushed t p (tasks.Come false) new → IsTouring rows r new
+touring rows p r t new told left ordered at none bits marks each all empty put =
+    let placed : IsPlaced rows [] t = record {
       told_in = subst (λ (ps : List ℕ). AllByRecursion (HasRow rows) ps) (sym none) tt;
       stack_in = subst (λ (ss : List Spot). AllByRecursion (λ (s : Spot). HasRow rows s.place) ss) (sym empty) tt;
       is_told_is =
           subst (λ (bs : List Bool). AreMarked rows (classes_at rows t.told) bs) (sym bits)
           (subst (λ (ps : List ℕ). AreMarked rows (classes_at rows ps) told) (sym none) (λ q s e. each q (slice_get_within rows q s e)));
+      is_left_is = subst (λ (bs : List Bool). AreMarked rows [] bs) (sym marks) (λ q s e. all q (slice_get_within rows q s e));
     } in
-    let first = pushes rows t new p (tasks.Come true) r at placed put in
+    let first = pushes rows [] t new p (tasks.Come false) r at placed put in
     let nothing : new.told ≡ [] = first.told ∙ none in
     record {
+      left = [];
       placed = first.placed;
       stage =
-          first_stage rows orders.Lineage r true (rows_at rows new.told) (classes_at rows new.told) (classes_at rows new.told) (marks_at rows new.stack) (row_in rows p r ordered at)
-          (ap (λ (ps : List ℕ). rows_at rows ps) nothing) (ap (λ (ps : List ℕ). classes_at rows ps) nothing) (ap (λ (ps : List ℕ). classes_at rows ps) nothing)
-          (first.marks ∙ ap (λ (ss : List Spot). marks_at rows ss ++ record { row = r; task = tasks.Come true } ∷ []) empty);
+          first_stage rows orders.Superinterfaces r false (rows_at rows new.told) (classes_at rows new.told) [] (marks_at rows new.stack) (row_in rows p r ordered at)
+          (ap (λ (ps : List ℕ). rows_at rows ps) nothing) (ap (λ (ps : List ℕ). classes_at rows ps) nothing) refl
+          (first.marks ∙ ap (λ (ss : List Spot). marks_at rows ss ++ record { row = r; task = tasks.Come false } ∷ []) empty);
     }
 
 module _ (rows : List Rowed) (table : List Supers) (start : Rowed) (t rest new : Placed) (next : Spot) (ordered : SupersBefore [] rows) (are : AreAllSupers rows rows table) (told : rest.told ≡ t.told) (is_told : rest.is_told ≡ t.is_told)
-    (popped : t.stack ≡ rest.stack ++ next ∷ []) (steps : Steps table rest next.place next.task new) (h : IsTouring rows start t) where
+    (is_left : rest.is_left ≡ t.is_left) (popped : t.stack ≡ rest.stack ++ next ∷ []) (steps : Steps table rest next.place next.task new) (h : IsTouring rows start t) where
   spots : AllByRecursion (λ (s : Spot). HasRow rows s.place) rest.stack × HasRow rows next.place
   spots =
       all_pop (λ (s : Spot). HasRow rows s.place) rest.stack next
@@ -330,46 +387,50 @@ module _ (rows : List Rowed) (table : List Supers) (start : Rowed) (t rest new :
   abbrev row : Rowed
   row = spots.1.0
 
-  rest_placed : IsPlaced rows rest
+  rest_placed : IsPlaced rows h.left rest
   rest_placed = record {
     told_in = subst (λ (ps : List ℕ). AllByRecursion (HasRow rows) ps) (sym told) h.placed.told_in;
     stack_in = spots.0;
     is_told_is =
         subst (λ (bs : List Bool). AreMarked rows (classes_at rows rest.told) bs) (sym is_told)
         (subst (λ (ps : List ℕ). AreMarked rows (classes_at rows ps) t.is_told) (sym told) h.placed.is_told_is);
+    is_left_is = subst (λ (bs : List Bool). AreMarked rows h.left bs) (sym is_left) h.placed.is_left_is;
   }
 
   marks : marks_at rows t.stack ≡ marks_at rows rest.stack ++ record { row = row; task = next.task } ∷ []
   marks = ap (λ (ss : List Spot). marks_at rows ss) popped ∙ marks_push rows rest.stack next row spots.1.1
 
-  went : StepsTo rows rest row next.task new
-  went = steps rows row ordered are spots.1.1 rest_placed
+  abbrev gone : Toured
+  gone = step orders.Superinterfaces rows (toured_at rows h.left rest) row next.task
 
-  before : IsStage orders.Lineage rows (once (told_at orders.Lineage (stops orders.Lineage (alone (kin_under (kins rows) start)) true)))
-      (record { told = rows_at rows rest.told; seen = classes_at rows rest.told; left = classes_at rows rest.told; stack = marks_at rows t.stack })
+  went : IsTour rows gone new
+  went = steps rows h.left row ordered are spots.1.1 rest_placed
+
+  before : IsStage orders.Superinterfaces rows (goal rows start) (record { told = rows_at rows rest.told; seen = classes_at rows rest.told; left = h.left; stack = marks_at rows t.stack })
   before =
-      subst (λ (ps : List ℕ). IsStage orders.Lineage rows (once (told_at orders.Lineage (stops orders.Lineage (alone (kin_under (kins rows) start)) true)))
-      (record { told = rows_at rows ps; seen = classes_at rows ps; left = classes_at rows ps; stack = marks_at rows t.stack })) (sym told) h.stage
+      subst (λ (ps : List ℕ). IsStage orders.Superinterfaces rows (goal rows start) (record { told = rows_at rows ps; seen = classes_at rows ps; left = h.left; stack = marks_at rows t.stack })) (sym told) h.stage
 
   pub toured_on : IsTouring rows start new
   toured_on = record {
+    left = gone.left;
     placed = went.placed;
-    stage = preserved_by rows ordered orders.Lineage (once (told_at orders.Lineage (stops orders.Lineage (alone (kin_under (kins rows) start)) true))) (rows_at rows rest.told) (classes_at rows rest.told) (classes_at rows rest.told) (marks_at rows t.stack) (marks_at rows rest.stack) (record { row = row; task = next.task }) marks
-        (toured_at rows new) before went.steps;
+    stage =
+        preserved_by rows ordered orders.Superinterfaces (goal rows start) (rows_at rows rest.told) (classes_at rows rest.told) h.left (marks_at rows t.stack) (marks_at rows rest.stack) (record { row = row; task = next.task }) marks
+        (toured_at rows gone.left new) before went.toured;
   }
 
   pub toured_less : steps_left (kins rows) (marks_at rows new.stack) < steps_left (kins rows) (marks_at rows t.stack)
   toured_less =
-      smaller_by rows ordered orders.Lineage (once (told_at orders.Lineage (stops orders.Lineage (alone (kin_under (kins rows) start)) true))) (rows_at rows rest.told) (classes_at rows rest.told) (classes_at rows rest.told) (marks_at rows t.stack) (marks_at rows rest.stack) (record { row = row; task = next.task }) marks
-      (toured_at rows new) before went.steps
+      smaller_by rows ordered orders.Superinterfaces (goal rows start) (rows_at rows rest.told) (classes_at rows rest.told) h.left (marks_at rows t.stack) (marks_at rows rest.stack) (record { row = row; task = next.task }) marks
+      (toured_at rows gone.left new) before went.toured
 
--- nothing is left to do: what was told is the lineage
-pub toured_all : (rows : List Rowed) (start : Rowed) (t : Placed) → t.stack ≡ [] → IsTouring rows start t → AreLineageAt rows start t.told
+-- nothing is left to do: what was told are the superinterfaces
+pub toured_all : (rows : List Rowed) (start : Rowed) (t : Placed) → t.stack ≡ [] → IsTouring rows start t → AreSuperinterfacesAt rows start t.told
 toured_all rows start t empty h = record {
   within = h.placed.told_in;
   order =
-      ended_by rows orders.Lineage (once (told_at orders.Lineage (stops orders.Lineage (alone (kin_under (kins rows) start)) true))) (rows_at rows t.told) (classes_at rows t.told) (classes_at rows t.told) (marks_at rows t.stack) (ap (λ (ss : List Spot). marks_at rows ss) empty) h.stage
-      ∙ ap (λ (ks : List Kin). once ks) (lineage_told (alone (kin_under (kins rows) start)) true);
+      ended_by rows orders.Superinterfaces (goal rows start) (rows_at rows t.told) (classes_at rows t.told) h.left (marks_at rows t.stack) (ap (λ (ss : List Spot). marks_at rows ss) empty) h.stage
+      ∙ superinterfaces_told (kin_under (kins rows) start);
 }
 
 -- of each place none was told

@@ -7,13 +7,14 @@ use Rattle.std.proofs.lemmas.Option.{slice_get_within, same_Some}
 use Rattle.cl_model.specs.Content.{Content}
 use Rattle.cl_model.specs.Lineages.{Kin, superclasses}
 use Rattle.cl_config.specs.Views.{Configured}
-use Rattle.cl_hierarchy.specs.Above.{IsUnmixed}
+use Rattle.cl_hierarchy.specs.Above.{AreOvers, IsUnmixed}
 use Rattle.cl_hierarchy.specs.Fronts.{Climb, IsFront, IsOnStem}
-use Rattle.cl_hierarchy.specs.Ladders.{AreOthers, HasRung, IsEarlier, IsLadder, IsMadeOf, IsOnLadder, IsRungAt, Laddered}
+use Rattle.cl_hierarchy.specs.Ladders.{AreOthers, HasRung, IsCut, IsEarlier, IsLadder, IsMadeOf, IsOnLadder, IsRungAt, Laddered}
 use Rattle.cl_hierarchy.specs.Lineages.{IsLined, IsRowIn, Lined, kin_at, kin_of, others_of, rows_in}
-use Rattle.cl_hierarchy.specs.Parts.{IsCut}
 use Rattle.cl_hierarchy.specs.Places.{IsPlace}
 use Rattle.cl_hierarchy.specs.Rows.{Rowed}
+use Rattle.cl_hierarchy.specs.declared.over.Overs.{Overs}
+use Rattle.cl_hierarchy.specs.declared.over.Overs.TheVariants as overs
 use Rattle.cl_hierarchy.specs.Trees.{SupersBefore, kin_under, kins}
 use Rattle.cl_hierarchy.specs.declared.rung.Mark.{Mark}
 use Rattle.cl_hierarchy.specs.declared.rung.Rung.{Rung}
@@ -100,6 +101,11 @@ place_of [] p r e = absurd cc
 place_of (y ∷ rows) zero r e = record { later = rows; split = ap (λ (z : Rowed). z ∷ rows) (same_Some y r e) }
 place_of (y ∷ rows) (suc p) r e = let more = place_of rows p r e in record { later = more.later; split = ap (λ (rs : List Rowed). y ∷ rs) more.split }
 
+-- any loaders are several
+pub several : (rows : List Rowed) → AreOvers overs.Several rows
+several [] = tt
+several (r ∷ rows) = (tt, several rows)
+
 -- ---- a lineage on its ladder
 
 module _ (told : Option Content) (x : Laddered) (place : ℕ) (own : Rowed) (unmixed : ℕ) (h : IsOnLadder told x place own unmixed) where
@@ -140,6 +146,15 @@ module _ (told : Option Content) (x : Laddered) (place : ℕ) (own : Rowed) (unm
   unmixed_some many le is =
       subst (λ (rs : List Rowed). IsUnmixed rs)
       (ap (λ (rs : List Rowed). take many rs) (sym rows_are) ∙ fewer x.rows many (suc place) (let k : many ≤ suc place = omega (arith, le) in k)) is
+
+  -- what is known of the rows before a place of the ladder is so of those of the lineage
+  pub overs_so : (p : ℕ) (o : Overs) → p ≤ place → AreOvers o (take p x.rows) → AreOvers o (take p (rows_in lineage))
+  overs_so p o le are =
+      subst (λ (rs : List Rowed). AreOvers o rs)
+      (sym (ap (λ (rs : List Rowed). take p rs) (sym rows_are) ∙ fewer x.rows p (suc place) (let k : p ≤ suc place = omega (arith, le) in k))) are
+
+  pub above_is : take place (rows_in lineage) ≡ lineage.above
+  above_is = ap (λ (rs : List Rowed). take place rs) (sym rows_are) ∙ fewer x.rows place (suc place) (let k : place ≤ suc place = omega arith in k)
 
   pub stem_within : (p : ℕ) → IsOnStem lineage p → p ≤ place
   stem_within p on =

@@ -128,11 +128,11 @@ absent_kin (k ∷ ks) c h = at (absent_kin ks c) (same_class c k.class) h
     at further true i = absurd cc
     at further false i = further i
 
-record IsNamed (ks : List Kin) (c : Class) (k : Kin) : Type 0 where
-  same : k.class ≡ c
-  among : is_among (classes ks) c ≡ true
+pub record IsNamed (ks : List Kin) (c : Class) (k : Kin) : Type 0 where
+  pub same : k.class ≡ c
+  pub among : is_among (classes ks) c ≡ true
 
-kin_is : (ks : List Kin) (c : Class) (k : Kin) → kin_named ks c ≡ Some k → IsNamed ks c k
+pub kin_is : (ks : List Kin) (c : Class) (k : Kin) → kin_named ks c ≡ Some k → IsNamed ks c k
 kin_is [] c k h = absurd cc
 kin_is (x ∷ ks) c k h = at (kin_is ks c k) (same_class c x.class) refl h
   where
@@ -155,10 +155,10 @@ all_known ks (c ∷ cs) h = (kin_there ks c (h c (among_first cs c)), all_known 
 
 -- ---- kins among others
 
-abbrev Part : List Kin → List Kin → Type 0
+abbrev pub Part : List Kin → List Kin → Type 0
 Part ks known = (c : Class) (k : Kin) → kin_named ks c ≡ Some k → kin_named known c ≡ Some k
 
-part_more : (ks known : List Kin) (k : Kin) → Part ks known → kin_named known k.class ≡ Some k → Part (k ∷ ks) known
+pub part_more : (ks known : List Kin) (k : Kin) → Part ks known → kin_named known k.class ≡ Some k → Part (k ∷ ks) known
 part_more ks known k part e = λ c x h. at c x (same_class c k.class) refl h
   where
     at : (c : Class) (x : Kin) (b : Bool) → same_class c k.class ≡ b → (if b then Some k else kin_named ks c) ≡ Some x → kin_named known c ≡ Some x
@@ -174,7 +174,7 @@ part_forest ks known (c ∷ cs) part all = at (part_forest ks known cs part all.
     at more (Some k) e s =
         ap (λ (o : Option Kin). in_front o (forest ks cs)) (e ∙ sym (part c k e)) ∙ ap (λ (f : Forest). in_front (kin_named known c) f) more
 
-part_kin : (ks known : List Kin) (r : Rowed) → Part ks known → AllKnown ks (superclass_in r) → AllKnown ks (interfaces_in r) → kin_under ks r ≡ kin_under known r
+pub part_kin : (ks known : List Kin) (r : Rowed) → Part ks known → AllKnown ks (superclass_in r) → AllKnown ks (interfaces_in r) → kin_under ks r ≡ kin_under known r
 part_kin ks known r part up over =
     let made_of : Forest → Forest → Kin = λ sup ints. record { class = r.class; file = (kin_under ks r).file; superclass = sup; interfaces = ints } in
     ap (λ (f : Forest). made_of f (forest ks (interfaces_in r))) (part_forest ks known (superclass_in r) part up)
@@ -186,7 +186,7 @@ record Stands (known ks : List Kin) (told : List Rowed) : Type 0 where
   before : SupersBefore ks told
   tree : reverse (kins_after ks told) ≡ reverse ks ++ map (kin_under known) told
 
-reverse_first : (k : Kin) (ks : List Kin) → reverse (k ∷ ks) ≡ reverse ks ++ k ∷ []
+pub reverse_first : (k : Kin) (ks : List Kin) → reverse (k ∷ ks) ≡ reverse ks ++ k ∷ []
 reverse_first k ks = reverse_onto ks k []
 
 stand : (rows : List Rowed) → SupersBefore [] rows → (ks : List Kin) (told : List Rowed) → Part ks (kins rows) → AllByRecursion (IsRowIn rows) told → Fresh (classes ks) (map (kin_under (kins rows)) told) → Stands (kins rows) ks told
@@ -277,7 +277,7 @@ once_last seen (x ∷ ks) k s e =
     at same more true = same
     at same more false = ap (λ (ys : List Kin). x ∷ ys) more
 
-same_last : (xs ys : List Kin) (x y : Kin) → xs ++ x ∷ [] ≡ ys ++ y ∷ [] → x ≡ y
+pub same_last : (xs ys : List Kin) (x y : Kin) → xs ++ x ∷ [] ≡ ys ++ y ∷ [] → x ≡ y
 same_last xs ys x y e = same_Some x y (sym (last_of xs x) ∙ ap (λ (zs : List Kin). slice_get zs (length zs - 1)) e ∙ last_of ys y)
 
 -- ---- rows within the configuration, and lineages where a content is told

@@ -1,27 +1,27 @@
 -- The way up through the rows of a lineage.
 use Rattle.std.proofs.Common.{◌≡◌, ◌∙◌, ◌<◌, ◌≤◌, ◌+◌, ℕ, zero, suc, Bool, true, false, if◌then◌else◌, inl, inr, arith, List, [], ◌∷◌, ◌++◌, Option, Some, None, append_assoc, length, length-append, map, take, refl, sym, ap, subst}
-use Rattle.std.specs.Prelude.{option_to_list, slice_get}
+use Rattle.std.specs.Prelude.{IfSome, option_to_list, slice_get}
+use Rattle.std.specs.Option.{option_map}
 use Rattle.std.proofs.lemmas.Bool.{or_cases}
 use Rattle.std.proofs.lemmas.List.{length-map, map_push}
 use Rattle.cl_classfile.specs.Files.{Name, file_of}
 use Rattle.cl_model.specs.declared.class.Class.{Class}
 use Rattle.cl_model.specs.Content.{Content}
-use Rattle.cl_model.specs.Classes.{class, Above, AsSuperclass, AsSuperinterface, is_among, same_class}
+use Rattle.cl_model.specs.Classes.{class, Above, AsSuperclass, is_among, same_class}
 use Rattle.cl_model.specs.Lineages.{Bare, Kin, first, superclasses, upward}
 use Rattle.cl_model.proofs.Ancestors.{same_self}
 use Rattle.cl_model.proofs.Complete.{is_class}
 use Rattle.cl_config.specs.Views.{Configured}
 use Rattle.cl_hierarchy.specs.Frames.{accepted_of}
-use Rattle.cl_hierarchy.specs.Ladders.{IsLinedAt, IsNextUp, IsWay, LeadUp, begins}
+use Rattle.cl_hierarchy.specs.Ladders.{IsLinedAt, IsNearest, IsWay, LeadUp, begins}
 use Rattle.cl_hierarchy.specs.Lineages.{IsLined, above_in}
 use Rattle.cl_hierarchy.specs.Places.{IsPlace}
 use Rattle.cl_hierarchy.specs.Rows.{Rowed}
 use Rattle.cl_hierarchy.specs.Trees.{SupersBefore, forest, in_front, kin_named, kin_under, kins, superclass_in}
-use Rattle.cl_hierarchy.specs.Ways.{IsNext, IsUpper}
-use Rattle.cl_hierarchy.specs.declared.rung.Way.{Way}
+use Rattle.cl_hierarchy.specs.Ways.{IsNext}
 use Rattle.cl_hierarchy.proofs.Ancestry.{row_kin}
 use Rattle.cl_hierarchy.proofs.Climbs.{placed_kin, placed_row, upward_none}
-use Rattle.cl_hierarchy.proofs.Cuts.{cut_interface, cut_superclass}
+use Rattle.cl_hierarchy.proofs.Cuts.{cut_superclass}
 use Rattle.cl_hierarchy.proofs.RowTables.{before_push}
 use Rattle.std.proofs.lemmas.Option.{same_Some}
 
@@ -106,16 +106,16 @@ among_self cs c e = ap (λ (xs : List Class). is_among xs c) e ∙ rw (same_self
 
 -- ---- lists of ways
 
-pub begins_push : (ws : List Way) (w : Way) (next : Option ℕ) → begins (ws ++ w ∷ []) next ≡ begins ws (Some w.place)
+pub begins_push : (ws : List ℕ) (w : ℕ) (next : Option ℕ) → begins (ws ++ w ∷ []) next ≡ begins ws (Some w)
 begins_push [] w next = refl
 begins_push (v ∷ ws) w next = refl
 
 module _ (told : Option Content) (config : Configured) (rows : List Rowed) where
-  pub lead_push : (ws : List Way) (w : Way) (next : Option ℕ) → LeadUp told config rows ws (Some w.place) → IsWay told config rows w next → LeadUp told config rows (ws ++ w ∷ []) next
+  pub lead_push : (ws : List ℕ) (w : ℕ) (next : Option ℕ) → LeadUp told config rows ws (Some w) → IsWay told config rows w next → LeadUp told config rows (ws ++ w ∷ []) next
   lead_push [] w next h is = (is, tt)
   lead_push (v ∷ ws) w next h is = (subst (λ (o : Option ℕ). IsWay told config rows v o) (sym (begins_push ws w next)) h.0, lead_push ws w next h.1 is)
 
-  pub lead_pop : (ws : List Way) (w : Way) (next : Option ℕ) → LeadUp told config rows (ws ++ w ∷ []) next → LeadUp told config rows ws (Some w.place) × IsWay told config rows w next
+  pub lead_pop : (ws : List ℕ) (w : ℕ) (next : Option ℕ) → LeadUp told config rows (ws ++ w ∷ []) next → LeadUp told config rows ws (Some w) × IsWay told config rows w next
   lead_pop [] w next h = (tt, h.0)
   lead_pop (v ∷ ws) w next h =
       let more = lead_pop ws w next h.1 in
@@ -124,7 +124,7 @@ module _ (told : Option Content) (config : Configured) (rows : List Rowed) where
 -- ---- one step up
 
 -- how far the way up came
-pub record Comes (told : Option Content) (config : Configured) (rows : List Rowed) (top : ℕ) (ways : List Way) (rest : List Rowed) (last : Rowed) : Type 0 where
+pub record Comes (told : Option Content) (config : Configured) (rows : List Rowed) (top : ℕ) (ways : List ℕ) (rest : List Rowed) (last : Rowed) : Type 0 where
   pub ordered : SupersBefore [] rows
   pub place : IsPlace rows rest last
   pub lined : IsLined told (record { config = config; above = rest; own = last })
@@ -140,7 +140,7 @@ comes_first told config above own h = record {
   begins_at = refl;
 }
 
-module _ (told : Option Content) (config : Configured) (rows : List Rowed) (top : ℕ) (ways : List Way) (rest : List Rowed) (last : Rowed) (h : Comes told config rows top ways rest last) where
+module _ (told : Option Content) (config : Configured) (rows : List Rowed) (top : ℕ) (ways : List ℕ) (rest : List Rowed) (last : Rowed) (h : Comes told config rows top ways rest last) where
   here : IsLinedAt told config rows (length rest) last
   here = record {
     at = ap (λ (rs : List Rowed). slice_get rs (length rest)) h.place.split ∙ at_length rest h.place.later last;
@@ -156,7 +156,7 @@ module _ (told : Option Content) (config : Configured) (rows : List Rowed) (top 
       let at : slice_get (rest ++ last ∷ h.place.later) before ≡ Some s = sym (ap (λ (rs : List Rowed). slice_get rs before) h.place.split) ∙ e in
       nearest (take before rest) s (last_at rest (last ∷ h.place.later) before s n at) up ∙ ap (λ (m : ℕ). Some m) (take_many rest before (omega (arith, n)))
 
-  module _ (is_over : Bool) (earlier : List Rowed) (row : Rowed) (next : IsNext rest last is_over earlier row) where
+  module _ (earlier : List Rowed) (row : Rowed) (next : IsNext rest last earlier row) where
     inner : IsPlace rows earlier row
     inner = record {
       later = next.place.later ++ last ∷ h.place.later;
@@ -169,23 +169,17 @@ module _ (told : Option Content) (config : Configured) (rows : List Rowed) (top 
     named : kin_named (kins rows) row.class ≡ Some (kin_under (kins rows) row)
     named = (row_kin [] rows row.class row h.ordered (placed_row rows earlier row h.ordered inner)).kin
 
-    next_up : (b : Bool) → IsUpper b last row → IsNextUp rows b (above_in rows last) (Some (length earlier))
-    next_up false up = (
+    next_up : IsNearest rows None (above_in rows last) (Some (length earlier))
+    next_up = (
       row,
       at_next,
-      ap (λ (cs : List Class). upward (forest (kins rows) cs)) up ∙ ap (λ (o : Option Kin). upward (in_front o Bare)) named,
+      ap (λ (cs : List Class). upward (forest (kins rows) cs)) next.is_upper ∙ ap (λ (o : Option Kin). upward (in_front o Bare)) named,
     )
-    next_up true over = (row, at_next, ap (λ (cs : List Class). upward (forest (kins rows) cs)) (sym over.share))
 
-    next_lined : (b : Bool) → IsUpper b last row → IsLined told (record { config = config; above = earlier; own = row })
-    next_lined false up = cut_superclass told config earlier next.place.later row last within up
-      where
-        within : IsLined told (record { config = config; above = earlier ++ row ∷ next.place.later; own = last })
-        within = subst (λ (rs : List Rowed). IsLined told (record { config = config; above = rs; own = last })) next.place.split h.lined
-    next_lined true over = cut_interface told config earlier next.place.later row last over.others within over.first over.share
-      where
-        within : IsLined told (record { config = config; above = earlier ++ row ∷ next.place.later; own = last })
-        within = subst (λ (rs : List Rowed). IsLined told (record { config = config; above = rs; own = last })) next.place.split h.lined
+    next_lined : IsLined told (record { config = config; above = earlier; own = row })
+    next_lined =
+        cut_superclass told config earlier next.place.later row last
+        (subst (λ (rs : List Rowed). IsLined told (record { config = config; above = rs; own = last })) next.place.split h.lined) next.is_upper
 
     shorter : length earlier < length rest
     shorter =
@@ -193,34 +187,32 @@ module _ (told : Option Content) (config : Configured) (rows : List Rowed) (top 
         let m = ap (λ (rs : List Rowed). length rs) next.place.split in
         omega (arith, n, m)
 
-    pub comes_on : (w : Way) → w.place ≡ length rest → w.is_over ≡ is_over
+    pub comes_on : (w : ℕ) → w ≡ length rest
         → ((e : List Rowed) (r : Rowed) → rest ≡ e ++ r ∷ [] → superclass_in last ≡ r.class ∷ [] → Some (length earlier) ≡ Some (length e))
         → Comes told config rows top (ways ++ w ∷ []) earlier row
-    comes_on w is kind nearest = record {
+    comes_on w is nearest = record {
       ordered = h.ordered;
       place = inner;
-      lined = next_lined is_over next.is_upper;
+      lined = next_lined;
       ups =
           lead_push told config rows ways w (Some (length earlier)) (subst (λ (m : ℕ). LeadUp told config rows ways (Some m)) (sym is) h.ups) (record {
             row = last;
             here = subst (λ (m : ℕ). IsLinedAt told config rows m last) (sym is) here;
-            up = subst (λ (b : Bool). IsNextUp rows b (above_in rows last) (Some (length earlier))) (sym kind) (next_up is_over next.is_upper);
+            up = next_up;
             before = let s = shorter in omega (arith, s, is);
             nearest = λ before s n e up. right_before (Some (length earlier)) nearest before s (n ∙ is) e up;
           });
       begins_at = begins_push ways w (Some (length earlier)) ∙ ap (λ (m : ℕ). begins ways (Some m)) is ∙ h.begins_at;
     }
 
-  pub comes_end : (w : Way) → w.place ≡ length rest → w.is_over ≡ false → None ≡ first (upward (forest (kins rest) (superclass_in last)))
+  pub comes_end : (w : ℕ) → w ≡ length rest → None ≡ first (upward (forest (kins rest) (superclass_in last)))
       → ((e : List Rowed) (r : Rowed) → rest ≡ e ++ r ∷ [] → superclass_in last ≡ r.class ∷ [] → None ≡ Some (length e))
       → LeadUp told config rows (ways ++ w ∷ []) None × (begins (ways ++ w ∷ []) None ≡ Some top)
-  comes_end w is kind none nearest = (
+  comes_end w is none nearest = (
     lead_push told config rows ways w None (subst (λ (m : ℕ). LeadUp told config rows ways (Some m)) (sym is) h.ups) (record {
       row = last;
       here = subst (λ (m : ℕ). IsLinedAt told config rows m last) (sym is) here;
-      up =
-          subst (λ (b : Bool). IsNextUp rows b (above_in rows last) None) (sym kind)
-          (ap (λ (k : Kin). superclasses k) (placed_kin rows rest last h.ordered h.place) ∙ upward_none (forest (kins rest) (superclass_in last)) none);
+      up = ap (λ (k : Kin). superclasses k) (placed_kin rows rest last h.ordered h.place) ∙ upward_none (forest (kins rest) (superclass_in last)) none;
       before = tt;
       nearest = λ before s n e up. right_before None nearest before s (n ∙ is) e up;
     }),
@@ -229,16 +221,8 @@ module _ (told : Option Content) (config : Configured) (rows : List Rowed) (top 
 
 -- ---- the same of what lies behind them in memory
 
-pub first_named : (ns : List Name) (places : List ℕ) (name : Name) (l : ℕ) (c : Class) → Some name ≡ slice_get ns 0 → Some l ≡ slice_get places 0 → same_class (class name l) c ≡ true
-    → (others : List Class) × (accepted_of (map (λ n. let a : Above = record { name = n; role = AsSuperinterface } in a) ns) places ≡ c ∷ others)
-first_named [] places name l c e f s = absurd cc
-first_named (n ∷ ns) [] name l c e f s = absurd cc
-first_named (n ∷ ns) (p ∷ places) name l c e f s =
-    let same : class n p ≡ c = ap (λ (x : Name). class x p) (same_Some n name (sym e)) ∙ ap (λ (x : ℕ). class name x) (same_Some p l (sym f)) ∙ is_class (class name l) c s in
-    (accepted_of (map (λ n. record { name = n; role = AsSuperinterface }) ns) places, ap (λ (x : Class). x ∷ accepted_of (map (λ n. record { name = n; role = AsSuperinterface }) ns) places) same)
-
 module _ {A : Type 0} (v : A → Rowed) (rows earlier : List A) (row : A) (under : Rowed) where
-  pub next_super : (x : Rowed) (b : Bool) → rows ≡ earlier ++ row ∷ [] → x ≡ v row → b ≡ is_among (superclass_in under) x.class → b ≡ true → IsNext (map v rows) under false (map v earlier) (v row)
+  pub next_super : (x : Rowed) (b : Bool) → rows ≡ earlier ++ row ∷ [] → x ≡ v row → b ≡ is_among (superclass_in under) x.class → b ≡ true → IsNext (map v rows) under (map v earlier) (v row)
   next_super x b split is tested meant = record {
     place = record { later = []; split = ap (λ (xs : List A). map v xs) split ∙ map_push v earlier row };
     is_upper =
@@ -246,7 +230,7 @@ module _ {A : Type 0} (v : A → Rowed) (rows earlier : List A) (row : A) (under
         (ap (λ (y : Rowed). is_among (superclass_in under) y.class) (sym is) ∙ sym tested ∙ meant);
   }
 
-  pub next_found : Some (kin_under (kins (map v earlier)) (v row)) ≡ first (upward (forest (kins (map v rows)) (superclass_in under))) → IsPlace (map v rows) (map v earlier) (v row) → IsNext (map v rows) under false (map v earlier) (v row)
+  pub next_found : Some (kin_under (kins (map v earlier)) (v row)) ≡ first (upward (forest (kins (map v rows)) (superclass_in under))) → IsPlace (map v rows) (map v earlier) (v row) → IsNext (map v rows) under (map v earlier) (v row)
   next_found e p = record { place = p; is_upper = up_class (kins (map v rows)) under (kin_under (kins (map v earlier)) (v row)) e }
 
   pub not_before : (x : Rowed) (b : Bool) → rows ≡ earlier ++ row ∷ [] → x ≡ v row → b ≡ is_among (superclass_in under) x.class → b ≡ false → (e : List Rowed) (r : Rowed) → map v rows ≡ e ++ r ∷ [] → superclass_in under ≡ r.class ∷ [] → ⊥
@@ -258,6 +242,11 @@ module _ {A : Type 0} (v : A → Rowed) (rows earlier : List A) (row : A) (under
       cc
       )
 
+-- what is found, if it is, is so
+pub found_next : {X : Type 0} (kin : X → Kin) (N P : X → Type 0) (above : Option Kin) (o : Option X) → option_map kin o ≡ above → ((x : X) → Some (kin x) ≡ above → P x → N x) → IfSome o P → IfSome o N
+found_next kin N P above None e f h = tt
+found_next kin N P above (Some x) e f h = f x e h
+
 pub none_before : {A : Type 0} (v : A → Rowed) (rows : List A) → length rows ≡ 0 → (e : List Rowed) (r : Rowed) → map v rows ≡ e ++ r ∷ [] → ⊥
 none_before {A} v rows n e r same = absurd (
     let m = length-append e (r ∷ []) in
@@ -267,31 +256,31 @@ none_before {A} v rows n e r same = absurd (
     )
 
 module _ {A : Type 0} (v : A → Rowed) (told : Option Content) (config : Configured) where
-  pub begun_in : (above : List A) (own : Rowed) (ways : List Way) → ways ≡ [] → IsLined told (record { config = config; above = map v above; own = own })
+  pub begun_in : (above : List A) (own : Rowed) (ways : List ℕ) → ways ≡ [] → IsLined told (record { config = config; above = map v above; own = own })
       → Comes told config (map v above ++ own ∷ []) (length above) ways (map v above) own
   begun_in above own ways none h =
-      subst (λ (ws : List Way). Comes told config (map v above ++ own ∷ []) (length above) ws (map v above) own) (sym none)
+      subst (λ (ws : List ℕ). Comes told config (map v above ++ own ∷ []) (length above) ws (map v above) own) (sym none)
       (subst (λ (n : ℕ). Comes told config (map v above ++ own ∷ []) n [] (map v above) own) (length-map above v) (comes_first told config (map v above) own h))
 
-  module _ (rows : List Rowed) (top : ℕ) (ways new : List Way) (rest : List A) where
-    pub goes_on_in : (earlier : List A) (row : A) (last under : Rowed) (is_over : Bool) → Comes told config rows top ways (map v rest) last → under ≡ last
-        → IsNext (map v rest) under is_over (map v earlier) (v row)
+  module _ (rows : List Rowed) (top : ℕ) (ways new : List ℕ) (rest : List A) where
+    pub goes_on_in : (earlier : List A) (row : A) (last under : Rowed) → Comes told config rows top ways (map v rest) last → under ≡ last
+        → IsNext (map v rest) under (map v earlier) (v row)
         → ((e : List Rowed) (r : Rowed) → map v rest ≡ e ++ r ∷ [] → superclass_in under ≡ r.class ∷ [] → Some (length earlier) ≡ Some (length e))
-        → (w : Way) → new ≡ ways ++ w ∷ [] → w.place ≡ length rest → w.is_over ≡ is_over
+        → (w : ℕ) → new ≡ ways ++ w ∷ [] → w ≡ length rest
         → Comes told config rows top new (map v earlier) (v row)
-    goes_on_in earlier row last under is_over h same next nearest w pushed place kind =
-        subst (λ (ws : List Way). Comes told config rows top ws (map v earlier) (v row)) (sym pushed)
-        (comes_on told config rows top ways (map v rest) last h is_over (map v earlier) (v row) (subst (λ (u : Rowed). IsNext (map v rest) u is_over (map v earlier) (v row)) same next) w
-        (place ∙ sym (length-map rest v)) kind
+    goes_on_in earlier row last under h same next nearest w pushed place =
+        subst (λ (ws : List ℕ). Comes told config rows top ws (map v earlier) (v row)) (sym pushed)
+        (comes_on told config rows top ways (map v rest) last h (map v earlier) (v row) (subst (λ (u : Rowed). IsNext (map v rest) u (map v earlier) (v row)) same next) w
+        (place ∙ sym (length-map rest v))
         (λ e r split up. ap (λ (n : ℕ). Some n) (length-map earlier v) ∙ nearest e r split (ap (λ (u : Rowed). superclass_in u) same ∙ up)))
 
     pub ends_in : (last under : Rowed) → Comes told config rows top ways (map v rest) last → under ≡ last
         → None ≡ first (upward (forest (kins (map v rest)) (superclass_in under)))
         → ((e : List Rowed) (r : Rowed) → map v rest ≡ e ++ r ∷ [] → superclass_in under ≡ r.class ∷ [] → (let o : Option ℕ = None in o) ≡ Some (length e))
-        → (w : Way) → new ≡ ways ++ w ∷ [] → w.place ≡ length rest → w.is_over ≡ false
+        → (w : ℕ) → new ≡ ways ++ w ∷ [] → w ≡ length rest
         → LeadUp told config rows new None × (begins new None ≡ Some top)
-    ends_in last under h same none nearest w pushed place kind =
-        subst (λ (ws : List Way). LeadUp told config rows ws None × (begins ws None ≡ Some top)) (sym pushed)
-        (comes_end told config rows top ways (map v rest) last h w (place ∙ sym (length-map rest v)) kind
+    ends_in last under h same none nearest w pushed place =
+        subst (λ (ws : List ℕ). LeadUp told config rows ws None × (begins ws None ≡ Some top)) (sym pushed)
+        (comes_end told config rows top ways (map v rest) last h w (place ∙ sym (length-map rest v))
         (none ∙ ap (λ (u : Rowed). first (upward (forest (kins (map v rest)) (superclass_in u)))) same)
         (λ e r split up. nearest e r split (ap (λ (u : Rowed). superclass_in u) same ∙ up)))

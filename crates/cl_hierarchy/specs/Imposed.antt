@@ -34,7 +34,7 @@ pub data Sprung : Type 0 where
 -- the same, without where it lies in memory
 abbrev pub sprung : {A : Type 0} → Origin A → Sprung
 sprung (origins.Reference d c index) = OfReference d c index
-sprung (origins.Preparation lineage) = OfPreparation lineage
+sprung (origins.Preparation class) = OfPreparation class
 
 -- a list of equalities with what it was made from
 pub record Listed : Type 0 where

@@ -1,17 +1,17 @@
 -- What is kept of the places of a lineage's rows, so that the lineages at its front, and their
 -- superclasses of other loaders, are found without a look at each row (JVMS SE 8, 5.3.5, 5.4).
-use Rattle.std.specs.Prelude.{◌≡◌, ◌<◌, ◌≤◌, ◌+◌, ◌∷◌, ◌++◌, ℕ, Bool, true, false, List, [], Option, None, Some, length, map, slice_get, take}
+use Rattle.std.specs.Prelude.{◌≡◌, ◌<◌, ◌≤◌, ◌+◌, ◌∷◌, ◌++◌, ℕ, List, [], Option, None, Some, length, map, slice_get, take}
 use Rattle.std.specs.List.{AllByRecursion}
 use Rattle.cl_model.specs.Content.{Content}
 use Rattle.cl_model.specs.Lineages.{Kin}
 use Rattle.cl_config.specs.Views.{Configured}
 use Rattle.cl_hierarchy.specs.Above.{AreOvers, IsUnmixed}
-use Rattle.cl_hierarchy.specs.Lineages.{IsLined, above_in, others_of}
+use Rattle.cl_hierarchy.specs.Fronts.{IsUpTo}
+use Rattle.cl_hierarchy.specs.Lineages.{IsLined, Lined, above_in, others_of}
 use Rattle.cl_hierarchy.specs.Rows.{Rowed}
 use Rattle.cl_hierarchy.specs.Trees.{SupersBefore, kin_under, kins, superclass_in}
 use Rattle.cl_hierarchy.specs.declared.rung.Mark.{Mark}
 use Rattle.cl_hierarchy.specs.declared.rung.Rung.{Rung}
-use Rattle.cl_hierarchy.specs.declared.rung.Way.{Way}
 
 -- under which configuration, the rows of a lineage, the own one last, and what is kept of each
 -- place
@@ -83,39 +83,35 @@ pub record IsOnLadder (told : Option Content) (x : Laddered) (place : ℕ) (own 
   pub rung : HasRung x.marks (place + 1) (Some place)
   pub unmixed_are : IsUnmixed (take unmixed x.rows)
 
--- ---- for the steps of a call
+-- all rows up to a place of a ladder (5.3.5)
+abbrev pub IsCut : Laddered → ℕ → Lined → Type 0
+IsCut x place l = IsUpTo x.config x.rows place l
 
--- the class at a place and the next on the way up: its superclass, or a superinterface that has the
--- same superclass; where there is none, it has no superclass (4.1, 5.3.5)
-abbrev pub IsNextUp : List Rowed → Bool → List Kin → Option ℕ → Type 0
-IsNextUp rows false ks next = IsNearest rows None ks next
-IsNextUp rows true ks None = ⊥
-IsNextUp rows true ks (Some place) =
-    (r : Rowed) × (slice_get rows place ≡ Some r) × (ks ≡ above_in rows r)
+-- ---- for the steps of a call
 
 -- this place is before that, if it is one
 abbrev pub IsBefore : Option ℕ → ℕ → Type 0
 IsBefore None place = Unit {0}
 IsBefore (Some next) place = next < place
 
--- a way from a place to the next up (5.3.5)
-pub record IsWay (told : Option Content) (config : Configured) (rows : List Rowed) (w : Way)
+-- a way from a place to that of the superclass, if there is one (4.1, 5.3.5)
+pub record IsWay (told : Option Content) (config : Configured) (rows : List Rowed) (place : ℕ)
     (next : Option ℕ) : Type 0 where
   pub row : Rowed
-  pub here : IsLinedAt told config rows w.place row
-  pub up : IsNextUp rows w.is_over (above_in rows row) next
-  pub before : IsBefore next w.place
+  pub here : IsLinedAt told config rows place row
+  pub up : IsNearest rows None (above_in rows row) next
+  pub before : IsBefore next place
   pub nearest :
-      (before : ℕ) (s : Rowed) → before + 1 ≡ w.place → slice_get rows before ≡ Some s
+      (before : ℕ) (s : Rowed) → before + 1 ≡ place → slice_get rows before ≡ Some s
       → superclass_in row ≡ s.class ∷ [] → next ≡ Some before
 
 -- where the last of these ways ends, and the first of them begins
-abbrev pub begins : List Way → Option ℕ → Option ℕ
+abbrev pub begins : List ℕ → Option ℕ → Option ℕ
 begins [] next = next
-begins (w ∷ ws) next = Some w.place
+begins (w ∷ ws) next = Some w
 
 -- these ways lead up from place to place, the last to the next (5.3.5)
-abbrev pub LeadUp : Option Content → Configured → List Rowed → List Way → Option ℕ → Type 0
+abbrev pub LeadUp : Option Content → Configured → List Rowed → List ℕ → Option ℕ → Type 0
 LeadUp told config rows [] next = Unit {0}
 LeadUp told config rows (w ∷ ws) next =
     IsWay told config rows w (begins ws next) × LeadUp told config rows ws next

@@ -1,4 +1,5 @@
 pub mod Above
+pub mod ClassesAt
 pub mod DraftReads
 pub mod Drafts
 pub mod Frames
@@ -7,7 +8,6 @@ pub mod Imposed
 pub mod Kept
 pub mod Ladders
 pub mod Lineages
-pub mod Parts
 pub mod Paths
 pub mod PlaceTours
 pub mod Places

@@ -1,15 +1,15 @@
--- A tour in the order of a lineage by the places of its rows (JVMS SE 8, 5.3.5).
+-- Tours through superinterfaces by the places of their rows (JVMS SE 8, 5.4.3.3).
 use Rattle.std.specs.Prelude.{◌≡◌, ℕ, Bool, List, [], ◌∷◌, ◌++◌, Option, Some, filter_map, map, option_map, slice_get}
 use Rattle.std.specs.List.{AllByRecursion}
 use Rattle.cl_model.specs.declared.class.Class.{Class}
 use Rattle.cl_model.specs.Classes.{is_among}
-use Rattle.cl_model.specs.Lineages.{lineage}
+use Rattle.cl_model.specs.Lineages.{superinterfaces}
 use Rattle.cl_hierarchy.specs.declared.place_tour.Spot.{Spot}
 use Rattle.cl_hierarchy.specs.declared.tour.Order.TheVariants as orders
 use Rattle.cl_hierarchy.specs.declared.tour.Task.{Task}
 use Rattle.cl_hierarchy.specs.Rows.{Rowed}
 use Rattle.cl_hierarchy.specs.Supers.{AreAllSupers, HasRow}
-use Rattle.cl_hierarchy.specs.Tours.{Marked, Toured, step}
+use Rattle.cl_hierarchy.specs.Tours.{Marked, Toured, opened, step, telling}
 use Rattle.cl_hierarchy.specs.Trees.{SupersBefore, kin_under, kins}
 use Rattle.cl_hierarchy.specs.declared.supers.Supers.{Supers}
 
@@ -32,53 +32,75 @@ marks_at rows spots = filter_map (mark_at rows) spots
 
 -- it is told of each place whether its class is among these
 abbrev pub AreMarked : List Rowed → List Class → List Bool → Type 0
-AreMarked rows cs told =
+AreMarked rows cs marks =
     (place : ℕ) (r : Rowed) → slice_get rows place ≡ Some r
-    → slice_get told place ≡ Some (is_among cs r.class)
+    → slice_get marks place ≡ Some (is_among cs r.class)
 
--- the state of a tour: the places that were told, of each place whether it was, and what is left
--- to do
+-- the state of a tour: the places that were told, of each place whether it was told and whether it
+-- was left, and what is left to do
 pub record Placed : Type 0 where
   pub told : List ℕ
   pub is_told : List Bool
+  pub is_left : List Bool
   pub stack : List Spot
 
 -- more is left to do at a place
 pub record IsPushed (old : Placed) (place : ℕ) (task : Task) (new : Placed) : Type 0 where
   pub told : new.told ≡ old.told
   pub is_told : new.is_told ≡ old.is_told
+  pub is_left : new.is_left ≡ old.is_left
   pub stack : new.stack ≡ old.stack ++ record { place = place; task = task } ∷ []
 
--- the same by rows
-abbrev pub toured_at : List Rowed → Placed → Toured
-toured_at rows t =
+-- the same by rows, where these classes were left
+abbrev pub toured_at : List Rowed → List Class → Placed → Toured
+toured_at rows left t =
     record {
       told = rows_at rows t.told;
       seen = classes_at rows t.told;
-      left = classes_at rows t.told;
+      left = left;
       stack = marks_at rows t.stack;
     }
 
--- each place is of a row, and of each it is told whether its class was
-pub record IsPlaced (rows : List Rowed) (t : Placed) : Type 0 where
+-- each place is of a row, and of each it is told whether its class was told, and whether it was left
+pub record IsPlaced (rows : List Rowed) (left : List Class) (t : Placed) : Type 0 where
   pub told_in : AllByRecursion (HasRow rows) t.told
   pub stack_in : AllByRecursion (λ (s : Spot). HasRow rows s.place) t.stack
   pub is_told_is : AreMarked rows (classes_at rows t.told) t.is_told
+  pub is_left_is : AreMarked rows left t.is_left
 
--- a step for the row at a place is one of the tour by rows
-pub record StepsTo (rows : List Rowed) (old : Placed) (r : Rowed) (task : Task) (new : Placed)
-    : Type 0 where
-  pub placed : IsPlaced rows new
-  pub steps : toured_at rows new ≡ step orders.Lineage rows (toured_at rows old) r task
+-- the state of a tour by places is this one by rows
+pub record IsTour (rows : List Rowed) (t : Toured) (new : Placed) : Type 0 where
+  pub placed : IsPlaced rows t.left new
+  pub toured : toured_at rows t.left new ≡ t
 
--- the same, whatever the rows are whose direct supertypes stand there
+-- what is done for the row at a place is this of the tour by rows, whatever the rows are whose direct
+-- supertypes stand there
+abbrev pub Does : List Supers → Placed → ℕ → (List Rowed → Toured → Rowed → Toured) → Placed
+    → Type 0
+Does table old place does new =
+    (rows : List Rowed) (left : List Class) (r : Rowed) → SupersBefore [] rows
+    → AreAllSupers rows rows table → slice_get rows place ≡ Some r → IsPlaced rows left old
+    → IsTour rows (does rows (toured_at rows left old) r) new
+
+-- the class at a place is told, where that is wanted and it was not
+abbrev pub IsTold : List Supers → Placed → ℕ → Bool → Placed → Type 0
+IsTold table old place wanted new = Does table old place (λ rows t r. telling wanted t r) new
+
+-- what stands above the class at a place is to be come to, and then the class to be left
+abbrev pub IsOpened : List Supers → Placed → ℕ → Placed → Type 0
+IsOpened table old place new =
+    Does table old place
+    (λ rows t r. record t { stack = t.stack ++ opened orders.Superinterfaces rows r }) new
+
+-- one step
 abbrev pub Steps : List Supers → Placed → ℕ → Task → Placed → Type 0
 Steps table old place task new =
-    (rows : List Rowed) (r : Rowed) → SupersBefore [] rows → AreAllSupers rows rows table
-    → slice_get rows place ≡ Some r → IsPlaced rows old → StepsTo rows old r task new
+    Does table old place (λ rows t r. step orders.Superinterfaces rows t r task) new
 
--- the rows at these places are the lineage of the class of one (5.3.5)
-pub record AreLineageAt (rows : List Rowed) (start : Rowed) (places : List ℕ) : Type 0 where
+-- the rows at these places are those of the superinterfaces of the class of one (5.4.3.3)
+pub record AreSuperinterfacesAt (rows : List Rowed) (start : Rowed) (places : List ℕ)
+    : Type 0 where
   pub within : AllByRecursion (HasRow rows) places
   pub order :
-      map (kin_under (kins rows)) (rows_at rows places) ≡ lineage (kin_under (kins rows) start)
+      map (kin_under (kins rows)) (rows_at rows places)
+      ≡ superinterfaces (kin_under (kins rows) start)

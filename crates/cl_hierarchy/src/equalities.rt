@@ -5,6 +5,7 @@ ghost use Rattle.cl_model.specs.Preparation.{constraints_of};
 ghost use Rattle.cl_hierarchy.specs.Imposed.{AreEnough, AreOf, AreOfReference, OfPreparation, OfReference, equal_between, equal_need, needs_of, sprung};
 ghost use Rattle.cl_hierarchy.specs.Lineages.{kin_of};
 
+use crate::class_at::ClassAt;
 use crate::lineage::Lineage;
 use cl_model::{Equality, LoaderId, Told};
 use cl_names::Name;
@@ -35,7 +36,7 @@ pub enum Origin<T: Told> {
     },
     /// The preparation of a class (JVMS SE 8, 5.4.2).
     Preparation {
-        lineage: Lineage<T>,
+        class: ClassAt<T>,
     },
 }
 
@@ -47,7 +48,7 @@ impl<T: Told> Drop for Origin<T> {
                 c: _,
                 index: _,
             } => {}
-            Origin::Preparation { lineage: _ } => {}
+            Origin::Preparation { class: _ } => {}
         }
     }
 }
@@ -96,11 +97,11 @@ impl<T: Told> Equalities<T> {
     }
 
     /// Those of the preparation of a class, or some that stand for all of them.
-    pub fn of_preparation(lineage: Lineage<T>, needs: Vec<Equality>) -> Equalities<T>
-        requires { AreEnough (constraints_of (kin_of lineage)) (needs_of needs.items) }
-        ensures { result ≡ record { needs = needs.items; origin = OfPreparation lineage } }
+    pub fn of_preparation(class: ClassAt<T>, needs: Vec<Equality>) -> Equalities<T>
+        requires { AreEnough (constraints_of (kin_of class)) (needs_of needs.items) }
+        ensures { result ≡ record { needs = needs.items; origin = OfPreparation class } }
     {
-        let origin = Origin::Preparation { lineage };
+        let origin = Origin::Preparation { class };
         Equalities { needs, origin }
     }
 

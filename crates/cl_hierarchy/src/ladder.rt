@@ -3,7 +3,7 @@
 ghost use Rattle.std.specs.Prelude.{◌≡◌, ◌<◌, ◌≤◌, ◌+◌, ◌-◌, ℕ, [], None, Some, List, is_some, length, map, slice_get, take, true, IfOk, IfSome, OnOk};
 ghost use Rattle.std.specs.Option.{option_map};
 ghost use Rattle.cl_hierarchy.specs.Above.{AreOvers};
-ghost use Rattle.cl_hierarchy.specs.Ladders.{AreOthers, HasRung, IsFilled, IsLadder, IsMadeOf, IsNearest, IsNextUp, IsPassed, IsPushed, IsRung, IsRungAt, IsRungOf, IsWay, LeadUp, begins};
+ghost use Rattle.cl_hierarchy.specs.Ladders.{AreOthers, HasRung, IsFilled, IsLadder, IsMadeOf, IsNearest, IsPassed, IsPushed, IsRung, IsRungAt, IsRungOf, IsWay, LeadUp, begins};
 ghost use Rattle.cl_hierarchy.specs.Lineages.{IsLined, above_in};
 ghost use Rattle.cl_hierarchy.specs.Rows.{Rowed};
 ghost use Rattle.cl_model.specs.Lineages.{Kin};
@@ -11,7 +11,7 @@ ghost use Rattle.cl_model.specs.Lineages.{Kin};
 use crate::leading::Leads;
 use crate::over::Overs;
 use crate::row::ClassRow;
-use crate::rung::{Mark, Rung, Way};
+use crate::rung::{Mark, Rung};
 use crate::way::way_up;
 use cl_config::Config;
 use cl_model::{LoaderId, Told};
@@ -125,24 +125,11 @@ impl<T: Told> Ladder<T> {
         self.rung(place)?.far
     }
 
-    /// Where the superclass of the class stands at whose place the way goes on to the next.
-    fn up_by(&self, is_over: bool, next: Option<usize>) -> Option<usize>
-        ensures { (ks : List Kin) (bound : ℕ) → IsNextUp self.now.rows is_over ks next
-            → HasRung self.now.marks bound next
-            → IsNearest self.now.rows None ks result × HasRung self.now.marks bound result }
+    /// The rung of a class of this loader, whose superclass stands at a place, if it has one.
+    fn rung_of(&self, own: LoaderId, up: Option<usize>) -> Rung
+        ensures { (ks : List Kin) (bound : ℕ) → IsNearest self.now.rows None ks up
+            → HasRung self.now.marks bound up → IsRungOf self.now own ks bound result }
     {
-        if !is_over {
-            return next;
-        }
-        self.rung(next?)?.up
-    }
-
-    /// The rung of a class of this loader, at whose place the way goes on to the next.
-    fn rung_of(&self, own: LoaderId, is_over: bool, next: Option<usize>) -> Rung
-        ensures { (ks : List Kin) (bound : ℕ) → IsNextUp self.now.rows is_over ks next
-            → HasRung self.now.marks bound next → IsRungOf self.now own ks bound result }
-    {
-        let up = self.up_by(is_over, next);
         let far = self.far_from(own, up);
         Rung { up, far }
     }
@@ -183,31 +170,31 @@ impl<T: Told> Ladder<T> {
         Ok(())
     }
 
-    /// Adds the marks up to that of a way, and its own.
-    fn pass(&mut self, way: Way, next: Option<usize>) -> Result<(), AllocError>
-        requires way { IsWay T.told self.old.config self.old.rows way next }
-        requires next { HasRung self.old.marks way.place next }
-        requires before { length self.old.marks ≤ way.place }
-        ensures { OnOk result (IsPassed self.old way.place self.new) }
+    /// Adds the marks up to that of a place on the way up, and its own.
+    fn pass(&mut self, place: usize, up: Option<usize>) -> Result<(), AllocError>
+        requires way { IsWay T.told self.old.config self.old.rows place up }
+        requires up { HasRung self.old.marks place up }
+        requires before { length self.old.marks ≤ place }
+        ensures { OnOk result (IsPassed self.old place self.new) }
     {
-        self.fill(way.place)?;
-        let own = self.rows[way.place].class().loader;
-        let rung = self.rung_of(own, way.is_over, next);
+        self.fill(place)?;
+        let own = self.rows[place].class().loader;
+        let rung = self.rung_of(own, up);
         self.push(Some(rung))
     }
 
     /// Adds the marks of all places, whose ways up these are.
-    fn climb(&mut self, ways: Vec<Way>) -> Result<(), AllocError>
+    fn climb(&mut self, ways: Vec<usize>) -> Result<(), AllocError>
         requires ways { LeadUp T.told self.old.config self.old.rows ways.items None }
         requires begins { begins ways.items None ≡ Some (length self.old.rows - 1) }
         requires none { self.old.marks ≡ [] }
         ensures { OnOk result (IsPassed self.old (length self.old.rows - 1) self.new) }
     {
         let mut ways = ways;
-        let mut next = None;
-        while let Some(way) = ways.pop() {
-            self.pass(way, next)?;
-            next = Some(way.place);
+        let mut up = None;
+        while let Some(place) = ways.pop() {
+            self.pass(place, up)?;
+            up = Some(place);
         }
         Ok(())
     }

@@ -4,6 +4,7 @@
 
 pub mod above;
 pub mod access;
+pub mod class_at;
 pub mod draft;
 pub mod equalities;
 pub mod fit;
@@ -16,7 +17,6 @@ pub mod lineages;
 pub mod making;
 pub mod member;
 pub mod over;
-mod parts;
 pub mod path;
 mod place_tour;
 pub mod row;
@@ -29,6 +29,7 @@ mod tour;
 mod way;
 
 pub use access::{class_accessible, same_package};
+pub use class_at::ClassAt;
 pub use draft::{Draft, DraftFault, DraftRefused, Unreadable};
 pub use equalities::{Equalities, Origin, equality};
 pub use fit::misfit;

@@ -5,9 +5,9 @@ ghost use Rattle.std.specs.List.{AllByRecursion};
 ghost use Rattle.std.specs.Option.{option_map};
 ghost use Rattle.cl_model.specs.Lineages.{alone, first, is_subclass, once, superclasses, superinterfaces};
 ghost use Rattle.cl_hierarchy.specs.Above.{AreOvers, IsUnmixed};
+ghost use Rattle.cl_hierarchy.specs.ClassesAt.{lined_by, own_at};
 ghost use Rattle.cl_hierarchy.specs.Fronts.{IsFront, IsOnStem};
-ghost use Rattle.cl_hierarchy.specs.Ladders.{HasRung, IsLadder};
-ghost use Rattle.cl_hierarchy.specs.Parts.{IsCut};
+ghost use Rattle.cl_hierarchy.specs.Ladders.{HasRung, IsCut, IsLadder};
 ghost use Rattle.cl_hierarchy.specs.Lineages.{IsLined, IsRowIn, field_order, kin_at, kin_of, others_of, rows_in};
 ghost use Rattle.cl_hierarchy.specs.Tours.{stops, told_at};
 ghost use Rattle.cl_hierarchy.specs.Trees.{kin_under, kins};
@@ -18,7 +18,7 @@ use crate::ladder::Ladder;
 use crate::over::Overs;
 use crate::row::ClassRow;
 use crate::row_index::RowIndex;
-use crate::stem::{stem_end, superinterfaces_behind};
+use crate::stem::{lineage_rows, stem_end, superinterfaces_behind};
 use crate::tour::{Order, rows_in_order};
 use cl_config::Config;
 use cl_model::{Class, Told};
@@ -178,6 +178,17 @@ impl<T: Told> Lineage<T> {
         &self.ladder.rows()[..self.place + 1]
     }
 
+    /// The row at a place, or the class's own, where none stands there.
+    pub(crate) fn row_at(&self, place: usize) -> &Arc<ClassRow<T>>
+        ensures row { result.now.value ≡ own_at self.now place }
+        ensures kept { IsLined T.told self.now }
+    {
+        match self.rows().get(place) {
+            Some(row) => row,
+            None => self.own(),
+        }
+    }
+
     /// The configuration of the registry that made it.
     pub fn config(&self) -> &Arc<Config>
         ensures config { result.now.value ≡ self.now.config }
@@ -204,7 +215,18 @@ impl<T: Told> Lineage<T> {
     pub fn overs(&self) -> Overs
         ensures { AreOvers result self.now.above }
     {
-        match self.ladder.mark(self.place) {
+        self.overs_before(self.place)
+    }
+
+    /// Which loaders defined the superinterfaces that the classes before a place name, if it is one.
+    pub(crate) fn overs_before(&self, place: usize) -> Overs
+        ensures of { AreOvers result (take place (rows_in self.now)) }
+        ensures kept { IsLined T.told self.now }
+    {
+        if self.place < place {
+            return Overs::Several;
+        }
+        match self.ladder.mark(place) {
             Some(mark) => mark.overs,
             None => Overs::Several,
         }
@@ -314,6 +336,25 @@ impl<T: Told> Lineage<T> {
             None => self.rows_by_tour(alloc, Order::Superinterfaces, row, false),
             Some((end, before)) => superinterfaces_behind(alloc, self.config().seed(), before, end),
         }
+    }
+
+    /// The lineage of the class of a row of the lineage, as a tour through all rows tells it (JVMS SE 8, 5.3.5).
+    pub(crate) fn lineage_of(
+        &self,
+        alloc: Global,
+        row: &Arc<ClassRow<T>>,
+    ) -> Result<Lineage<T>, AllocError>
+        requires { IsRowIn (rows_in self.now) row.now.value }
+        ensures { IfOk result (λ l. l ≡ lined_by self.now row.now.value) }
+    {
+        let seed = self.config().seed();
+        let table = RowIndex::of(alloc, seed, self.above(), self.own())?;
+        let mut above = lineage_rows(alloc, seed, &table, row)?;
+        let Some(own) = above.pop() else {
+            unreachable!()
+        };
+        let config = Arc::try_clone(self.config())?;
+        Lineage::of_rows(alloc, config, above, own)
     }
 
     /// What a tour through all rows tells from one of them, each row once.

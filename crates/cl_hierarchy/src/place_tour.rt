@@ -1,10 +1,12 @@
-//! Tours in the order of a lineage by the places of its rows: no name is looked at, and none kept (JVMS SE 8, 5.3.5).
+//! Tours through the superinterfaces of a class by the places of their rows: no name is looked at, and none kept (JVMS SE 8,
+//! 5.4.3.3).
 
-ghost use Rattle.std.specs.Prelude.{◌≡◌, ◌<◌, [], ◌++◌, Bool, Some, false, length, map, option_to_list, slice_get, true, IfOk, IfSome, OnOk};
-ghost use Rattle.cl_hierarchy.specs.PlaceTours.{AreLineageAt, IsPushed, Steps, rows_at};
+ghost use Rattle.std.specs.Prelude.{◌≡◌, ◌<◌, List, [], ◌++◌, Some, false, length, map, option_to_list, slice_get, true, IfOk, IfSome, OnOk};
+ghost use Rattle.cl_hierarchy.specs.PlaceTours.{AreSuperinterfacesAt, IsOpened, IsPushed, IsTold, Steps, rows_at};
 ghost use Rattle.cl_hierarchy.specs.Rows.{Rowed};
 ghost use Rattle.cl_hierarchy.specs.Supers.{AreAllSupers, place_in};
 ghost use Rattle.cl_hierarchy.specs.Trees.{SupersBefore};
+ghost use Rattle.cl_hierarchy.specs.declared.supers.Supers.{Supers};
 ghost use Rattle.cl_hierarchy.specs.declared.tour.Task.TheVariants as tasks;
 
 use crate::row::ClassRow;
@@ -22,10 +24,11 @@ pub(crate) struct Spot {
     pub task: Task,
 }
 
-/// A tour: the places that were told, of each place whether it was, and what is left to do.
+/// A tour: the places that were told, of each place whether it was told and whether it was left, and what is left to do.
 struct PlaceTour {
     told: Vec<usize>,
     is_told: Vec<bool>,
+    is_left: Vec<bool>,
     stack: Vec<Spot>,
 }
 
@@ -34,6 +37,7 @@ impl Drop for PlaceTour {
         let PlaceTour {
             told: _,
             is_told: _,
+            is_left: _,
             stack: _,
         } = self;
     }
@@ -44,21 +48,21 @@ impl Model for PlaceTour {
 
     ghost Value = { Placed };
 
-    ghost view = { λ t. record { told = t.told.items; is_told = t.is_told.items; stack = t.stack.items } };
+    ghost view = { λ t. record { told = t.told.items; is_told = t.is_told.items; is_left = t.is_left.items; stack = t.stack.items } };
+}
+
+/// Whether a place is marked; what is no place is.
+fn is_marked(marks: &[bool], place: usize) -> bool
+    ensures marked { IfSome (slice_get marks.now place) (λ b. result ≡ b) }
+    ensures within { result ≡ false → place < length marks.now }
+{
+    match marks.get(place) {
+        Some(is_marked) => *is_marked,
+        None => true,
+    }
 }
 
 impl PlaceTour {
-    /// Whether the class at a place was told.
-    fn has_told(&self, place: usize) -> bool
-        ensures told { IfSome (slice_get self.now.is_told place) (λ b. result ≡ b) }
-        ensures within { result ≡ false → place < length self.now.is_told }
-    {
-        match self.is_told.get(place) {
-            Some(is_told) => *is_told,
-            None => true,
-        }
-    }
-
     /// Puts what is left to do at a place.
     fn push(&mut self, place: usize, task: Task) -> Result<(), AllocError>
         ensures { OnOk result (IsPushed self.old place task self.new) }
@@ -67,20 +71,45 @@ impl PlaceTour {
         Ok(())
     }
 
-    /// Comes to the class at a place: to all that stands above it, and then to leave it, unless it was left before.
-    fn come(&mut self, table: &[Supers], place: usize) -> Result<(), AllocError>
-        ensures { OnOk result ((wanted : Bool) → Steps table.now self.old place
-            (tasks.Come wanted) self.new) }
+    /// Tells the class at a place, where that is wanted and it was not told.
+    fn tell(&mut self, place: usize, wanted: bool) -> Result<(), AllocError>
+        ensures { OnOk result ((table : List Supers) → IsTold table self.old place wanted
+            self.new) }
     {
-        if self.has_told(place) {
+        if !wanted {
             return Ok(());
         }
-        self.push(place, Task::Leave)?;
-        self.push(place, Task::Over(0))?;
-        match up_at(table, place) {
-            None => Ok(()),
-            Some(up) => self.push(up, Task::Come(true)),
+        if is_marked(self.is_told.as_slice(), place) {
+            return Ok(());
         }
+        self.told.push(place)?;
+        self.is_told[place] = true;
+        Ok(())
+    }
+
+    /// Puts that all that stands above the class at a place is to be come to, and then the class to be left.
+    fn open(&mut self, table: &[Supers], place: usize) -> Result<(), AllocError>
+        ensures { OnOk result (IsOpened table.now self.old place self.new) }
+    {
+        self.push(place, Task::Leave)?;
+        match up_at(table, place) {
+            None => self.push(place, Task::Over(0)),
+            Some(up) => {
+                self.push(up, Task::Come(false))?;
+                self.push(place, Task::Over(0))
+            }
+        }
+    }
+
+    /// Comes to the class at a place: tells it, where it is wanted, and opens what stands above it, unless it was left before.
+    fn come(&mut self, table: &[Supers], place: usize, wanted: bool) -> Result<(), AllocError>
+        ensures { OnOk result (Steps table.now self.old place (tasks.Come wanted) self.new) }
+    {
+        self.tell(place, wanted)?;
+        if is_marked(self.is_left.as_slice(), place) {
+            return Ok(());
+        }
+        self.open(table, place)
     }
 
     /// Comes to a superinterface of the class at a place, and then goes on with the next.
@@ -97,16 +126,28 @@ impl PlaceTour {
         self.push(above, Task::Come(true))
     }
 
-    /// Tells the class at a place, if it was not told.
-    fn leave(&mut self, table: &[Supers], place: usize) -> Result<(), AllocError>
-        ensures { OnOk result (Steps table.now self.old place tasks.Leave self.new) }
+    /// Leaves the class at a place: all that stands above it was told.
+    fn leave(&mut self, place: usize)
+        ensures { (table : List Supers) → Steps table self.old place tasks.Leave self.new }
     {
-        if self.has_told(place) {
-            return Ok(());
+        if is_marked(self.is_left.as_slice(), place) {
+            return;
         }
-        self.told.push(place)?;
-        self.is_told[place] = true;
-        Ok(())
+        self.is_left[place] = true;
+    }
+
+    /// Takes one step.
+    fn go(&mut self, table: &[Supers], next: Spot) -> Result<(), AllocError>
+        ensures { OnOk result (Steps table.now self.old next.place next.task self.new) }
+    {
+        match next.task {
+            Task::Come(wanted) => self.come(table, next.place, wanted),
+            Task::Over(at) => self.go_over(table, next.place, at),
+            Task::Leave => {
+                self.leave(next.place);
+                Ok(())
+            }
+        }
     }
 
     /// The places that were told.
@@ -116,41 +157,31 @@ impl PlaceTour {
         let PlaceTour {
             told,
             is_told: _,
+            is_left: _,
             stack: _,
         } = self;
         told
     }
-
-    /// Takes one step.
-    fn go(&mut self, table: &[Supers], next: Spot) -> Result<(), AllocError>
-        ensures { OnOk result (Steps table.now self.old next.place next.task self.new) }
-    {
-        match next.task {
-            Task::Come(_) => self.come(table, next.place),
-            Task::Over(at) => self.go_over(table, next.place, at),
-            Task::Leave => self.leave(table, next.place),
-        }
-    }
 }
 
 /// Where the superclass of the class at a place stands, if it has one.
-pub(crate) fn up_at(table: &[Supers], place: usize) -> Option<usize>
+fn up_at(table: &[Supers], place: usize) -> Option<usize>
     ensures { (s : Supers) → slice_get table.now place ≡ Some s → result ≡ s.up }
 {
     table.get(place)?.up
 }
 
 /// Where a superinterface of the class at a place stands, if it has so many.
-pub(crate) fn over_at(table: &[Supers], place: usize, at: usize) -> Option<usize>
+fn over_at(table: &[Supers], place: usize, at: usize) -> Option<usize>
     ensures { (s : Supers) → slice_get table.now place ≡ Some s
         → result ≡ place_in s.over.items at }
 {
     *table.get(place)?.over.get(at)?
 }
 
-/// The places of the rows of the lineage of the class at a place, its own last, in time linear in them and in the supertypes
-/// that they name.
-pub(crate) fn lineage_places<T: Told>(
+/// The places of the rows of all superinterfaces of the class at a place, each once at its first place, in time linear in them
+/// and in the supertypes that they name, and in the number of all rows, of which a bit is set.
+pub(crate) fn superinterface_places<T: Told>(
     alloc: Global,
     rows: &[Arc<ClassRow<T>>],
     table: &[Supers],
@@ -161,14 +192,15 @@ pub(crate) fn lineage_places<T: Told>(
         table.now }
     requires within { start < length rows.now }
     ensures { (r : Rowed) → slice_get (map (λ r. r.value) rows.now) start ≡ Some r
-        → IfOk result (λ v. AreLineageAt (map (λ r. r.value) rows.now) r v.items) }
+        → IfOk result (λ v. AreSuperinterfacesAt (map (λ r. r.value) rows.now) r v.items) }
 {
     let mut tour = PlaceTour {
         told: Vec::new(alloc),
         is_told: vec![in alloc; false; rows.len()]?,
+        is_left: vec![in alloc; false; rows.len()]?,
         stack: Vec::new(alloc),
     };
-    tour.push(start, Task::Come(true))?;
+    tour.push(start, Task::Come(false))?;
     while let Some(next) = tour.stack.pop() {
         tour.go(table, next)?;
     }

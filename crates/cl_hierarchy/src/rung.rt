@@ -18,10 +18,3 @@ pub(crate) struct Mark {
     pub overs: Overs,
     pub rung: Option<Rung>,
 }
-
-/// A place on the way up, and whether the next is of a superinterface with the same superclass, else of the superclass.
-#[derive(Clone, Copy, Debug)]
-pub(crate) struct Way {
-    pub place: usize,
-    pub is_over: bool,
-}

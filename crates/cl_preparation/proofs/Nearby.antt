@@ -143,12 +143,12 @@ counted_bare only_open key l (r ∷ rs) =
 own_known : (own : ℕ) → is_new own [] own ≡ false
 own_known own = rw (eq-eqb own own refl) refl
 
-up_near : (key : Key) (l : Lined) (away : List Rowed) (b : Bool) → takes_part key (kin_of l) ≡ true → map (kin_at l) away ≡ others_of (Some l.own.class.loader) (superclasses (kin_of l))
+up_near : (key : Key) (l : Lined) (away : List Rowed) (b : Bool) → takes_part key (kin_of l) ≡ true → (b ≡ false → map (kin_at l) away ≡ others_of (Some l.own.class.loader) (superclasses (kin_of l)))
     → others_after l.own.class.loader [] (if b then [] else loaders (filter (opens key) (map bare away))) ≡ others_after l.own.class.loader [] (loaders (if b then [] else overridden key (kin_of l)))
 up_near key l away true tp are = refl
 up_near key l away false tp are =
     let own : ℕ = l.own.class.loader in
-    ap (others_after own []) (sym (counted_bare true key l away)) ∙ ap (λ (ks : List Kin). still_of (opens key) own [] ks) are ∙ away_enough (opens key) own [] (superclasses (kin_of l))
+    ap (others_after own []) (sym (counted_bare true key l away)) ∙ ap (λ (ks : List Kin). still_of (opens key) own [] ks) (are refl) ∙ away_enough (opens key) own [] (superclasses (kin_of l))
     ∙ sym (open_enough key own [] (l.own.class ∷ []) (superclasses (kin_of l)) (own_known own, tt))
     ∙ ap (λ (ks : List Kin). others_after own [] (loaders ks)) (sym (overridden_is_walked key (kin_of l) tp))
 
@@ -220,6 +220,18 @@ all_added l over overs = record {
   second_are = λ b. sym (second_bare l over) ∙ ap (flat_map (λ (j : Kin). flat_map (fewer_inherited (kin_of l) j) j.file.methods)) overs;
 }
 
+-- an interface with all of them, told by rows of the lineage that has it at a place
+pub interface_near : (l whole : Lined) (own : Rowed) (away over : List Rowed) → own ≡ l.own → is_interface (file_of l.own.file) ≡ true → away ≡ [] → map (kin_at whole) over ≡ superinterfaces (kin_of l) → AreNear l own away over
+interface_near l whole own away over mine inter none overs = record {
+  own_is = mine;
+  away_are = λ off. absurd (let no : true ≡ false = sym inter ∙ off in cc);
+  away_in = subst (λ (rs : List Rowed). AllByRecursion (IsRowIn (rows_in l)) rs) (sym none) tt;
+  over_are = record {
+    loaders_are = λ key listed. ap (others_after l.own.class.loader listed) (sym (counted_bare false key whole over) ∙ ap (λ (ks : List Kin). loaders (filter (takes_part key) ks)) overs);
+    second_are = λ off. absurd (let no : true ≡ false = sym inter ∙ off in cc);
+  };
+}
+
 second_here : (l : Lined) (above over : List Rowed) → map (kin_at l) above ≡ superclasses (kin_of l) → AddAll l over → is_interface (file_of l.own.file) ≡ false → second_by_rows true l.own above over ≡ by_superinterfaces fewer_inherited (kin_of l)
 second_here l above over are overs class =
     flat_same (λ (j : Rowed). flat_map (inherited_by_rows true l.own above j) (bare j).file.methods) (λ (j : Rowed). flat_map (fewer_inherited (kin_of l) (bare j)) (bare j).file.methods) over
@@ -234,17 +246,29 @@ declared_near l own away over are =
     ap (λ (r : Rowed). flat_map (near_declared r away over) (bare r).file.methods) are.own_is
     ∙ flat_same (near_declared l.own away over) (fewer_declared (kin_of l)) (bare l.own).file.methods (λ m. declared_here l away over m (subst (λ (r : Rowed). AreNear l r away over) are.own_is are))
 
--- all that is imposed
-pub needs_told : (l : Lined) (own : Rowed) (away over : List Rowed) (ms xs : List Member) (none one all : List Need) → AreNear l own away over → ms ≡ (bare own).file.methods → xs ≡ ms → none ≡ []
-    → one ≡ none ++ flat_map (near_declared own away over) xs → all ≡ one ++ (if is_interface (file_of own.file) then [] else by_superinterfaces fewer_inherited (kin_of l)) → all ≡ fewer_constraints_of (kin_of l)
-needs_told l own away over ms xs none one all near made same empty first second =
-    let rest : List Need = if is_interface (file_of own.file) then [] else by_superinterfaces fewer_inherited (kin_of l) in
-    second
-    ∙ ap (λ ns. ns ++ rest) (first ∙ ap (λ ns. ns ++ flat_map (near_declared own away over) xs) empty ∙ ap (flat_map (near_declared own away over)) (same ∙ made) ∙ declared_near l own away over near)
-    ∙ ap (λ (r : Rowed). flat_map (fewer_declared (kin_of l)) (kin_of l).file.methods ++ (if is_interface (file_of r.file) then [] else by_superinterfaces fewer_inherited (kin_of l))) near.own_is
-
 class_of : (l : Lined) (own : Rowed) → own ≡ l.own → is_interface (file_of own.file) ≡ false → is_interface (file_of l.own.file) ≡ false
 class_of l own same class = ap (λ (r : Rowed). is_interface (file_of r.file)) (sym same) ∙ class
+
+-- what the methods of a class impose
+pub each_told : (own : Rowed) (away over : List Rowed) (ms xs : List Member) (none all : List Need) → ms ≡ (bare own).file.methods → xs ≡ ms → none ≡ [] → all ≡ none ++ flat_map (near_declared own away over) xs
+    → all ≡ flat_map (near_declared own away over) (bare own).file.methods
+each_told own away over ms xs none all made same empty first =
+    first ∙ ap (λ ns. ns ++ flat_map (near_declared own away over) xs) empty ∙ ap (flat_map (near_declared own away over)) (same ∙ made)
+
+-- all that an interface imposes
+pub interface_told : (l : Lined) (own : Rowed) (away over : List Rowed) (all : List Need) → AreNear l own away over → is_interface (file_of l.own.file) ≡ true → all ≡ flat_map (near_declared own away over) (bare own).file.methods → all ≡ fewer_constraints_of (kin_of l)
+interface_told l own away over all near inter first =
+    let c = kin_of l in
+    first ∙ declared_near l own away over near ∙ sym (append-nil (flat_map (fewer_declared c) c.file.methods))
+    ∙ sym (ap (λ (b : Bool). flat_map (fewer_declared c) c.file.methods ++ (if b then [] else by_superinterfaces fewer_inherited c)) inter)
+
+-- and all that another class does
+pub class_told : (l : Lined) (own : Rowed) (away over : List Rowed) (one all : List Need) → AreNear l own away over → is_interface (file_of own.file) ≡ false → one ≡ flat_map (near_declared own away over) (bare own).file.methods
+    → all ≡ one ++ by_superinterfaces fewer_inherited (kin_of l) → all ≡ fewer_constraints_of (kin_of l)
+class_told l own away over one all near class first second =
+    let c = kin_of l in
+    second ∙ ap (λ ns. ns ++ by_superinterfaces fewer_inherited c) (first ∙ declared_near l own away over near)
+    ∙ sym (ap (λ (b : Bool). flat_map (fewer_declared c) c.file.methods ++ (if b then [] else by_superinterfaces fewer_inherited c)) (class_of l own near.own_is class))
 
 -- and so with the rows of its superclasses
 module _ {A : Type 0} (f : A → Rowed) (l : Lined) (own : Rowed) (xs ys : List A) (away over above : List Rowed) (near : AreNear l own away over) (one : ys ≡ xs) (made : above ≡ map f ys)
@@ -252,9 +276,9 @@ module _ {A : Type 0} (f : A → Rowed) (l : Lined) (own : Rowed) (xs ys : List 
   above_are : map (kin_at l) above ≡ superclasses (kin_of l)
   above_are = mapped_rows f superclasses l xs ys above one made are
 
-  pub away_given : away ≡ away_from own.class.loader above
-  away_given =
-      away_rows l away above near.away_are near.away_in above_are (mapped_in f l xs ys above one made within) ∙ ap (λ (r : Rowed). away_from r.class.loader above) (sym near.own_is)
+  pub away_given : is_interface (file_of own.file) ≡ false → away ≡ away_from own.class.loader above
+  away_given class =
+      away_rows l away above (near.away_are (class_of l own near.own_is class)) near.away_in above_are (mapped_in f l xs ys above one made within) ∙ ap (λ (r : Rowed). away_from r.class.loader above) (sym near.own_is)
 
   pub second_given : (rs : List Rowed) → rs ≡ over → is_interface (file_of own.file) ≡ false → second_by_rows true own above rs ≡ by_superinterfaces fewer_inherited (kin_of l)
   second_given rs is class =

@@ -1,5 +1,5 @@
 -- Where superinterfaces add nothing to the few equalities.
-use Rattle.std.proofs.Common.{◌≡◌, ◌≤◌, ℕ, Bool, true, false, ◌&&◌, ◌||◌, not, if◌then◌else◌, Option, Some, None, List, [], ◌∷◌, ◌++◌, map, filter, length, refl, ap, sym, subst, ◌∙◌, drop, take, append_assoc}
+use Rattle.std.proofs.Common.{◌≡◌, ◌≤◌, ℕ, Bool, true, false, ◌&&◌, ◌||◌, not, if◌then◌else◌, Option, Some, None, List, [], ◌∷◌, ◌++◌, map, filter, length, refl, ap, sym, subst, ◌∙◌, drop, take, append-nil, append_assoc}
 use Rattle.std.specs.Prelude.{◌==◌, Contains, Err, IfOk, IfSome, Ok, Result, find, flat_map, is_some, option_map}
 use Rattle.std.specs.List.{AllByRecursion, list_any}
 use Rattle.std.proofs.lemmas.Bool.{and_parts, eqb-true, eq-eqb, or_parts, or_right}
@@ -10,7 +10,7 @@ use Rattle.cl_classfile.specs.Files.{Key, Member, file_of, is_interface}
 use Rattle.cl_model.specs.declared.class.Class.{Class}
 use Rattle.cl_model.specs.Classes.{Above, same_class, superinterfaces_of}
 use Rattle.cl_model.specs.Lineages.{Bare, Kin, is_offered, method_of, preorder, superclasses, superinterfaces}
-use Rattle.cl_model.specs.Preparation.{inherited_from, is_special, takes_part}
+use Rattle.cl_model.specs.Preparation.{equals_of, inherited_from, is_special, overridden, takes_part}
 use Rattle.cl_model.specs.States.{Need}
 use Rattle.cl_model.proofs.Closed.{all_left}
 use Rattle.cl_model.proofs.Complete.{is_class}
@@ -23,7 +23,7 @@ use Rattle.cl_hierarchy.specs.Rows.{Rowed}
 use Rattle.cl_hierarchy.specs.Trees.{SupersBefore, forest, in_front, interface_places, interfaces_in, kin_named, kin_under, kins, kins_after, superclass_in}
 use Rattle.cl_hierarchy.proofs.Climbs.{placed_row, rows_more}
 use Rattle.cl_hierarchy.proofs.Told.{all_forth}
-use Rattle.cl_preparation.specs.Fewer.{fewer_inherited, loaders, others_after}
+use Rattle.cl_preparation.specs.Fewer.{by_superinterfaces, fewer_constraints_of, fewer_declared, fewer_inherited, loaders, loaders_over, others_after}
 use Rattle.cl_preparation.specs.Nearby.{AddAll}
 use Rattle.cl_preparation.specs.Inherited.{away_from, equals_from, first_loader, inherited_by_rows, other_than}
 use Rattle.cl_preparation.specs.Quiet.{is_heard, is_silent, names_other}
@@ -34,6 +34,10 @@ use Rattle.cl_preparation.proofs.Nearby.{all_added, away_rows, inherited_here, i
 use Rattle.std.proofs.lemmas.Option.{same_Some}
 
 -- ---- tests
+
+pub is_off : (b : Bool) → not b ≡ true → b ≡ false
+is_off true e = absurd cc
+is_off false e = refl
 
 is_on : (b : Bool) → not b ≡ false → b ≡ true
 is_on true e = refl
@@ -347,9 +351,35 @@ none_named_any own [] all = refl
 none_named_any own (r ∷ rows) all = ap (λ (ps : List ℕ). list_any (λ p. not (own == p)) ps || list_any (names_other own) rows) all.0 ∙ none_named_any own rows all.1
 
 -- an interface, all of whose superinterfaces are of its loader
-pub quiet_interface : (l : Lined) (own : ℕ) (mine : Rowed) → own ≡ l.own.class.loader → mine ≡ l.own → names_other own mine ≡ false → list_any (names_other own) l.above ≡ false → is_interface (file_of l.own.file) ≡ true → AddAll l []
+quiet_interface : (l : Lined) (own : ℕ) (mine : Rowed) → own ≡ l.own.class.loader → mine ≡ l.own → names_other own mine ≡ false → list_any (names_other own) l.above ≡ false → is_interface (file_of l.own.file) ≡ true → AddAll l []
 quiet_interface l own mine oe me first rest inter =
     all_quiet l (λ r. Unit {0}) own mine oe me first rest (all_any l.above) (λ r ks known over. record { own = over.own; none = λ off. absurd (let no : true ≡ false = sym inter ∙ off in cc) })
+
+-- it imposes nothing but with itself
+declares_none : (c : Kin) (m : Member) → is_interface c.file ≡ true → others_after c.class.loader [] (loaders (filter (takes_part m.key) (superinterfaces c))) ≡ [] → fewer_declared c m ≡ []
+declares_none c m inter none = at (takes_part m.key c)
+  where
+    over : others_after c.class.loader [] (loaders_over c m.key) ≡ []
+    over =
+        ap (λ (b : Bool). others_after c.class.loader [] (loaders (if b then [] else overridden m.key c) ++ loaders (filter (takes_part m.key) (superinterfaces c)))) inter ∙ none
+
+    at : (b : Bool) → (if b then flat_map (equals_of m.key c.class.loader) (others_after c.class.loader [] (loaders_over c m.key)) else []) ≡ []
+    at true = ap (λ (ls : List ℕ). flat_map (equals_of m.key c.class.loader) ls) over
+    at false = refl
+
+declare_none : (c : Kin) (ms : List Member) → is_interface c.file ≡ true → ((key : Key) → others_after c.class.loader [] (loaders (filter (takes_part key) (superinterfaces c))) ≡ []) → flat_map (fewer_declared c) ms ≡ []
+declare_none c [] inter none = refl
+declare_none c (m ∷ ms) inter none = ap (λ (ns : List Need). ns ++ flat_map (fewer_declared c) ms) (declares_none c m inter (none m.key)) ∙ declare_none c ms inter none
+
+pub quiet_imposes : (l : Lined) (own : ℕ) (mine : Rowed) → own ≡ l.own.class.loader → mine ≡ l.own → names_other own mine ≡ false → list_any (names_other own) l.above ≡ false → is_interface (file_of l.own.file) ≡ true → [] ≡ fewer_constraints_of (kin_of l)
+quiet_imposes l own mine oe me first rest inter =
+    let add = quiet_interface l own mine oe me first rest inter in
+    let c = kin_of l in
+    sym (
+    ap (λ (b : Bool). flat_map (fewer_declared c) c.file.methods ++ (if b then [] else by_superinterfaces fewer_inherited c)) inter
+    ∙ append-nil (flat_map (fewer_declared c) c.file.methods)
+    ∙ declare_none c c.file.methods inter (λ key. sym (add.loaders_are key []))
+    )
 
 -- a class, all of whose superinterfaces are of its loader, and whose superclasses of other loaders declare nothing that these declare: none, or such as are unmixed
 quiet_away : (l : Lined) (away : List Rowed) (own : ℕ) (mine : Rowed) → own ≡ l.own.class.loader → mine ≡ l.own → names_other own mine ≡ false → list_any (names_other own) l.above ≡ false → map (kin_at l) away ≡ others_of (Some l.own.class.loader) (superclasses (kin_of l))

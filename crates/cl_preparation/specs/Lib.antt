@@ -2,6 +2,7 @@ pub mod Declarers
 pub mod Fewer
 pub mod Filters
 pub mod Inherited
+pub mod Listed
 pub mod Methods
 pub mod Named
 pub mod Nearby

@@ -24,12 +24,13 @@ pub record AddAll (l : Lined) (over : List Rowed) : Type 0 where
       → by_methods bare (λ j. fewer_inherited (kin_of l) (bare j)) over
       ≡ by_superinterfaces fewer_inherited (kin_of l)
 
--- the rows of a class, of its superclasses of other loaders, and of superinterfaces that add what
--- all do (5.4.2)
+-- the rows of a class, of its superclasses of other loaders, where it is no interface, and of
+-- superinterfaces that add what all do (5.4.2)
 pub record AreNear (l : Lined) (own : Rowed) (away over : List Rowed) : Type 0 where
   pub own_is : own ≡ l.own
   pub away_are :
-      map (kin_at l) away ≡ others_of (Some l.own.class.loader) (superclasses (kin_of l))
+      is_interface (file_of l.own.file) ≡ false
+      → map (kin_at l) away ≡ others_of (Some l.own.class.loader) (superclasses (kin_of l))
   pub away_in : AllByRecursion (IsRowIn (rows_in l)) away
   pub over_are : AddAll l over
 

@@ -11,7 +11,7 @@ ghost use Rattle.cl_preparation.specs.Walks.{opens};
 
 use crate::filter::NameFilter;
 use crate::key::MethodKey;
-use crate::listed::is_new;
+use crate::listed::Listed;
 use crate::method::{is_virtual, is_wide};
 use crate::relative::{flags_with, names_of};
 use cl_hierarchy::ClassRow;
@@ -155,17 +155,17 @@ impl<'a, T: Told> Away<'a, T> {
     /// takes part in overriding.
     pub fn list_open(
         &self,
-        listed: &mut Vec<LoaderId>,
+        listed: &mut Listed,
         own: LoaderId,
         key: &MethodKey,
     ) -> Result<(), AllocError>
-        ensures { OnOk result (listed.new.items ≡ listed.old.items ++ others_after own
-            listed.old.items (loaders (filter (opens key.now) (map bare self.now)))) }
+        ensures { OnOk result (listed.new ≡ listed.old ++ others_after own listed.old
+            (loaders (filter (opens key.now) (map bare self.now)))) }
     {
         for place in 0..self.len() {
             let loader = self.rows[place].class().loader;
             // first, since a look at its methods takes longer
-            if is_new(own, listed.as_slice(), loader) && self.is_open(place, key) {
+            if listed.is_new(own, loader) && self.is_open(place, key) {
                 listed.push(loader)?;
             }
         }

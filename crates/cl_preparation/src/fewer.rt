@@ -1,10 +1,11 @@
 //! The few loading constraints of a preparation that stand for all of them (JVMS SE 8, 5.3.4, 5.4.2).
 
-ghost use Rattle.std.specs.Prelude.{◌≡◌, ◌++◌, [], Some, if◌then◌else◌, false, map, filter, flat_map, IfOk, OnOk};
+ghost use Rattle.std.specs.Prelude.{◌≡◌, ◌≤◌, ◌++◌, [], Some, if◌then◌else◌, false, length, map, filter, flat_map, IfOk, OnOk};
 ghost use Rattle.std.specs.List.{AllByRecursion};
 ghost use Rattle.cl_classfile.specs.Files.{file_of, is_interface};
 ghost use Rattle.cl_model.specs.Lineages.{superclasses};
 ghost use Rattle.cl_model.specs.Preparation.{constraints_of};
+ghost use Rattle.cl_hierarchy.specs.ClassesAt.{lined_at};
 ghost use Rattle.cl_hierarchy.specs.Imposed.{AreEnough, OfPreparation, needs_of};
 ghost use Rattle.cl_hierarchy.specs.Lineages.{IsRowIn, kin_at, kin_of, others_of, rows_in};
 ghost use Rattle.cl_preparation.specs.Fewer.{by_superinterfaces, fewer_constraints_of, fewer_inherited, loaders, others_after};
@@ -16,14 +17,15 @@ use crate::away::Away;
 use crate::described::Described;
 use crate::inherited::Inheritance;
 use crate::key::MethodKey;
-use crate::listed::{list_others, push_listed};
+use crate::listed::{Listed, list_others, push_listed};
 use crate::method::Method;
-use crate::quiet::over_of;
+use crate::quiet::{has_own_over, over_of};
 use crate::relative::Relative;
-use crate::relatives::{all_of, has_none_over, imposes_nothing};
-use cl_hierarchy::{Equalities, Lineage};
-use cl_model::{Equality, LoaderId, Told};
+use crate::relatives::{all_of, has_none_over, imposes_nothing, takes_no_part};
+use cl_hierarchy::{ClassAt, ClassRow, Equalities, Lineage, Lineages};
+use cl_model::{Equality, Told};
 use std::alloc::{AllocError, Global};
+use std::sync::Arc;
 
 /// So many methods are looked up in a class as soon as its filter would be made.
 const FEW_LOOKS: usize = 4;
@@ -88,10 +90,10 @@ impl<'a, T: Told> Nearby<'a, T> {
 
     /// Lists, once each, the other loaders of superclasses that declare a public or protected method with this key; of an
     /// interface none (JVMS SE 8, 5.4.2).
-    fn list_above(&self, listed: &mut Vec<LoaderId>, key: &MethodKey) -> Result<(), AllocError>
-        ensures { OnOk result (listed.new.items ≡ listed.old.items ++ others_after
-            self.now.own.class.loader listed.old.items (if is_interface (file_of self.now.own.file)
-            then [] else loaders (filter (opens key.now) (map bare self.now.away)))) }
+    fn list_above(&self, listed: &mut Listed, key: &MethodKey) -> Result<(), AllocError>
+        ensures { OnOk result (listed.new ≡ listed.old ++ others_after self.now.own.class.loader
+            listed.old (if is_interface (file_of self.now.own.file) then []
+            else loaders (filter (opens key.now) (map bare self.now.away)))) }
     {
         if self.own.is_interface() {
             return Ok(());
@@ -101,11 +103,11 @@ impl<'a, T: Told> Nearby<'a, T> {
 
     /// The other loaders of what a method with this key overrides, each once: those of superclasses, nearest first, then those
     /// of superinterfaces. What is overridden for its package alone is of a loader that is listed (JVMS SE 8, 5.4.5).
-    fn loaders_over(&self, alloc: Global, key: &MethodKey) -> Result<Vec<LoaderId>, AllocError>
-        ensures { IfOk result (λ v. v.items ≡ near_loaders self.now.own self.now.away
+    fn loaders_over(&self, alloc: Global, key: &MethodKey) -> Result<Listed, AllocError>
+        ensures { IfOk result (λ v. v ≡ near_loaders self.now.own self.now.away
             self.now.over.items key.now) }
     {
-        let mut listed = Vec::new(alloc);
+        let mut listed = Listed::new(alloc);
         self.list_above(&mut listed, key)?;
         let own = self.own.loader();
         list_others(&mut listed, own, key, self.over.as_slice())?;
@@ -128,7 +130,7 @@ impl<'a, T: Told> Nearby<'a, T> {
         }
         let loaders = self.loaders_over(alloc, key)?;
         // most methods stand over none of another loader
-        if loaders.is_empty() {
+        if loaders.as_slice().is_empty() {
             return Ok(());
         }
         let described = Described::of(alloc, key)?;
@@ -182,40 +184,34 @@ impl<'a, T: Told> Nearby<'a, T> {
         inherited.push_interfaces(alloc, needs, over)
     }
 
-    /// Adds what is inherited where the class is no interface.
-    fn push_second(
-        &self,
-        alloc: Global,
-        needs: &mut Vec<Equality>,
-        lineage: &Lineage<T>,
-    ) -> Result<(), AllocError>
-        requires { AreNear lineage.now self.now.own self.now.away self.now.over.items }
-        ensures { OnOk result (needs_of needs.new.items ≡ needs_of needs.old.items
-            ++ (if is_interface (file_of self.now.own.file) then [] else by_superinterfaces
-            fewer_inherited (kin_of lineage.now))) }
-    {
-        if self.own.is_interface() {
-            return Ok(());
-        }
-        self.push_over(alloc, needs, lineage)
-    }
-
-    /// What the preparation of the class of this lineage imposes, each other loader once for a method.
-    fn needs(&self, alloc: Global, lineage: &Lineage<T>) -> Result<Vec<Equality>, AllocError>
-        requires { AreNear lineage.now self.now.own self.now.away self.now.over.items }
-        ensures { IfOk result (λ v. needs_of v.items
-            ≡ fewer_constraints_of (kin_of lineage.now)) }
+    /// What the methods of the class impose, each other loader once for a method.
+    fn declared(&self, alloc: Global) -> Result<Vec<Equality>, AllocError>
+        ensures { IfOk result (λ v. needs_of v.items ≡ flat_map (near_declared self.now.own
+            self.now.away self.now.over.items) (bare self.now.own).file.methods) }
     {
         let mut needs = Vec::new(alloc);
         let methods = self.own.methods(alloc)?;
         self.push_each_declared(alloc, &mut needs, methods.as_slice())?;
-        self.push_second(alloc, &mut needs, lineage)?;
+        Ok(needs)
+    }
+
+    /// What the preparation of the class of this lineage imposes, each other loader once for a method.
+    fn needs(&self, alloc: Global, lineage: &Lineage<T>) -> Result<Vec<Equality>, AllocError>
+        requires near { AreNear lineage.now self.now.own self.now.away
+            self.now.over.items }
+        requires class { is_interface (file_of self.now.own.file) ≡ false }
+        ensures { IfOk result (λ v. needs_of v.items
+            ≡ fewer_constraints_of (kin_of lineage.now)) }
+    {
+        let mut needs = self.declared(alloc)?;
+        self.push_over(alloc, &mut needs, lineage)?;
         Ok(needs)
     }
 }
 
-/// The few equalities that stand for all that the preparation of a class imposes.
-fn fewer_needs<T: Told>(alloc: Global, lineage: &Lineage<T>) -> Result<Vec<Equality>, AllocError>
+/// The few equalities that stand for all that the preparation of a class imposes, which is no interface.
+fn class_needs<T: Told>(alloc: Global, lineage: &Lineage<T>) -> Result<Vec<Equality>, AllocError>
+    requires { is_interface (file_of lineage.now.own.file) ≡ false }
     ensures { IfOk result (λ v. needs_of v.items ≡ fewer_constraints_of
         (kin_of lineage.now)) }
 {
@@ -228,20 +224,72 @@ fn fewer_needs<T: Told>(alloc: Global, lineage: &Lineage<T>) -> Result<Vec<Equal
     needs
 }
 
-/// The loading constraints that the preparation of a class imposes, in order, but for such as always stand where those before
-/// them do: those of a loader with itself, and those of a method of the class with a loader that a step before named for that
-/// method. Where the next of the few has to stand, it is the next of `constraints_of` that does not yet; and all of these
-/// stand where the few do. Only memory refuses it (JVMS SE 8, 5.3.4, 5.4.2).
+/// What the methods of an interface impose, over these superinterfaces.
+fn interface_needs<T: Told>(
+    alloc: Global,
+    own: Relative<T>,
+    over: &[Arc<ClassRow<T>>],
+) -> Result<Vec<Equality>, AllocError>
+    ensures { IfOk result (λ v. needs_of v.items ≡ flat_map (near_declared own []
+        (map (λ r. r.value) over.now)) (bare own).file.methods) }
+{
+    let over = all_of(alloc, over)?;
+    // (the superclass of an interface is not asked)
+    let away = Away::unfiltered(alloc, Vec::new(alloc));
+    let nearby = Nearby { own, away, over };
+    let needs = nearby.declared(alloc);
+    drop(nearby);
+    needs
+}
+
+/// The few equalities of the class at a place. No lineage is made of an interface: those of interfaces over one another need
+/// not begin each other, and to make them all takes time in the square of their number.
+fn needs_at<T: Told>(
+    alloc: Global,
+    lineages: &mut Lineages<T>,
+    place: usize,
+    class: &ClassAt<T>,
+) -> Result<Vec<Equality>, AllocError>
+    requires class { class.now ≡ lined_at lineages.old place }
+    requires within { place ≤ length lineages.old.above }
+    ensures same { lineages.new ≡ lineages.old }
+    ensures needs { IfOk result (λ v. needs_of v.items ≡ fewer_constraints_of (kin_of class.now)) }
+{
+    let own = Relative::of(alloc, class.own())?;
+    if !own.is_interface() {
+        return match lineages.lineage_at(alloc, place)? {
+            None => unreachable!(),
+            Some(lineage) => class_needs(alloc, &lineage),
+        };
+    }
+    if takes_no_part(alloc, &own)? {
+        return Ok(Vec::new(alloc));
+    }
+    if has_own_over(class) {
+        return Ok(Vec::new(alloc));
+    }
+    let over = lineages.superinterfaces_at(alloc, place)?;
+    interface_needs(alloc, own, over.as_slice())
+}
+
+/// The loading constraints that the preparation of the class at a place of a lineage imposes, in order, but for such as always
+/// stand where those before them do: those of a loader with itself, and those of a method of the class with a loader that a
+/// step before named for that method. Where the next of the few has to stand, it is the next of `constraints_of` that does not
+/// yet; and all of these stand where the few do. Only memory refuses it (JVMS SE 8, 5.3.4, 5.4.2).
 pub fn fewer_constraints_of<T: Told>(
     alloc: Global,
-    lineage: &Lineage<T>,
+    lineages: &mut Lineages<T>,
+    place: usize,
 ) -> Result<Equalities<T>, AllocError>
-    ensures few { IfOk result (λ e. AreEnough (constraints_of (kin_of lineage.now))
-        (needs_of e.needs)) }
+    requires within { place ≤ length lineages.old.above }
+    ensures same { lineages.new ≡ lineages.old }
+    ensures few { IfOk result (λ e. AreEnough
+        (constraints_of (kin_of (lined_at lineages.old place))) (needs_of e.needs)) }
     ensures exactly { IfOk result (λ e. needs_of e.needs
-        ≡ fewer_constraints_of (kin_of lineage.now)) }
-    ensures origin { IfOk result (λ e. e.origin ≡ OfPreparation lineage.now) }
+        ≡ fewer_constraints_of (kin_of (lined_at lineages.old place))) }
+    ensures origin { IfOk result (λ e. e.origin ≡ OfPreparation (lined_at lineages.old place)) }
 {
-    let needs = fewer_needs(alloc, lineage)?;
-    Ok(Equalities::of_preparation(lineage.try_clone()?, needs))
+    let class = ClassAt::of(lineages.lineage(), place)?;
+    let needs = needs_at(alloc, lineages, place, &class)?;
+    Ok(Equalities::of_preparation(class, needs))
 }

@@ -1,7 +1,6 @@
 //! Loaders, each listed once (JVMS SE 8, 5.3.4, 5.4.2).
 
-ghost use Rattle.std.specs.Prelude.{◌≡◌, ◌==◌, ◌&&◌, ◌++◌, map, filter, flat_map, OnOk};
-ghost use Rattle.std.specs.List.{list_any};
+ghost use Rattle.std.specs.Prelude.{◌≡◌, ◌<◌, ◌&&◌, ◌++◌, ◌∷◌, [], ℕ, false, filter, flat_map, get_or, length, map, OnOk};
 ghost use Rattle.cl_model.specs.Preparation.{equals_of, takes_part};
 ghost use Rattle.cl_hierarchy.specs.Imposed.{needs_of};
 ghost use Rattle.cl_preparation.specs.Fewer.{is_new, loaders, others_after};
@@ -12,43 +11,114 @@ use crate::key::MethodKey;
 use crate::relative::Relative;
 use cl_model::{Equality, LoaderId, Told};
 use std::alloc::{AllocError, Global};
+use std::marker::Model;
 
-/// Whether a loader is among these.
-fn is_listed(listed: &[LoaderId], loader: LoaderId) -> bool
-    ensures { result ≡ list_any (λ b. b == loader) listed.now }
-{
-    listed.iter().any(|it| *it == loader)
+/// Loaders, each listed once, in order.
+pub(crate) struct Listed {
+    loaders: Vec<LoaderId>,
+    /// Of each loader by its number whether it is listed, so that it is not looked for; of those behind none is.
+    is_listed: Vec<bool>,
 }
 
-/// Whether a loader is another than the own one, and none of these.
-pub(crate) fn is_new(own: LoaderId, listed: &[LoaderId], loader: LoaderId) -> bool
-    ensures { result ≡ is_new own listed.now loader }
+impl Drop for Listed {
+    fn drop(self) {
+        let Listed {
+            loaders: _,
+            is_listed: _,
+        } = self;
+    }
+}
+
+impl Model for Listed {
+    ghost use Rattle.std.specs.Prelude.{List, ℕ};
+    ghost use Rattle.cl_preparation.specs.Listed.{AreMarked};
+
+    ghost Value = { List ℕ };
+
+    ghost view = { λ l. l.loaders.items };
+
+    ghost invariant = { λ l. AreMarked l.loaders.items l.is_listed.items };
+}
+
+/// Whether a place is marked; one behind the last is not.
+fn is_marked(marks: &[bool], place: usize) -> bool
+    ensures { result ≡ get_or marks.now place false }
 {
-    own != loader && !is_listed(listed, loader)
+    match marks.get(place) {
+        Some(is_marked) => *is_marked,
+        None => false,
+    }
+}
+
+/// Makes room for the mark of a place.
+fn widen(marks: &mut Vec<bool>, place: usize) -> Result<(), AllocError>
+    ensures same { (at : ℕ) → get_or marks.new.items at false ≡ get_or marks.old.items at false }
+    ensures within { OnOk result (place < length marks.new.items) }
+{
+    while marks.len() <= place {
+        marks.push(false)?;
+    }
+    Ok(())
+}
+
+impl Listed {
+    /// None is listed.
+    pub fn new(alloc: Global) -> Listed
+        ensures { result ≡ [] }
+    {
+        Listed {
+            loaders: Vec::new(alloc),
+            is_listed: Vec::new(alloc),
+        }
+    }
+
+    /// The loaders, in order.
+    pub fn as_slice(&self) -> &[LoaderId]
+        ensures { result.now ≡ self.now }
+    {
+        self.loaders.as_slice()
+    }
+
+    /// Whether a loader is another than the own one, and not listed.
+    pub fn is_new(&self, own: LoaderId, loader: LoaderId) -> bool
+        ensures { result ≡ is_new own self.now loader }
+    {
+        own != loader && !is_marked(self.is_listed.as_slice(), loader.0 as usize)
+    }
+
+    /// Lists a loader.
+    pub fn push(&mut self, loader: LoaderId) -> Result<(), AllocError>
+        ensures { OnOk result (self.new ≡ self.old ++ loader ∷ []) }
+    {
+        widen(&mut self.is_listed, loader.0 as usize)?;
+        self.loaders.push(loader)?;
+        self.is_listed[loader.0 as usize] = true;
+        Ok(())
+    }
 }
 
 /// Whether the loader of a class is new, and it declares a method with this key that takes part.
-fn adds<T: Told>(own: LoaderId, listed: &[LoaderId], key: &MethodKey, class: &Relative<T>) -> bool
+fn adds<T: Told>(own: LoaderId, listed: &Listed, key: &MethodKey, class: &Relative<T>) -> bool
     ensures { result ≡ (is_new own listed.now class.now.class.loader && takes_part key.now
         (bare class.now)) }
 {
     // first, since a look at its methods takes longer
-    is_new(own, listed, class.loader()) && class.takes_part(key)
+    listed.is_new(own, class.loader()) && class.takes_part(key)
 }
 
 /// Lists, once each, the other loaders of those of these classes that declare a method with this key which takes part.
 #[tactic(auto, using(crate::proofs::Nearby::listed_end))]
 pub(crate) fn list_others<T: Told>(
-    listed: &mut Vec<LoaderId>,
+    listed: &mut Listed,
     own: LoaderId,
     key: &MethodKey,
     classes: &[Relative<T>],
 ) -> Result<(), AllocError>
-    ensures { OnOk result (listed.new.items ≡ listed.old.items ++ others_after own
-        listed.old.items (loaders (filter (takes_part key.now) (map bare classes.now)))) }
+    ensures { OnOk result (listed.new ≡ listed.old ++ others_after own listed.old
+        (loaders (filter (takes_part key.now) (map bare classes.now)))) }
 {
     for class in classes {
-        if adds(own, listed.as_slice(), key, class) {
+        if adds(own, listed, key, class) {
             listed.push(class.loader())?;
         }
     }

@@ -1,12 +1,15 @@
 //! Whether superinterfaces add nothing to the few loading constraints of a preparation, told from the rows of a lineage in
 //! any order (JVMS SE 8, 5.4.2).
 
-ghost use Rattle.std.specs.Prelude.{◌≡◌, ◌≤◌, [], Some, false, true, length, map, take, IfOk, IfSome};
+ghost use Rattle.std.specs.Prelude.{◌≡◌, ◌≤◌, List, [], Some, false, true, length, map, take, IfOk, IfSome};
 ghost use Rattle.std.specs.List.{AllByRecursion, list_any};
-ghost use Rattle.cl_classfile.specs.Files.{file_of};
+ghost use Rattle.cl_classfile.specs.Files.{file_of, is_interface};
 ghost use Rattle.cl_model.specs.Classes.{same_class};
 ghost use Rattle.cl_model.specs.Lineages.{is_offered, superclasses};
+ghost use Rattle.cl_hierarchy.specs.Above.{AreOvers};
 ghost use Rattle.cl_hierarchy.specs.Lineages.{IsRowIn, kin_at, kin_of, others_of, rows_in};
+ghost use Rattle.cl_hierarchy.specs.Rows.{Rowed};
+ghost use Rattle.cl_preparation.specs.Fewer.{fewer_constraints_of};
 ghost use Rattle.cl_preparation.specs.Nearby.{AddAll};
 ghost use Rattle.cl_preparation.specs.Quiet.{is_heard, is_silent, names_other};
 ghost use Rattle.cl_preparation.specs.Relatives.{bare};
@@ -16,7 +19,7 @@ use crate::key::MethodKey;
 use crate::method::Method;
 use crate::relative::Relative;
 use crate::relatives::{has_none_over, superinterfaces_of};
-use cl_hierarchy::{ClassRow, Lineage, Overs};
+use cl_hierarchy::{ClassAt, ClassRow, Lineage, Overs};
 use cl_model::{Class, LoaderId, Told};
 use std::alloc::{AllocError, Global};
 use std::sync::Arc;
@@ -28,11 +31,12 @@ fn names_other<T: Told>(row: &ClassRow<T>, own: LoaderId) -> bool
     row.interface_places().iter().any(|place| own != *place)
 }
 
-/// Whether a class above that of a lineage may name a superinterface of another loader than this.
-fn may_name_other<T: Told>(lineage: &Lineage<T>, own: LoaderId) -> bool
-    ensures { result ≡ false → list_any (names_other own) lineage.now.above ≡ false }
+/// Whether one of the classes that name superinterfaces of these loaders may name one of another loader than this.
+fn may_name_other(overs: Overs, own: LoaderId) -> bool
+    ensures { (rows : List Rowed) → AreOvers overs rows → result ≡ false
+        → list_any (names_other own) rows ≡ false }
 {
-    match lineage.overs() {
+    match overs {
         Overs::None => false,
         Overs::One(loader) => own != loader,
         Overs::Several => true,
@@ -172,7 +176,17 @@ fn near_of<T: Told>(rows: &[Arc<ClassRow<T>>], own: LoaderId) -> &[Arc<ClassRow<
     &rows[..many]
 }
 
-/// Whether the superinterfaces of a class add nothing: all are of its loader, and where it is no interface, none of their
+/// Whether all superinterfaces of a class are of its loader, as far as that is told in constant time: an interface imposes
+/// nothing then (JVMS SE 8, 5.4.2).
+pub(crate) fn has_own_over<T: Told>(class: &ClassAt<T>) -> bool
+    ensures { result ≡ true → is_interface (file_of class.now.own.file) ≡ true
+        → [] ≡ fewer_constraints_of (kin_of class.now) }
+{
+    let own = class.own().class().loader;
+    !names_other(class.own(), own) && !may_name_other(class.overs(), own)
+}
+
+/// Whether the superinterfaces of a class, which is no interface, add nothing: all are of its loader, and none of their
 /// methods stands over one that is inherited of another loader. What is asked is which loaders defined the superinterfaces
 /// that are named, whether the rows are known to be unmixed, and else the rows of the own loader (JVMS SE 8, 5.4.2).
 fn are_quiet<T: Told>(
@@ -186,11 +200,8 @@ fn are_quiet<T: Told>(
     ensures { IfOk result (λ b. b ≡ true → AddAll lineage.now []) }
 {
     let own = lineage.own().class().loader;
-    if names_other(lineage.own(), own) || may_name_other(lineage, own) {
+    if names_other(lineage.own(), own) || may_name_other(lineage.overs(), own) {
         return Ok(false);
-    }
-    if lineage.own().file().is_interface() {
-        return Ok(true);
     }
     // all superclasses are of the own loader, and so is what is inherited
     if away.is_empty() {

@@ -1,6 +1,6 @@
 //! The loading constraints that the preparation of a class imposes (JVMS SE 8, 5.4.2).
 
-ghost use Rattle.std.specs.Prelude.{◌≡◌, ◌||◌, ◌++◌, [], if◌then◌else◌, true, map, flat_map, IfOk, OnOk};
+ghost use Rattle.std.specs.Prelude.{◌≡◌, ◌||◌, ◌++◌, [], if◌then◌else◌, false, true, map, flat_map, IfOk, OnOk};
 ghost use Rattle.std.specs.List.{list_any};
 ghost use Rattle.cl_classfile.specs.Files.{is_interface};
 ghost use Rattle.cl_model.specs.Lineages.{superclasses, superinterfaces};
@@ -16,7 +16,7 @@ use crate::key::MethodKey;
 use crate::method::Method;
 use crate::relative::{Relative, names_interfaces};
 use crate::walk::{push_above, push_taking};
-use cl_hierarchy::{ClassRow, Equalities, Lineage, Overs};
+use cl_hierarchy::{ClassAt, ClassRow, Equalities, Lineage, Overs};
 use cl_model::{Equality, Told};
 use std::alloc::{AllocError, Global};
 use std::marker::Model;
@@ -238,6 +238,15 @@ fn any_declared<T: Told>(own: &Relative<T>, methods: &[Method]) -> bool
     methods.iter().any(|method| own.takes_part(method.key()))
 }
 
+/// Whether no method that a class declares takes part in overriding (JVMS SE 8, 5.4.5).
+pub(crate) fn takes_no_part<T: Told>(alloc: Global, own: &Relative<T>) -> Result<bool, AllocError>
+    ensures { IfOk result (λ b. b ≡ true → list_any (λ m. takes_part m.key (bare own.now))
+        (bare own.now).file.methods ≡ false) }
+{
+    let methods = own.methods(alloc)?;
+    Ok(!any_declared(own, methods.as_slice()))
+}
+
 /// Whether a class imposes nothing, told without a look at what its superclasses declare: no method of its own takes part in
 /// overriding, and it is an interface or has no superinterfaces (JVMS SE 8, 5.4.2, 5.4.5).
 pub(crate) fn imposes_nothing<T: Told>(
@@ -248,8 +257,7 @@ pub(crate) fn imposes_nothing<T: Told>(
 {
     // whatever stands above, a class that declares such a method may impose something
     let own = Relative::of(alloc, lineage.own())?;
-    let methods = own.methods(alloc)?;
-    if any_declared(&own, methods.as_slice()) {
+    if !takes_no_part(alloc, &own)? {
         return Ok(false);
     }
     if own.is_interface() {
@@ -284,5 +292,5 @@ pub fn constraints_of<T: Told>(
     ensures origin { IfOk result (λ e. e.origin ≡ OfPreparation lineage.now) }
 {
     let needs = needs_over(alloc, lineage)?;
-    Ok(Equalities::of_preparation(lineage.try_clone()?, needs))
+    Ok(Equalities::of_preparation(ClassAt::last(lineage)?, needs))
 }

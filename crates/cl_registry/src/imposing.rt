@@ -7,6 +7,7 @@ ghost use Rattle.cl_classfile.specs.Files.{file_of};
 ghost use Rattle.cl_constraints.specs.Books.{Adds};
 ghost use Rattle.cl_findings.specs.Findings.{Decides};
 ghost use Rattle.cl_hierarchy.specs.Imposed.{equal_need, needs_of, sprung};
+ghost use Rattle.cl_hierarchy.specs.Lineages.{Lined};
 ghost use Rattle.cl_model.specs.Classes.{supers};
 ghost use Rattle.cl_model.specs.declared.event.Event.TheVariants as events;
 ghost use Rattle.cl_model.specs.declared.need.Need.TheVariants as needs;
@@ -22,9 +23,10 @@ use crate::met::{are_met, is_met, note};
 use crate::registry::{Registry, RegistryFault};
 use crate::rounds::to_come;
 use crate::tables::has;
+use cl_config::Config;
 use cl_constraints::{BookFault, ConstraintBook, GroupedBook, Refusal};
 use cl_findings::bring_lineages;
-use cl_hierarchy::{ClassRow, Equalities, Lineage, Origin, class_accessible};
+use cl_hierarchy::{ClassAt, ClassRow, Equalities, Lineage, Origin, class_accessible};
 use cl_model::{Class, Equality, Event, Need, Told};
 use cl_names::{Name, Seed};
 use indexmap::IndexSet;
@@ -186,16 +188,16 @@ impl<T: Told> Registry<T> {
         // brings what the registry keeps
         let _ = &self.config;
         bring_lineages(list);
-        let Origin::Preparation { lineage } = list.origin() else {
+        let Origin::Preparation { class } = list.origin() else {
             return Err(RegistryFault::Stray);
         };
-        if !self.is_ready(lineage, list.needs()) {
+        if !self.is_ready(class, list.needs()) {
             return Err(RegistryFault::Stray);
         }
-        if self.look_prepared(lineage.class()) {
+        if self.look_prepared(class.class()) {
             return Ok(());
         }
-        match self.prepare(alloc, lineage.class()) {
+        match self.prepare(alloc, class.class()) {
             Ok(()) => {}
             Err(fault) => return Err(fault),
         }
@@ -223,22 +225,22 @@ impl<T: Told> Registry<T> {
     {
         match origin {
             Origin::Reference { d, c, index: _ } => {
-                if !self.has_lineage(d) {
+                if !self.has_class(d.config(), d.class()) {
                     return false;
                 }
                 self.reaches(d, c)
             }
-            Origin::Preparation { lineage } => self.has_lineage(lineage),
+            Origin::Preparation { class } => self.has_class(class.config(), class.class()),
         }
     }
 
-    /// Whether a lineage is of this configuration, and its class is recorded by its loader (JVMS SE 8, 5.3).
-    fn has_lineage(&self, lineage: &Lineage<T>) -> bool
-        ensures stands { Decides result (IsStanding self.now lineage.now) }
+    /// Whether this is the configuration, and the class is recorded by its loader (JVMS SE 8, 5.3).
+    fn has_class(&self, config: &Config, class: &Class) -> bool
+        ensures stands { (l : Lined) → l.config ≡ config.now → l.own.class ≡ class.now
+            → Decides result (IsStanding self.now l) }
         ensures kept { IsKept T.told self.now }
     {
-        let class = lineage.class();
-        if !lineage.config().is_same(&self.config) {
+        if !config.is_same(&self.config) {
             return false;
         }
         has(&self.tables, class.loader, &class.name, class.loader)
@@ -260,15 +262,15 @@ impl<T: Told> Registry<T> {
         class_accessible(c.own(), d.class())
     }
 
-    /// Whether the class of a lineage may be prepared, whose preparation asks for these equalities.
-    fn is_ready(&self, lineage: &Lineage<T>, equalities: &[Equality]) -> bool
-        ensures ready { Decides result (IsReady self.now lineage.now (needs_of equalities.now)) }
+    /// Whether a class may be prepared, whose preparation asks for these equalities.
+    fn is_ready(&self, class: &ClassAt<T>, equalities: &[Equality]) -> bool
+        ensures ready { Decides result (IsReady self.now class.now (needs_of equalities.now)) }
         ensures kept { IsKept T.told self.now }
     {
-        if !self.has_lineage(lineage) {
+        if !self.has_class(class.config(), class.class()) {
             return false;
         }
-        if !self.supers_prepared(lineage.own()) {
+        if !self.supers_prepared(class.own()) {
             return false;
         }
         are_met(&self.book, self.met.as_slice(), equalities)

@@ -1,12 +1,14 @@
 -- A link goes on from the lineage of a class that is told from the one in hand.
-use Rattle.std.proofs.Common.{◌≡◌, ◌∙◌, ◌<◌, ◌≤◌, ◌+◌, ℕ, Option, length, sym, subst, arith}
+use Rattle.std.proofs.Common.{◌≡◌, ◌∙◌, ◌<◌, ◌≤◌, ◌+◌, ◌∷◌, [], ℕ, Option, length, length-append, sym, subst, arith}
 use Rattle.std.specs.List.{AllByRecursion}
 use Rattle.cl_model.specs.declared.class.Class.{Class}
 use Rattle.cl_model.specs.Content.{Content}
 use Rattle.cl_config.specs.Views.{Configured}
+use Rattle.cl_hierarchy.specs.ClassesAt.{lined_at}
 use Rattle.cl_hierarchy.specs.Fronts.{IsLineageAt}
-use Rattle.cl_hierarchy.specs.Lineages.{Lined, rows_in}
+use Rattle.cl_hierarchy.specs.Lineages.{IsInOrder, Lined, rows_in}
 use Rattle.cl_hierarchy.specs.Rows.{Rowed}
+use Rattle.cl_hierarchy.proofs.ClassesAt.{at_lineage}
 use Rattle.cl_hierarchy.proofs.Ends.{all_push}
 use Rattle.cl_hierarchy.proofs.PartLineages.{all_found}
 use Rattle.cl_registry.specs.Tables.{Shown}
@@ -51,6 +53,25 @@ part_leads told c k part f next =
     leads_by (chain_room k) (ChainTold k) next (one_turn_less (chain_left (behind k)))
     (fewer_calls told c (ChainTold k) k.goal.request 0 (chain_calls k.whole k.place) (chain_calls k.whole k.place + 1) (no_call (chain_calls k.whole k.place)))
     (λ x h. record { before = h; now = part_traced k.whole part k.place f x k.whole.own.class (chain_whole x k h) })
+
+-- ---- the class at the place of a chain
+
+pub within_above : {A : Type 0} (c : Configured) (k : Chain A) → IsChain c k → k.place ≤ length k.whole.above
+within_above c k chain =
+    let lt = chain.within in
+    let n = length-append k.whole.above (k.whole.own ∷ []) in
+    omega (arith, lt, n)
+
+module _ {A : Type 0} (c : Configured) (k : Chain A) (order : IsInOrder k.whole) (chain : IsChain c k) where
+  here : IsLineageAt k.whole k.place (lined_at k.whole k.place)
+  here = at_lineage k.whole k.place order (within_above c k chain)
+
+  pub at_of : IsOf c (class_in k.whole k.place) (lined_at k.whole k.place)
+  at_of = part_of k.whole (lined_at k.whole k.place) k.place here c k.goal.class.value.class chain.whole
+
+pub at_leads : {A : Type 0} {n : Next A} (told : Option Content) (c : Configured) (k : Chain A) → IsChain c k → IsInOrder k.whole → LeadsBy told c k.goal.q k.goal.request (listed_room k) (LineageTold k (lined_at k.whole k.place)) n
+    → LeadsBy told c k.goal.q k.goal.request (chain_room k) (ChainTold k) n
+at_leads told c k chain order next = part_leads told c k (lined_at k.whole k.place) (here c k order chain) next
 
 -- ---- a lineage that was surveyed is the same
 

@@ -3,6 +3,7 @@
 
 ghost use Rattle.std.specs.Option.{option_map};
 ghost use Rattle.std.specs.Prelude.{◌≡◌, ◌≤◌, Some, IfOk, length, slice_get, true};
+ghost use Rattle.cl_hierarchy.specs.ClassesAt.{lined_at};
 ghost use Rattle.cl_hierarchy.specs.Imposed.{OfPreparation};
 ghost use Rattle.cl_hierarchy.specs.Lineages.{rows_in};
 ghost use Rattle.cl_model.specs.Views.{need_of};
@@ -231,7 +232,7 @@ fn pass<T: Told>(alloc: Global, config: &Arc<Config>, chain: Chain<T>) -> Next<T
     )
 }
 
-/// The lineage of the class at the place of a chain comes next, told from that in hand.
+/// The loading constraints of the class at the place of a chain come next, told from the lineage in hand.
 fn trace<T: Told>(alloc: Global, config: &Arc<Config>, chain: Chain<T>) -> Next<T>
     requires chain { IsChain config.now.value chain }
     ensures leads { LeadsBy T.told config.now.value chain.goal.q chain.goal.request
@@ -239,15 +240,16 @@ fn trace<T: Told>(alloc: Global, config: &Arc<Config>, chain: Chain<T>) -> Next<
     ensures plain { IsPlain result.turn }
     ensures past { IsPast result.stage }
 {
+    // brings what the lineage keeps
+    let _ = chain.whole.lineage();
     let Chain {
         goal,
         mut whole,
         place: at,
     } = chain;
-    match whole.lineage_at(alloc, at) {
+    match list_at(alloc, &mut whole, at) {
         Err(_) => out_of_memory(goal.q, goal.request),
-        Ok(None) => unreachable!(),
-        Ok(Some(lineage)) => take_traced(
+        Ok(list) => take_listed(
             alloc,
             config,
             Chain {
@@ -255,45 +257,45 @@ fn trace<T: Told>(alloc: Global, config: &Arc<Config>, chain: Chain<T>) -> Next<
                 whole,
                 place: at,
             },
-            lineage,
+            list,
         ),
     }
 }
 
-/// The lineage of the class at the place of a chain came: its loading constraints come next.
-pub(crate) fn take_traced<T: Told>(
+/// Loading constraints of the class at a place that stand for all of them, to be shared.
+fn list_at<T: Told>(
+    alloc: Global,
+    whole: &mut Lineages<T>,
+    place: usize,
+) -> Result<Arc<Equalities<T>>, AllocError>
+    requires { place ≤ length whole.old.above }
+    ensures same { whole.new ≡ whole.old }
+    ensures origin { IfOk result (λ e. e.value.origin ≡ OfPreparation
+        (lined_at whole.old place)) }
+{
+    let list = fewer_constraints_of(alloc, whole, place)?;
+    Arc::new(alloc, list).map_err(|_| AllocError)
+}
+
+/// The loading constraints of the class at the place of a chain came: the first of them comes next.
+fn take_listed<T: Told>(
     alloc: Global,
     config: &Arc<Config>,
     chain: Chain<T>,
-    lineage: Lineage<T>,
+    list: Arc<Equalities<T>>,
 ) -> Next<T>
     requires chain { IsChain config.now.value chain }
-    requires lineage { IsOf config.now.value (class_in chain.whole chain.place)
-        lineage }
+    requires list { list.value.origin ≡ OfPreparation (lined_at chain.whole chain.place) }
     ensures leads { LeadsBy T.told config.now.value chain.goal.q chain.goal.request
-        (listed_room chain) (LineageTold chain lineage) result }
+        (listed_room chain) (LineageTold chain (lined_at chain.whole chain.place)) result }
     ensures plain { IsPlain result.turn }
     ensures past { IsPast result.stage }
 {
-    // brings what the lineage keeps
+    // brings what the lineage and the list keep, and that a `usize` counts its equalities
     let _ = chain.whole.lineage();
-    match list_of(alloc, &lineage) {
-        Err(_) => give_up(chain),
-        Ok(list) => {
-            // brings that a `usize` counts them, and what the list keeps
-            let _ = count_needs(&list);
-            bring_lineages(&list);
-            impose(alloc, config, chain, list, 0)
-        }
-    }
-}
-
-/// Loading constraints of a class that stand for all of them, to be shared.
-fn list_of<T: Told>(alloc: Global, lineage: &Lineage<T>) -> Result<Arc<Equalities<T>>, AllocError>
-    ensures { IfOk result (λ e. e.value.origin ≡ OfPreparation lineage.now) }
-{
-    let list = fewer_constraints_of(alloc, lineage)?;
-    Arc::new(alloc, list).map_err(|_| AllocError)
+    let _ = count_needs(&list);
+    bring_lineages(&list);
+    impose(alloc, config, chain, list, 0)
 }
 
 /// How many equalities a list has.

@@ -1,4 +1,4 @@
-use Rattle.std.proofs.Common.{rules}
+use Rattle.std.proofs.Common.{refl, rules}
 use Rattle.cl_model.specs.Preparation.{takes_part}
 use Rattle.cl_preparation.proofs.Nearby.{listed_more, listed_past, listed_step}
 use Rattle.cl_preparation.proofs.listed.list_others.Goals as goal
@@ -6,10 +6,10 @@ use Rattle.cl_preparation.proofs.listed.list_others.Goals.{then-adds+in_ok-push,
 
 pub loop-class-preserved : goal.loop-class-preserved
 loop-class-preserved g c =
-    listed_step (takes_part c.args.key.now) c.args.own c.loop-class.listed.items c.as_slice.result.now c.if-adds.listed.items _ c.args.classes.now c.loop-class.class-index c.class-item.result c.adds.result
-    c.loop-class-test.true c.class-item.is c.as_slice.ensures.value c.adds.ensures
+    listed_step (takes_part c.args.key.now) c.args.own c.loop-class.listed c.loop-class.listed c.if-adds.listed _ c.args.classes.now c.loop-class.class-index c.class-item.result c.adds.result
+    c.loop-class-test.true c.class-item.is refl c.adds.ensures
     (elim c.if-adds.branch [
-      | then-adds+in_ok-push w ↦ listed_more c.loop-class.listed.items c.if-adds.listed.items w.loader.result c.class-item.result c.adds.result w.if-adds.true w.loader.ensures (search rules)
-      | else-adds w ↦ listed_past c.loop-class.listed.items c.if-adds.listed.items c.class-item.result c.adds.result w.if-adds.false (search rules)
+      | then-adds+in_ok-push w ↦ listed_more c.loop-class.listed c.if-adds.listed w.loader.result c.class-item.result c.adds.result w.if-adds.true w.loader.ensures (search rules)
+      | else-adds w ↦ listed_past c.loop-class.listed c.if-adds.listed c.class-item.result c.adds.result w.if-adds.false (search rules)
     ])
     c.loop-class.invariant

@@ -5,4 +5,4 @@ use Rattle.cl_preparation.proofs.listed.list_others.Given as goal
 
 abbrev pub invariant-loop-class : goal.invariant-loop-class
 invariant-loop-class g l =
-    l.listed.items ++ still (takes_part l.key) l.own l.listed.items (drop l.class-index l.classes) ≡ l.initial.listed.items ++ still (takes_part l.key) l.own l.initial.listed.items l.classes
+    l.listed ++ still (takes_part l.key) l.own l.listed (drop l.class-index l.classes) ≡ l.initial.listed ++ still (takes_part l.key) l.own l.initial.listed l.classes

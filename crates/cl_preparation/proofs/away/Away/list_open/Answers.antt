@@ -1,4 +1,4 @@
-use Rattle.std.proofs.Common.{◌≡◌, ◌∙◌, ◌<◌, ℕ, List, Some, ap, rules, subst}
+use Rattle.std.proofs.Common.{◌≡◌, ◌∙◌, ◌<◌, ℕ, Some, ap, rules, subst}
 use Rattle.std.specs.Prelude.{slice_get}
 use Rattle.cl_model.specs.declared.class.Class.{Class}
 use Rattle.cl_hierarchy.specs.Rows.{Rowed}
@@ -13,17 +13,17 @@ loop-place-preserved g c =
     let within : c.loop-place.place < _ = subst (λ (n : ℕ). c.loop-place.place < n) c.len-place-end.ensures c.loop-place-test.true in
     let at : slice_get c.args.self.now c.loop-place.place ≡ Some c.index.result.now.now.value = row_in (λ r. r.now.value) c.self.inside.rows.items c.args.self.now c.loop-place.place c.index.result.now c.self.view_is within c.index.ensures in
     let le : c.class.result.now.loader ≡ c.index.result.now.now.value.class.loader = ap (λ (k : Class). k.loader) c.class.ensures.class ∙ ap (λ (r : Rowed). r.class.loader) c.deref.ensures in
-    let ne : c.is_new.result ≡ is_new c.args.own c.loop-place.listed.items c.class.result.now.loader = c.is_new.ensures ∙ ap (λ (xs : List ℕ). is_new c.args.own xs c.class.result.now.loader) c.as_slice.ensures.value in
+    let ne : c.is_new.result ≡ is_new c.args.own c.loop-place.listed c.class.result.now.loader = c.is_new.ensures in
     elim c.if-is_new.branch [
       | then-is_new+then-is_open+in_ok-push w ↦
-          listed_open (opens c.args.key.now) c.args.own c.args.self.now c.loop-place.place c.loop-place.listed.items _ c.loop-place.invariant c.index.result.now.now.value within at c.class.result.now.loader le c.is_new.result ne
-          c.if-is_new.listed.items w.is_open.result (w.is_open.ensures c.index.result.now.now.value at) w.if-is_new.true w.if-is_open.true (search rules)
+          listed_open (opens c.args.key.now) c.args.own c.args.self.now c.loop-place.place c.loop-place.listed _ c.loop-place.invariant c.index.result.now.now.value within at c.class.result.now.loader le c.is_new.result ne
+          c.if-is_new.listed w.is_open.result (w.is_open.ensures c.index.result.now.now.value at) w.if-is_new.true w.if-is_open.true (search rules)
       | else-is_new w ↦ elim w.else-is_new.branch [
         | else-is_new-via-then-is_new+else-is_open v ↦
-            listed_closed (opens c.args.key.now) c.args.own c.args.self.now c.loop-place.place c.loop-place.listed.items _ c.loop-place.invariant c.index.result.now.now.value within at c.class.result.now.loader le c.is_new.result ne
-            c.if-is_new.listed.items v.is_open.result (v.is_open.ensures c.index.result.now.now.value at) v.if-is_new.true v.if-is_open.false (search rules)
+            listed_closed (opens c.args.key.now) c.args.own c.args.self.now c.loop-place.place c.loop-place.listed _ c.loop-place.invariant c.index.result.now.now.value within at c.class.result.now.loader le c.is_new.result ne
+            c.if-is_new.listed v.is_open.result (v.is_open.ensures c.index.result.now.now.value at) v.if-is_new.true v.if-is_open.false (search rules)
         | else-is_new-via-else-is_new v ↦
-            listed_known (opens c.args.key.now) c.args.own c.args.self.now c.loop-place.place c.loop-place.listed.items _ c.loop-place.invariant c.index.result.now.now.value within at c.class.result.now.loader le c.is_new.result ne
-            c.if-is_new.listed.items v.if-is_new.false (search rules)
+            listed_known (opens c.args.key.now) c.args.own c.args.self.now c.loop-place.place c.loop-place.listed _ c.loop-place.invariant c.index.result.now.now.value within at c.class.result.now.loader le c.is_new.result ne
+            c.if-is_new.listed v.if-is_new.false (search rules)
       ]
     ]

@@ -5,4 +5,4 @@ use Rattle.cl_preparation.proofs.away.Away.list_open.Given as goal
 
 abbrev pub invariant-loop-place : goal.invariant-loop-place
 invariant-loop-place g l =
-    l.listed.items ++ still (opens l.key) l.own l.listed.items (drop l.place l.self) ≡ l.initial.listed.items ++ still (opens l.key) l.own l.initial.listed.items l.self
+    l.listed ++ still (opens l.key) l.own l.listed (drop l.place l.self) ≡ l.initial.listed ++ still (opens l.key) l.own l.initial.listed l.self

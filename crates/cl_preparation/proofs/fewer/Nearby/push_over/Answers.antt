@@ -16,7 +16,7 @@ returns-then-not-any_has_methods g c =
 pub of-inherited-requires : goal.of-inherited-requires
 of-inherited-requires g c =
     away_given (λ r. r.value) c.args.lineage.now c.args.self.now.own c.in_ok-rows.rows.items c.as_slice.result.now c.args.self.now.away c.args.self.now.over.items c.in_ok-above.above.items c.requires.near
-    c.as_slice.ensures.value c.in_ok-above.ensures c.in_ok-rows.ensures.superclasses c.in_ok-rows.ensures.rows
+    c.as_slice.ensures.value c.in_ok-above.ensures c.in_ok-rows.ensures.superclasses c.in_ok-rows.ensures.rows c.requires.class
     ∙ ap (λ (rs : List Rowed). away_from c.args.self.now.own.class.loader rs) (sym c.as_slice-2.ensures.value)
 
 pub returns : goal.returns

@@ -26,5 +26,6 @@ pub mod Stems
 pub mod SuperTables
 pub mod Tables
 pub mod Told
+pub mod UpLeft
 pub mod Tours
 pub mod Ways

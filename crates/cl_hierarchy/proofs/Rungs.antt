@@ -218,7 +218,7 @@ module _ (told : Option Content) (x : Laddered) (place : ℕ) (own : Rowed) (unm
   below : SupersBefore [] (rows_in here)
   below = whole here h.here.lined.order
 
-  own_kin : kin_under (kins x.rows) own ≡ kin_of here
+  pub own_kin : kin_under (kins x.rows) own ≡ kin_of here
   own_kin = placed_kin x.rows (take place x.rows) own ladder.ordered (place_of x.rows place own h.here.at)
 
   earlier_kin : (r : Rowed) → IsEarlier x.rows place r → kin_under (kins x.rows) r ≡ kin_at here r

@@ -1,5 +1,6 @@
 pub mod Above
 pub mod ClassesAt
+pub mod Climbs
 pub mod DraftReads
 pub mod Drafts
 pub mod Frames

@@ -112,7 +112,7 @@ impl<T: Told> Ladder<T> {
 
     /// Where the nearest superclass of another loader than this stands, where the superclass stands at a place, if there is
     /// one.
-    fn far_from(&self, own: LoaderId, up: Option<usize>) -> Option<usize>
+    pub fn far_from(&self, own: LoaderId, up: Option<usize>) -> Option<usize>
         ensures { (ks : List Kin) (bound : ℕ) → IsNearest self.now.rows None ks up
             → HasRung self.now.marks bound up
             → IsNearest self.now.rows (Some own) ks result × HasRung self.now.marks bound result }
@@ -222,7 +222,7 @@ impl<T: Told> Ladder<T> {
     }
 
     /// Where the nearest superclass of the class at a place stands, or the nearest of another loader than this.
-    fn next_above(&self, own: Option<LoaderId>, place: usize) -> Option<usize>
+    pub fn next_above(&self, own: Option<LoaderId>, place: usize) -> Option<usize>
         ensures nearest { (r : Rowed) (bound : ℕ) → slice_get self.now.rows place ≡ Some r
             → HasRung self.now.marks bound (Some place)
             → IsNearest self.now.rows own (above_in self.now.rows r) result

@@ -5,6 +5,7 @@
 pub mod above;
 pub mod access;
 pub mod class_at;
+pub mod climb;
 pub mod draft;
 pub mod equalities;
 pub mod fit;
@@ -30,6 +31,7 @@ mod way;
 
 pub use access::{class_accessible, same_package};
 pub use class_at::ClassAt;
+pub use climb::Climb;
 pub use draft::{Draft, DraftFault, DraftRefused, Unreadable};
 pub use equalities::{Equalities, Origin, equality};
 pub use fit::misfit;

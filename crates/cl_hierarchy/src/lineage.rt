@@ -6,6 +6,7 @@ ghost use Rattle.std.specs.Option.{option_map};
 ghost use Rattle.cl_model.specs.Lineages.{alone, first, is_subclass, once, superclasses, superinterfaces};
 ghost use Rattle.cl_hierarchy.specs.Above.{AreOvers, IsUnmixed};
 ghost use Rattle.cl_hierarchy.specs.ClassesAt.{lined_by, own_at};
+ghost use Rattle.cl_hierarchy.specs.Climbs.{kins_up};
 ghost use Rattle.cl_hierarchy.specs.Fronts.{IsFront, IsOnStem};
 ghost use Rattle.cl_hierarchy.specs.Ladders.{HasRung, IsCut, IsLadder};
 ghost use Rattle.cl_hierarchy.specs.Lineages.{IsLined, IsRowIn, field_order, kin_at, kin_of, others_of, rows_in};
@@ -14,6 +15,7 @@ ghost use Rattle.cl_hierarchy.specs.Trees.{kin_under, kins};
 
 use crate::above::superclass_row;
 use crate::access::is_same;
+use crate::climb::Climb;
 use crate::ladder::Ladder;
 use crate::over::Overs;
 use crate::row::ClassRow;
@@ -299,6 +301,13 @@ impl<T: Told> Lineage<T> {
     {
         let own = self.own.class().loader;
         self.ladder.superclasses_at(alloc, self.place, Some(own))
+    }
+
+    /// The way up through the superclasses, nearest first (JVMS SE 8, 4.1). Takes no memory, and constant time.
+    pub fn climb(&self) -> Climb<'_, T>
+        ensures { kins_up result ≡ superclasses (kin_of self.now) }
+    {
+        Climb::of(&self.ladder, self.place)
     }
 
     /// Whether the class has another as a proper superclass (JVMS SE 8, 4.1). Takes no memory; time linear in the rows.

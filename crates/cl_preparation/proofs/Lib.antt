@@ -7,6 +7,7 @@ pub mod Interfaces
 pub mod Keys
 pub mod Named
 pub mod Nearby
+pub mod Uphill
 pub mod Reached
 pub mod Silence
 pub mod Standing

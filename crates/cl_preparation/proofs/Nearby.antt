@@ -140,7 +140,7 @@ counted_bare only_open key l (r ∷ rs) =
 
 -- ---- the first half
 
-own_known : (own : ℕ) → is_new own [] own ≡ false
+pub own_known : (own : ℕ) → is_new own [] own ≡ false
 own_known own = rw (eq-eqb own own refl) refl
 
 up_near : (key : Key) (l : Lined) (away : List Rowed) (b : Bool) → takes_part key (kin_of l) ≡ true → (b ≡ false → map (kin_at l) away ≡ others_of (Some l.own.class.loader) (superclasses (kin_of l)))

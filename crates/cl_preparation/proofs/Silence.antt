@@ -39,7 +39,7 @@ pub is_off : (b : Bool) → not b ≡ true → b ≡ false
 is_off true e = absurd cc
 is_off false e = refl
 
-is_on : (b : Bool) → not b ≡ false → b ≡ true
+pub is_on : (b : Bool) → not b ≡ false → b ≡ true
 is_on true e = refl
 is_on false e = absurd cc
 

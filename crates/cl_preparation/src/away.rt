@@ -12,8 +12,8 @@ ghost use Rattle.cl_preparation.specs.Walks.{opens};
 use crate::filter::NameFilter;
 use crate::key::MethodKey;
 use crate::listed::Listed;
-use crate::method::{is_virtual, is_wide};
-use crate::relative::{flags_with, names_of};
+use crate::method::is_virtual;
+use crate::relative::{flags_with, is_open, names_of};
 use cl_hierarchy::ClassRow;
 use cl_model::{LoaderId, Told};
 use std::alloc::{AllocError, Global};
@@ -133,10 +133,7 @@ impl<'a, T: Told> Away<'a, T> {
         ensures { (r : Rowed) → slice_get self.now place ≡ Some r
             → result ≡ opens key.now (bare r) }
     {
-        match self.flags(place, key) {
-            Some(flags) => !key.is_special() && is_virtual(flags) && is_wide(flags),
-            None => false,
-        }
+        is_open(self.rows[place], self.names_at(place), key)
     }
 
     /// Whether one of them declares a method with this key that is neither private nor static.

@@ -14,11 +14,11 @@ ghost use Rattle.cl_preparation.specs.Relatives.{bare};
 ghost use Rattle.cl_preparation.specs.Walks.{opens};
 
 use crate::away::Away;
-use crate::described::Described;
 use crate::inherited::Inheritance;
 use crate::key::MethodKey;
-use crate::listed::{Listed, list_others, push_listed};
+use crate::listed::{Listed, list_others};
 use crate::method::Method;
+use crate::plain::{plain_needs, push_with};
 use crate::quiet::{has_own_over, over_of};
 use crate::relative::Relative;
 use crate::relatives::{all_of, has_none_over, imposes_nothing, takes_no_part};
@@ -27,7 +27,7 @@ use cl_model::{Equality, Told};
 use std::alloc::{AllocError, Global};
 use std::sync::Arc;
 
-/// So many methods are looked up in a class as soon as its filter would be made.
+/// Filters are made where a class declares more methods than this.
 const FEW_LOOKS: usize = 4;
 
 /// A class with what its methods are looked up in: its superclasses of other loaders than its own, nearest first, and its
@@ -57,12 +57,7 @@ fn away_of<T: Told>(alloc: Global, lineage: &Lineage<T>) -> Result<Away<'_, T>, 
 {
     // mostly one: all but java/lang/Object are of one loader
     let rows = lineage.superclasses_of_others(alloc)?;
-    // (the methods of superinterfaces are looked up in them too)
-    if lineage.own().file().methods().len() <= FEW_LOOKS && has_none_over(lineage) {
-        Ok(Away::unfiltered(alloc, rows))
-    } else {
-        Away::filtered(alloc, rows)
-    }
+    Away::filtered(alloc, rows)
 }
 
 /// Whether one of these classes declares methods.
@@ -129,18 +124,7 @@ impl<'a, T: Told> Nearby<'a, T> {
             return Ok(());
         }
         let loaders = self.loaders_over(alloc, key)?;
-        // most methods stand over none of another loader
-        if loaders.as_slice().is_empty() {
-            return Ok(());
-        }
-        let described = Described::of(alloc, key)?;
-        push_listed(
-            alloc,
-            needs,
-            &described,
-            self.own.loader(),
-            loaders.as_slice(),
-        )
+        push_with(alloc, needs, key, self.own.loader(), &loaders)
     }
 
     /// Adds what these methods of the class impose.
@@ -217,6 +201,10 @@ fn class_needs<T: Told>(alloc: Global, lineage: &Lineage<T>) -> Result<Vec<Equal
 {
     if imposes_nothing(alloc, lineage)? {
         return Ok(Vec::new(alloc));
+    }
+    // so few looks take less than a list of superclasses, and filters of their methods' names
+    if lineage.own().file().methods().len() <= FEW_LOOKS && has_none_over(lineage) {
+        return plain_needs(alloc, lineage);
     }
     let nearby = Nearby::of(alloc, lineage)?;
     let needs = nearby.needs(alloc, lineage);

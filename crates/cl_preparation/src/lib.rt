@@ -13,6 +13,7 @@ mod listed;
 mod method;
 mod overriding;
 mod packages;
+mod plain;
 mod quiet;
 mod relative;
 mod relatives;

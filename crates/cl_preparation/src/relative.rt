@@ -6,7 +6,7 @@ ghost use Rattle.cl_model.specs.Lineages.{is_offered, is_virtual, method_of};
 ghost use Rattle.cl_model.specs.Preparation.{takes_part};
 ghost use Rattle.cl_preparation.specs.Methods.{is_wide};
 ghost use Rattle.cl_preparation.specs.Relatives.{AreNames, bare, names_interfaces};
-ghost use Rattle.cl_preparation.specs.Walks.{is_closed, opening};
+ghost use Rattle.cl_preparation.specs.Walks.{is_closed, opening, opens};
 
 use crate::filter::NameFilter;
 use crate::key::MethodKey;
@@ -89,6 +89,22 @@ pub(crate) fn flags_with<T: Told>(
     match names {
         Some(names) if !names.passes(key.name()) => None,
         _ => flags(row, key.name(), key.descriptor()),
+    }
+}
+
+/// Whether a class declares a method with this key that takes part in overriding, and is public or protected (JVMS SE 8, 5.4.5).
+/// A filter, where there is one, is of its methods' names.
+pub(crate) fn is_open<T: Told>(
+    row: &ClassRow<T>,
+    names: Option<&NameFilter>,
+    key: &MethodKey,
+) -> bool
+    requires { AreNames (file_of row.now.file).methods (option_map (λ f. f.now) names) }
+    ensures { result ≡ opens key.now (bare row.now) }
+{
+    match flags_with(row, names, key) {
+        Some(flags) => !key.is_special() && is_virtual(flags) && is_wide(flags),
+        None => false,
     }
 }
 

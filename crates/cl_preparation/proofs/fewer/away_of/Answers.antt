@@ -4,23 +4,14 @@ use Rattle.cl_hierarchy.specs.Lineages.{others_of}
 use Rattle.cl_preparation.proofs.Constraints.{mapped_in, mapped_rows, ok_forth}
 use Rattle.cl_preparation.proofs.fewer.away_of.Goals as goal
 
-pub returns-then-has_none_over-clause-classes : goal.returns-then-has_none_over-clause-classes
-returns-then-has_none_over-clause-classes g c =
-    mapped_rows (λ r. r.now.value) (λ k. others_of (Some k.class.loader) (superclasses k)) c.args.lineage.now c.in_ok-rows.rows.items c.in_ok-rows.rows.items c.unfiltered.result
-    refl c.unfiltered.ensures c.in_ok-rows.ensures.superclasses
-
-pub returns-then-has_none_over-clause-rows : goal.returns-then-has_none_over-clause-rows
-returns-then-has_none_over-clause-rows g c =
-    mapped_in (λ r. r.now.value) c.args.lineage.now c.in_ok-rows.rows.items c.in_ok-rows.rows.items c.unfiltered.result refl c.unfiltered.ensures c.in_ok-rows.ensures.rows
-
-pub returns-else-methods-le-FEW_LOOKS-clause-classes : goal.returns-else-methods-le-FEW_LOOKS-clause-classes
-returns-else-methods-le-FEW_LOOKS-clause-classes g c =
+pub returns-clause-classes : goal.returns-clause-classes
+returns-clause-classes g c =
     ok_forth _ _ c.filtered.result
     (λ a made. mapped_rows (λ r. r.now.value) (λ k. others_of (Some k.class.loader) (superclasses k)) c.args.lineage.now c.in_ok-rows.rows.items c.in_ok-rows.rows.items a refl made c.in_ok-rows.ensures.superclasses)
     c.filtered.ensures
 
-pub returns-else-methods-le-FEW_LOOKS-clause-rows : goal.returns-else-methods-le-FEW_LOOKS-clause-rows
-returns-else-methods-le-FEW_LOOKS-clause-rows g c =
+pub returns-clause-rows : goal.returns-clause-rows
+returns-clause-rows g c =
     ok_forth _ _ c.filtered.result
     (λ a made. mapped_in (λ r. r.now.value) c.args.lineage.now c.in_ok-rows.rows.items c.in_ok-rows.rows.items a refl made c.in_ok-rows.ensures.rows)
     c.filtered.ensures

@@ -9,6 +9,7 @@
   ladder        60 diamonds of interfaces that each have the method which a class declares; it is linked and resolves it
   links         65,535 links of 20,000 classes of app, each over one of boot whose method it overrides
   repeated      800 classes of app over one another and over 800 of boot, each with one method; the last is linked
+  halves        the same, each with a method that no other has
   plain         5,000 classes over one another that declare nothing; the last is linked
   topped        the same, the first of which names a superinterface
   wide          a class of app over one of boot whose 20,000 methods it overrides, each of another signature; it is linked
@@ -24,8 +25,8 @@
   combs         comb, the lower half of one loader and the upper of another, each interface with one method
   blocks        2,000 classes over one another, in blocks of 63 loaders, each with the same method; the last is linked
 
-and of overriding, plain, topped, distinct, many, inherited, naming, interfaces, beside, comb, fringe, twos, combs, blocks and repeated
-one more with so many classes that it has about a megabyte, as plain_mb.
+and of overriding, plain, topped, distinct, many, inherited, naming, interfaces, beside, comb, fringe, twos, combs, blocks, repeated
+and halves one more with so many classes that it has about a megabyte, as plain_mb.
 
 Each is a bundle: classlink bundle < FILE.
 """
@@ -116,13 +117,21 @@ def links(path):
     bundle(path, TWO, classes, [f"link app p/C{n % MANY}\n" for n in range(65535)])
 
 
-def repeated(path, count=800):
+def in_halves(path, count, method):
     names = [f"p/B{n}" for n in range(count)] + [f"q/C{n}" for n in range(count)]
     classes = [TOP]
-    for name, above in zip(names, [OBJECT, *names]):
+    for place, (name, above) in enumerate(zip(names, [OBJECT, *names])):
         loader = "boot" if name.startswith("p/") else "app"
-        classes.append(with_lines(section(loader, name, above), ["method 0001 m (Lp/T;)V"]))
+        classes.append(with_lines(section(loader, name, above), [method(place)]))
     bundle(path, TWO, classes, [f"link app {names[-1]}\n"])
+
+
+def repeated(path, count=800):
+    in_halves(path, count, lambda _: "method 0001 m (Lp/T;)V")
+
+
+def halves(path, count=800):
+    in_halves(path, count, lambda place: f"method 0001 m{place} (Lp/T;)V")
 
 
 def plain(path, count=5000, top=()):
@@ -244,11 +253,11 @@ def blocks(path, count=2000):
 def main(folder):
     os.makedirs(folder, exist_ok=True)
     references = methods, settled, constraints, refused
-    chains = overriding, repeated, plain, topped, wide, distinct, many, inherited, naming, interfaces, beside, comb, fringe, twos, combs, blocks
+    chains = overriding, repeated, halves, plain, topped, wide, distinct, many, inherited, naming, interfaces, beside, comb, fringe, twos, combs, blocks
     for make in *references, ladder, links, *chains:
         make(f"{folder}/{make.__name__}")
     counts = {overriding: 15000, plain: 22000, topped: 22000, distinct: 15000, many: 1000, inherited: 14000, naming: 17000}
-    for make, count in {**counts, interfaces: 14000, beside: 7000, comb: 6500, fringe: 6500, twos: 11000, combs: 5000, blocks: 14000, repeated: 7500}.items():
+    for make, count in {**counts, interfaces: 14000, beside: 7000, comb: 6500, fringe: 6500, twos: 11000, combs: 5000, blocks: 14000, repeated: 7500, halves: 7000}.items():
         make(f"{folder}/{make.__name__}_mb", count)
 
 

@@ -1,5 +1,5 @@
 -- What is left of the way up from a class through its superclasses.
-use Rattle.std.proofs.Common.{◌≡◌, ◌∙◌, ◌≤◌, ◌+◌, ℕ, Bool, true, false, if◌then◌else◌, arith, List, [], ◌∷◌, ◌++◌, Option, Some, None, length, length-append, refl, sym, ap, subst}
+use Rattle.std.proofs.Common.{◌≡◌, ◌∙◌, ◌≤◌, ◌+◌, ℕ, Bool, true, false, if◌then◌else◌, arith, List, [], ◌∷◌, ◌++◌, Option, Some, None, length, drop, length-append, refl, sym, ap, subst}
 use Rattle.std.specs.Prelude.{filter, slice_get}
 use Rattle.std.proofs.lemmas.Option.{slice_get_within}
 use Rattle.cl_model.specs.Content.{Content}
@@ -69,13 +69,22 @@ upward_after (Tree c f sup ints others) [] k after e =
 upward_after (Tree c f sup ints others) (b ∷ before) k after e =
     upward_after sup before k after (rest_same (record { class = c; file = f; superclass = sup; interfaces = ints }) b (upward sup) (before ++ k ∷ after) e)
 
--- what is passed is of the loader
+drop_front : (xs ys : List Kin) → drop (length xs) (xs ++ ys) ≡ ys
+drop_front [] ys = refl
+drop_front (x ∷ xs) ys = drop_front xs ys
+
+drop_all : (xs : List Kin) → drop (length xs) xs ≡ []
+drop_all [] = refl
+drop_all (x ∷ xs) = drop_all xs
+
+-- what is passed stands first, and is of the loader
 pub record Passes (rows : List Rowed) (own : ℕ) (ks : List Kin) (o : Option ℕ) : Type 0 where
   pub others : others_of (Some own) (kins_left rows o) ≡ others_of (Some own) ks
   pub shorter : length (kins_left rows o) ≤ length ks
+  pub rest : (n : ℕ) × (kins_left rows o ≡ drop n ks)
 
 passes : (rows : List Rowed) (own : ℕ) (f : Forest) (o : Option ℕ) → IsNearest rows (Some own) (upward f) o → Passes rows own (upward f) o
-passes rows own f None h = record { others = sym h; shorter = omega arith }
+passes rows own f None h = record { others = sym h; shorter = omega arith; rest = (length (upward f), sym (drop_all (upward f))) }
 passes rows own f (Some place) h =
     let r = h.0 in
     let k = kin_under (kins rows) r in
@@ -91,6 +100,11 @@ passes rows own f (Some place) h =
           let l = ap (λ (xs : List Kin). length xs) left in
           let a = ap (λ (xs : List Kin). length xs) (upward_after f first.before k first.after first.split) in
           omega (arith, n, m, l, a);
+      rest = (
+        length first.before,
+        left ∙ ap (λ (xs : List Kin). k ∷ xs) (sym (upward_after f first.before k first.after first.split))
+            ∙ sym (drop_front first.before (k ∷ first.after)) ∙ ap (λ (xs : List Kin). drop (length first.before) xs) (sym first.split),
+      );
     }
 
 left_upward : (rows : List Rowed) (o : Option ℕ) (x : Option Rowed) → (f : Forest) × (kins_from rows x ≡ upward f)

@@ -5,7 +5,8 @@ use Rattle.cl_hierarchy.specs.Lineages.{Lined, row_of, rows_in}
 use Rattle.cl_hierarchy.specs.Rows.{Rowed}
 use Rattle.cl_hierarchy.specs.Trees.{kin_under, kins}
 
--- all that stands above a class, each class once, in the order of its lineage (5.3.5, 5.4)
+-- the lineage of a class but for itself: all that stands above it, each class once, in that order
+-- (5.3.5, 5.4)
 abbrev pub all_above : Kin → List Kin
 all_above k = once (postorder k.superclass ++ postorder k.interfaces)
 

@@ -31,14 +31,13 @@ pub record IsUpTo (c : Configured) (rows : List Rowed) (place : ℕ) (front : Li
 abbrev pub IsFront : Lined → ℕ → Lined → Type 0
 IsFront l place front = IsUpTo l.config (rows_in l) place front
 
--- the lineage of the class at a place of these rows: its rows are those of their classes among them
--- (5.3.5)
+-- a class at a place of these rows, and some of them as what stands above it (5.3.5)
 pub record IsLineageIn (c : Configured) (rows : List Rowed) (place : ℕ) (part : Lined)
     : Type 0 where
   pub config : part.config ≡ c
   pub own : slice_get rows place ≡ Some part.own
   pub above : AllByRecursion (IsRowIn rows) part.above
 
--- that of the class at a place of a lineage (5.3.5)
+-- the same of the rows of a lineage (5.3.5)
 abbrev pub IsLineageAt : Lined → ℕ → Lined → Type 0
 IsLineageAt l place part = IsLineageIn l.config (rows_in l) place part

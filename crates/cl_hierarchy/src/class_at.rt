@@ -14,8 +14,8 @@ use std::alloc::{AllocError, Global};
 use std::marker::Model;
 use std::sync::Arc;
 
-/// The class at a place of a lineage. It stands for its own lineage, whose rows are not told apart from those of the whole: that
-/// costs nothing, where a lineage of its own costs a tour.
+/// The class at a place of a lineage. It stands for the lineage of that class, of which no rows are listed: that costs nothing,
+/// where to list them costs a tour.
 pub struct ClassAt<T: Told> {
     whole: Lineage<T>,
     place: usize,
@@ -77,7 +77,7 @@ impl<T: Told> ClassAt<T> {
     }
 
     /// Which loaders defined the superinterfaces that the classes above the class name, in constant time: where classes beside
-    /// these name others, it may say `Several` (JVMS SE 8, 5.3.5, step 4).
+    /// these name others, it may say `One` or `Several` where these name none, or fewer (JVMS SE 8, 5.3.5, step 4).
     pub fn overs(&self) -> Overs
         ensures { AreOvers result self.now.above }
     {

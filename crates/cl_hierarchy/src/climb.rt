@@ -1,6 +1,6 @@
 //! The way up from a class through its superclasses (JVMS SE 8, 4.1).
 
-ghost use Rattle.std.specs.Prelude.{◌≡◌, ◌≤◌, ◌+◌, [], None, Some, IfSome, length, slice_get};
+ghost use Rattle.std.specs.Prelude.{◌≡◌, ◌≤◌, ◌+◌, [], ℕ, None, Some, IfSome, drop, length, slice_get};
 ghost use Rattle.cl_hierarchy.specs.Climbs.{IsTop, kins_up};
 ghost use Rattle.cl_hierarchy.specs.Ladders.{HasRung, IsLadder};
 ghost use Rattle.cl_hierarchy.specs.Lineages.{above_in, others_of};
@@ -52,6 +52,7 @@ impl<'a, T: Told> Climb<'a, T> {
     /// The row of the nearest superclass that is left, after which those above it are.
     pub fn next(&mut self) -> Option<&'a Arc<ClassRow<T>>>
         ensures none { result ≡ None → kins_up self.old ≡ [] }
+        ensures ended { result ≡ None → kins_up self.new ≡ [] }
         ensures some { IfSome result (λ r. IsTop (kins_up self.old) r.now.value
             (kins_up self.new)) }
     {
@@ -61,8 +62,9 @@ impl<'a, T: Told> Climb<'a, T> {
         Some(row)
     }
 
-    /// Passes those that stand next which this loader defined, in constant time.
+    /// Passes those that stand next which this loader defined, or fewer of them, in constant time.
     pub fn pass(&mut self, loader: LoaderId)
+        ensures rest { (n : ℕ) × (kins_up self.new ≡ drop n (kins_up self.old)) }
         ensures others { others_of (Some loader) (kins_up self.new)
             ≡ others_of (Some loader) (kins_up self.old) }
         ensures shorter { length (kins_up self.new) ≤ length (kins_up self.old) }

@@ -200,8 +200,7 @@ impl<T: Told> Lineage<T> {
     }
 
     /// The lineage of the class at a place, if the rows before it are known to be that: it is so for the class, and from
-    /// there for each superclass, and for the first superinterface of a class, where that has its superclass (JVMS SE 8,
-    /// 5.3.5, 5.4). Constant time; the rows are shared.
+    /// there for each superclass (JVMS SE 8, 5.3.5, 5.4). Constant time; the rows are shared.
     pub fn front(&self, place: usize) -> Result<Option<Lineage<T>>, AllocError>
         ensures front { IfOk result (λ o. IfSome o (λ l. IsFront self.now place l)) }
         ensures stem { IsOnStem self.now place → IfOk result (λ o. is_some o ≡ true) }

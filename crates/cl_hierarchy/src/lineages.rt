@@ -7,7 +7,7 @@ ghost use Rattle.cl_hierarchy.specs.Supers.{AreAllSupers};
 ghost use Rattle.cl_model.specs.Lineages.{superinterfaces};
 
 use crate::lineage::Lineage;
-use crate::place_tour::{rows_of, superinterface_places};
+use crate::place_tour::{rows_at, superinterface_places};
 use crate::row::ClassRow;
 use crate::supers::{Supers, supers_of_all};
 use cl_model::Told;
@@ -15,7 +15,7 @@ use std::alloc::{AllocError, Global};
 use std::marker::Model;
 use std::sync::Arc;
 
-/// A lineage of whose classes is asked one after another.
+/// A lineage whose classes are asked about, one after another.
 pub struct Lineages<T: Told> {
     whole: Lineage<T>,
     /// Where the direct supertypes of each class stand, once they were looked for.
@@ -48,7 +48,7 @@ impl<T: Told> Lineages<T> {
         Lineages { whole, table: None }
     }
 
-    /// The lineage of whose classes is asked.
+    /// The whole lineage.
     pub fn lineage(&self) -> &Lineage<T>
         ensures whole { result.now ≡ self.now }
         ensures kept { IsLined T.told self.now }
@@ -85,9 +85,9 @@ impl<T: Told> Lineages<T> {
         Ok(Some(lineage))
     }
 
-    /// The rows of all superinterfaces of the class at a place, each once at its first place, in time linear in these, in the
-    /// supertypes that they name, and, for a bit each, in all rows; all names are looked for once, by the first such call (JVMS SE
-    /// 8, 5.4.3.3).
+    /// The rows of all superinterfaces of the class at a place, each once at its first place, in time linear in its
+    /// superclasses and superinterfaces and the supertypes that they name, besides two marks for each row of the whole. The first
+    /// such call looks for the names of all rows, and later ones for none (JVMS SE 8, 5.4.3.3).
     pub fn superinterfaces_at(
         &mut self,
         alloc: Global,
@@ -106,6 +106,6 @@ impl<T: Told> Lineages<T> {
         let places = superinterface_places(alloc, rows, table.as_slice(), place);
         self.table = Some(table);
         let places = places?;
-        rows_of(alloc, rows, places.as_slice())
+        rows_at(alloc, rows, places.as_slice())
     }
 }

@@ -51,7 +51,7 @@ impl Model for PlaceTour {
     ghost view = { λ t. record { told = t.told.items; is_told = t.is_told.items; is_left = t.is_left.items; stack = t.stack.items } };
 }
 
-/// Whether a place is marked; what is no place is.
+/// Whether a place is marked; behind the last, true.
 fn is_marked(marks: &[bool], place: usize) -> bool
     ensures marked { IfSome (slice_get marks.now place) (λ b. result ≡ b) }
     ensures within { result ≡ false → place < length marks.now }
@@ -179,8 +179,8 @@ fn over_at(table: &[Supers], place: usize, at: usize) -> Option<usize>
     *table.get(place)?.over.get(at)?
 }
 
-/// The places of the rows of all superinterfaces of the class at a place, each once at its first place, in time linear in them
-/// and in the supertypes that they name, and in the number of all rows, of which a bit is set.
+/// The places of the rows of all superinterfaces of the class at a place, each once at its first place, in time linear in its
+/// superclasses and these and in the supertypes that they name, besides two marks for each of all rows.
 pub(crate) fn superinterface_places<T: Told>(
     alloc: Global,
     rows: &[Arc<ClassRow<T>>],
@@ -223,7 +223,7 @@ fn push_row<T: Told>(
 }
 
 /// The rows at places.
-pub(crate) fn rows_of<T: Told>(
+pub(crate) fn rows_at<T: Told>(
     alloc: Global,
     rows: &[Arc<ClassRow<T>>],
     places: &[usize],

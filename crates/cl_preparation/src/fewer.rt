@@ -27,11 +27,11 @@ use cl_model::{Equality, Told};
 use std::alloc::{AllocError, Global};
 use std::sync::Arc;
 
-/// Filters are made where a class declares more methods than this.
+/// For no more methods than this, a class without superinterfaces makes no list of its superclasses: each climbs.
 const FEW_LOOKS: usize = 4;
 
-/// A class with what its methods are looked up in: its superclasses of other loaders than its own, nearest first, and its
-/// superinterfaces in preorder, or none where these add nothing.
+/// A class with what its methods are looked up in: its superclasses of other loaders than its own, nearest first, of an
+/// interface none, and its superinterfaces in preorder, or none where these add nothing.
 struct Nearby<'a, T: Told> {
     own: Relative<T>,
     away: Away<'a, T>,

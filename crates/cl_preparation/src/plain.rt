@@ -20,8 +20,8 @@ use cl_hierarchy::{ClassRow, Lineage};
 use cl_model::{Equality, LoaderId, Told};
 use std::alloc::{AllocError, Global};
 
-/// Lists the loader of a superclass, where it is to be listed for a method with this key; and whether none of this loader is any
-/// more.
+/// Lists the loader of a superclass, where it is to be listed for a method with this key. True where no further superclass of this
+/// loader can add one.
 fn list_row<T: Told>(
     listed: &mut Listed,
     own: LoaderId,

@@ -176,8 +176,8 @@ fn near_of<T: Told>(rows: &[Arc<ClassRow<T>>], own: LoaderId) -> &[Arc<ClassRow<
     &rows[..many]
 }
 
-/// Whether all superinterfaces of a class are of its loader, as far as that is told in constant time: an interface imposes
-/// nothing then (JVMS SE 8, 5.4.2).
+/// Whether all superinterfaces of a class are of its loader, as far as that is told with no look but at the loaders of those that
+/// it names itself: an interface imposes nothing then (JVMS SE 8, 5.4.2).
 pub(crate) fn has_own_over<T: Told>(class: &ClassAt<T>) -> bool
     ensures { result ≡ true → is_interface (file_of class.now.own.file) ≡ true
         → [] ≡ fewer_constraints_of (kin_of class.now) }

@@ -234,7 +234,7 @@ impl<T: Told> Registry<T> {
         }
     }
 
-    /// Whether this is the configuration, and the class is recorded by its loader (JVMS SE 8, 5.3).
+    /// Whether this is the registry's configuration, and the class's loader has recorded it (JVMS SE 8, 5.3).
     fn has_class(&self, config: &Config, class: &Class) -> bool
         ensures stands { (l : Lined) → l.config ≡ config.now → l.own.class ≡ class.now
             → Decides result (IsStanding self.now l) }

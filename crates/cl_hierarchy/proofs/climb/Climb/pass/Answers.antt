@@ -1,4 +1,4 @@
-use Rattle.std.proofs.Common.{◌≡◌, ◌≤◌, Some, length, subst}
+use Rattle.std.proofs.Common.{◌≡◌, ◌≤◌, ℕ, Some, drop, length, subst}
 use Rattle.cl_hierarchy.specs.Climbs.{Climbing, kins_left, kins_up}
 use Rattle.cl_hierarchy.specs.Lineages.{others_of}
 use Rattle.cl_hierarchy.proofs.UpLeft.{left_nearest, left_passes}
@@ -28,3 +28,12 @@ returns-clause-shorter g c =
     let far = c.far_from-self-inside.result in
     subst (λ (y : Climbing). length (kins_left x.rows far) ≤ length (kins_up y)) c.self.view_is
     (left_passes x.rows c.args.loader next far (c.far_from-self-inside.ensures (kins_left x.rows next) c.self.invariant.0 near c.self.invariant.1).0).shorter
+
+pub returns-clause-rest : goal.returns-clause-rest
+returns-clause-rest g c =
+    let x = c.self.inside.ladder.now in
+    let next = c.self.inside.next in
+    let near = left_nearest g.T.Told.told x c.self.invariant.0 next c.rows.ensures.kept c.self.invariant.1 in
+    let far = c.far_from-self-inside.result in
+    subst (λ (y : Climbing). (n : ℕ) × (kins_left x.rows far ≡ drop n (kins_up y))) c.self.view_is
+    (left_passes x.rows c.args.loader next far (c.far_from-self-inside.ensures (kins_left x.rows next) c.self.invariant.0 near c.self.invariant.1).0).rest

@@ -24,7 +24,7 @@ returns-clause-superinterfaces g c =
     let le = subst (λ (x : Lined). place ≤ length x.above) (sym c.self.view_is) c.requires.within in
     let at = (at_lineage l place order le).own in
     let are = subst (λ (rs : List Rowed). AreSuperinterfacesAt rs (own_at l place) c.in_ok-places.places.items) same (c.in_ok-places.ensures (own_at l place) (ap (λ (rs : List Rowed). slice_get rs place) same ∙ at)) in
-    IfOk-weaker c.rows_of.result _ _ (λ v is.
+    IfOk-weaker c.rows_at.result _ _ (λ v is.
     subst (λ (x : Lined). map (λ r. kin_at x r.value) v.items ≡ superinterfaces (kin_of (lined_at x place))) c.self.view_is
     (over_told (λ r. r.value) l place c.in_ok-places.places.items v.items order are
-    (is ∙ ap (λ (rs : List Rowed). rows_at rs c.as_slice-2.result.now) same ∙ ap (λ ps. rows_at (rows_in l) ps) c.as_slice-2.ensures.value))) c.rows_of.ensures
+    (is ∙ ap (λ (rs : List Rowed). rows_at rs c.as_slice-2.result.now) same ∙ ap (λ ps. rows_at (rows_in l) ps) c.as_slice-2.ensures.value))) c.rows_at.ensures

@@ -3,7 +3,7 @@ use Rattle.std.specs.Prelude.{option_to_list, slice_get}
 use Rattle.cl_hierarchy.specs.PlaceTours.{rows_at}
 use Rattle.cl_hierarchy.specs.Rows.{Rowed}
 use Rattle.cl_hierarchy.proofs.PlaceTours.{place_read, rows_next}
-use Rattle.cl_hierarchy.proofs.place_tour.rows_of.Goals as goal
+use Rattle.cl_hierarchy.proofs.place_tour.rows_at.Goals as goal
 
 pub loop-place-preserved : goal.loop-place-preserved
 loop-place-preserved g c =

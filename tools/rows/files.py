@@ -115,6 +115,16 @@ def of_members(rows):
                 members = [Member(n, *indices) for n, indices in zip((0x0001, 0x0010, 0), chosen)]
                 ask(rows, CLASS.changed(more=twice, **{part: members}), FINE if len(seen) == count else F8)
     ask(rows, CLASS.changed(more=twice, fields=[Member(1, 5, 7)], methods=[Member(1, 5, 9)]), FINE)
+    rows.about("Many members: x0 to x17 at 5 to 22, x0 again at 23, I, ()V, J and ()I at 24 to 27.")
+    many = [utf8(b"x%d" % n) for n in range(18)] + [utf8(t) for t in (b"x0", b"I", b"()V", b"J", b"()I")]
+    for part, descriptor, other in (("fields", 24, 26), ("methods", 25, 27)):
+        for count in (16, 17, 18):
+            each = [Member(1, 5 + n, descriptor) for n in range(count)]
+            ask(rows, CLASS.changed(more=many, **{part: each}), FINE)
+            for place, twin in ((1, 5), (count - 1, 5), (count - 1, 23), (count - 1, count + 3)):
+                for named, answer in ((descriptor, F8), (other, FINE)):
+                    members = each[:place] + [Member(1, twin, named)] + each[place + 1:]
+                    ask(rows, CLASS.changed(more=many, **{part: members}), answer)
 
 
 # p/A, java/lang/Object, p/B, an array, a long. Of each class the index, and behind it that of its text.

@@ -10,6 +10,8 @@
   links         65,535 links of 20,000 classes of app, each over one of boot whose method it overrides
   repeated      800 classes of app over one another and over 800 of boot, each with one method; the last is linked
   halves        the same, each with a method that no other has
+  crowned       halves, the first class of which names an interface with a method that none of them has
+  fans          1,000 classes of app over one another, the first of which names 1,000 interfaces of boot, all with the same method
   plain         5,000 classes over one another that declare nothing; the last is linked
   topped        the same, the first of which names a superinterface
   wide          a class of app over one of boot whose 20,000 methods it overrides, each of another signature; it is linked
@@ -25,8 +27,8 @@
   combs         comb, the lower half of one loader and the upper of another, each interface with one method
   blocks        2,000 classes over one another, in blocks of 63 loaders, each with the same method; the last is linked
 
-and of overriding, plain, topped, distinct, many, inherited, naming, interfaces, beside, comb, fringe, twos, combs, blocks, repeated
-and halves one more with so many classes that it has about a megabyte, as plain_mb.
+and of overriding, plain, topped, distinct, many, inherited, naming, interfaces, beside, comb, fringe, twos, combs, blocks, repeated,
+halves, crowned and fans one more with so many classes that it has about a megabyte, as plain_mb.
 
 Each is a bundle: classlink bundle < FILE.
 """
@@ -117,12 +119,13 @@ def links(path):
     bundle(path, TWO, classes, [f"link app p/C{n % MANY}\n" for n in range(65535)])
 
 
-def in_halves(path, count, method):
+def in_halves(path, count, method, crown=()):
     names = [f"p/B{n}" for n in range(count)] + [f"q/C{n}" for n in range(count)]
-    classes = [TOP]
+    classes = [TOP, *(with_lines(section("boot", name, flags="0601"), ["method 0401 z ()V"]) for name in crown)]
     for place, (name, above) in enumerate(zip(names, [OBJECT, *names])):
         loader = "boot" if name.startswith("p/") else "app"
-        classes.append(with_lines(section(loader, name, above), [method(place)]))
+        over = crown if place == 0 else ()
+        classes.append(with_lines(section(loader, name, above, interfaces=over), [method(place)]))
     bundle(path, TWO, classes, [f"link app {names[-1]}\n"])
 
 
@@ -132,6 +135,19 @@ def repeated(path, count=800):
 
 def halves(path, count=800):
     in_halves(path, count, lambda place: f"method 0001 m{place} (Lp/T;)V")
+
+
+def crowned(path, count=800):
+    in_halves(path, count, lambda place: f"method 0001 m{place} (Lp/T;)V", ["p/I"])
+
+
+def fans(path, count=1000):
+    over = [f"p/I{n}" for n in range(count)]
+    classes = [TOP, *(with_lines(section("boot", name, flags="0601"), ["method 0401 m ()V"]) for name in over)]
+    names = [f"q/C{n}" for n in range(count)]
+    for name, above in zip(names, [OBJECT, *names]):
+        classes.append(with_lines(section("app", name, above, interfaces=over if above == OBJECT else ()), ["method 0001 m ()V"]))
+    bundle(path, TWO, classes, [f"link app {names[-1]}\n"])
 
 
 def plain(path, count=5000, top=()):
@@ -253,11 +269,12 @@ def blocks(path, count=2000):
 def main(folder):
     os.makedirs(folder, exist_ok=True)
     references = methods, settled, constraints, refused
-    chains = overriding, repeated, halves, plain, topped, wide, distinct, many, inherited, naming, interfaces, beside, comb, fringe, twos, combs, blocks
+    chains = overriding, repeated, halves, crowned, fans, plain, topped, wide, distinct, many, inherited, naming, interfaces, beside, comb, fringe, twos, combs, blocks
     for make in *references, ladder, links, *chains:
         make(f"{folder}/{make.__name__}")
     counts = {overriding: 15000, plain: 22000, topped: 22000, distinct: 15000, many: 1000, inherited: 14000, naming: 17000}
-    for make, count in {**counts, interfaces: 14000, beside: 7000, comb: 6500, fringe: 6500, twos: 11000, combs: 5000, blocks: 14000, repeated: 7500, halves: 7000}.items():
+    for make, count in {**counts, interfaces: 14000, beside: 7000, comb: 6500, fringe: 6500, twos: 11000, combs: 5000, blocks: 14000, repeated: 7500, halves: 7000,
+        crowned: 7000, fans: 6700}.items():
         make(f"{folder}/{make.__name__}_mb", count)
 
 

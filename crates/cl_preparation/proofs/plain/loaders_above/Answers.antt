@@ -1,4 +1,4 @@
-use Rattle.std.proofs.Common.{◌≡◌, ◌∙◌, ◌++◌, ℕ, Some, ap, subst, sym}
+use Rattle.std.proofs.Common.{◌≡◌, ◌∙◌, ◌++◌, ℕ, ap, subst, sym}
 use Rattle.cl_model.specs.declared.class.Class.{Class}
 use Rattle.cl_hierarchy.specs.Climbs.{IsTop, kins_up}
 use Rattle.cl_hierarchy.specs.Rows.{Rowed}

@@ -1,4 +1,4 @@
-use Rattle.std.proofs.Common.{◌≡◌, ◌∙◌, ap, subst, sym}
+use Rattle.std.proofs.Common.{◌∙◌, ap, subst, sym}
 use Rattle.cl_hierarchy.specs.ClassesAt.{lined_at}
 use Rattle.cl_hierarchy.specs.Imposed.{OfPreparation}
 use Rattle.cl_hierarchy.specs.Lineages.{IsInOrder, Lined}

@@ -29,22 +29,30 @@ use Rattle.cl_hierarchy.proofs.Cuts.{first_same, rest_same}
 
 -- ---- the loops that list loaders
 
--- the loaders that are still to be listed
+-- the loaders that are still to be listed, of classes of the tree
+abbrev pub still_of : (Kin → Bool) → ℕ → List ℕ → List Kin → List ℕ
+still_of test own listed ks = others_after own listed (loaders (filter test ks))
+
+-- the same of rows
 abbrev pub still : (Kin → Bool) → ℕ → List ℕ → List Rowed → List ℕ
-still test own listed rs = others_after own listed (loaders (filter test (map bare rs)))
+still test own listed rs = still_of test own listed (map bare rs)
+
+pub kin_listed : (test : Kin → Bool) (own : ℕ) (listed after : List ℕ) (k : Kin) (ks : List Kin) (new part : Bool) → is_new own listed k.class.loader ≡ new → test k ≡ part
+    → after ≡ listed ++ (if new && part then k.class.loader ∷ [] else []) → after ++ still_of test own after ks ≡ listed ++ still_of test own listed (k ∷ ks)
+kin_listed test own listed after k ks new false ne te more =
+    ap (λ (xs : List ℕ). xs ++ still_of test own xs ks) (more ∙ nothing_if new) ∙ rw te refl
+  where
+    nothing_if : (b : Bool) → listed ++ (if b && false then k.class.loader ∷ [] else []) ≡ listed
+    nothing_if true = append-nil listed
+    nothing_if false = append-nil listed
+kin_listed test own listed after k ks false true ne te more =
+    ap (λ (xs : List ℕ). xs ++ still_of test own xs ks) (more ∙ append-nil listed) ∙ rw te (rw ne refl)
+kin_listed test own listed after k ks true true ne te more =
+    ap (λ (xs : List ℕ). xs ++ still_of test own xs ks) more ∙ rw te (rw ne (append_assoc listed (k.class.loader ∷ []) (still_of test own (listed ++ k.class.loader ∷ []) ks)))
 
 one_listed : (test : Kin → Bool) (own : ℕ) (listed after : List ℕ) (r : Rowed) (rs : List Rowed) (new part : Bool) → is_new own listed r.class.loader ≡ new → test (bare r) ≡ part
     → after ≡ listed ++ (if new && part then r.class.loader ∷ [] else []) → after ++ still test own after rs ≡ listed ++ still test own listed (r ∷ rs)
-one_listed test own listed after r rs new false ne te more =
-    ap (λ (xs : List ℕ). xs ++ still test own xs rs) (more ∙ nothing_if new) ∙ rw te refl
-  where
-    nothing_if : (b : Bool) → listed ++ (if b && false then r.class.loader ∷ [] else []) ≡ listed
-    nothing_if true = append-nil listed
-    nothing_if false = append-nil listed
-one_listed test own listed after r rs false true ne te more =
-    ap (λ (xs : List ℕ). xs ++ still test own xs rs) (more ∙ append-nil listed) ∙ rw te (rw ne refl)
-one_listed test own listed after r rs true true ne te more =
-    ap (λ (xs : List ℕ). xs ++ still test own xs rs) more ∙ rw te (rw ne (append_assoc listed (r.class.loader ∷ []) (still test own (listed ++ r.class.loader ∷ []) rs)))
+one_listed test own listed after r rs = kin_listed test own listed after (bare r) (map bare rs)
 
 -- a class is looked at: its loader is listed or not
 pub listed_step : (test : Kin → Bool) (own : ℕ) (listed xs after total : List ℕ) (rows : List Rowed) (i : ℕ) (r : Rowed) (b : Bool) → i < length rows → r ≡ get_or rows i r → xs ≡ listed
@@ -69,10 +77,6 @@ pub listed_end : (test : Kin → Bool) (own : ℕ) (listed total : List ℕ) (ro
 listed_end test own listed total rows e = sym (append-nil listed) ∙ ap (λ (rs : List Rowed). listed ++ still test own listed rs) (sym (drop_all rows)) ∙ e
 
 -- ---- the classes of other loaders
-
--- the loaders that are still to be listed, of classes of the tree
-abbrev still_of : (Kin → Bool) → ℕ → List ℕ → List Kin → List ℕ
-still_of test own listed ks = others_after own listed (loaders (filter test ks))
 
 away_step : (test : Kin → Bool) (own : ℕ) (listed : List ℕ) (k : Kin) (ks : List Kin) (same part new : Bool) → (own == k.class.loader) ≡ same → test k ≡ part → is_new own listed k.class.loader ≡ new
     → ((before : List ℕ) → still_of test own before (others_of (Some own) ks) ≡ still_of test own before ks) → still_of test own listed (others_of (Some own) (k ∷ ks)) ≡ still_of test own listed (k ∷ ks)

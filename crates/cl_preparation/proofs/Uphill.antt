@@ -1,5 +1,5 @@
 -- The few equalities of a class without superinterfaces, told on the way up through its superclasses.
-use Rattle.std.proofs.Common.{◌≡◌, ◌∙◌, ◌<◌, ◌≤◌, ℕ, Bool, true, false, ◌&&◌, ◌||◌, not, if◌then◌else◌, List, [], ◌∷◌, ◌++◌, append-nil, append_assoc, arith, filter, length, refl, ap, sym}
+use Rattle.std.proofs.Common.{◌≡◌, ◌∙◌, ◌<◌, ◌≤◌, ℕ, Bool, true, false, ◌&&◌, ◌||◌, not, if◌then◌else◌, List, [], ◌∷◌, ◌++◌, append-nil, arith, filter, length, refl, ap, sym}
 use Rattle.std.specs.Prelude.{◌==◌, Some, flat_map}
 use Rattle.std.specs.List.{list_any}
 use Rattle.std.proofs.lemmas.Bool.{eqb-true}
@@ -14,29 +14,12 @@ use Rattle.cl_hierarchy.specs.Trees.{kin_under}
 use Rattle.cl_preparation.specs.Fewer.{by_superinterfaces, fewer_constraints_of, fewer_declared, fewer_inherited, is_new, loaders, loaders_over, others_after}
 use Rattle.cl_preparation.specs.Relatives.{bare}
 use Rattle.cl_preparation.specs.Walks.{opens}
-use Rattle.cl_preparation.proofs.Nearby.{own_known}
+use Rattle.cl_preparation.proofs.Nearby.{kin_listed, own_known, still_of}
 use Rattle.cl_preparation.proofs.Reached.{overridden_is_walked}
 use Rattle.cl_preparation.proofs.Silence.{is_on}
 use Rattle.cl_preparation.proofs.Thinned.{open_enough}
 
--- the loaders that are still to be listed, of classes of the tree
-abbrev pub still_of : (Kin → Bool) → ℕ → List ℕ → List Kin → List ℕ
-still_of test own listed ks = others_after own listed (loaders (filter test ks))
-
 -- ---- a superclass is looked at
-
-kin_listed : (test : Kin → Bool) (own : ℕ) (listed after : List ℕ) (k : Kin) (ks : List Kin) (new part : Bool) → is_new own listed k.class.loader ≡ new → test k ≡ part
-    → after ≡ listed ++ (if new && part then k.class.loader ∷ [] else []) → after ++ still_of test own after ks ≡ listed ++ still_of test own listed (k ∷ ks)
-kin_listed test own listed after k ks new false ne te more =
-    ap (λ (xs : List ℕ). xs ++ still_of test own xs ks) (more ∙ nothing_if new) ∙ rw te refl
-  where
-    nothing_if : (b : Bool) → listed ++ (if b && false then k.class.loader ∷ [] else []) ≡ listed
-    nothing_if true = append-nil listed
-    nothing_if false = append-nil listed
-kin_listed test own listed after k ks false true ne te more =
-    ap (λ (xs : List ℕ). xs ++ still_of test own xs ks) (more ∙ append-nil listed) ∙ rw te (rw ne refl)
-kin_listed test own listed after k ks true true ne te more =
-    ap (λ (xs : List ℕ). xs ++ still_of test own xs ks) more ∙ rw te (rw ne (append_assoc listed (k.class.loader ∷ []) (still_of test own (listed ++ k.class.loader ∷ []) ks)))
 
 pub row_listed : (key : Key) (own : ℕ) (listed after : List ℕ) (r : Rowed) (old new : List Kin) → IsTop old r new
     → after ≡ listed ++ (if is_new own listed r.class.loader && opens key (bare r) then r.class.loader ∷ [] else [])

@@ -4,7 +4,8 @@ use Rattle.cl_hierarchy.specs.Climbs.{IsTop, kins_up}
 use Rattle.cl_hierarchy.specs.Rows.{Rowed}
 use Rattle.cl_preparation.specs.Fewer.{is_new}
 use Rattle.cl_preparation.specs.Walks.{opens}
-use Rattle.cl_preparation.proofs.Uphill.{row_listed, row_passed, still_of}
+use Rattle.cl_preparation.proofs.Uphill.{row_listed, row_passed}
+use Rattle.cl_preparation.proofs.Nearby.{still_of}
 use Rattle.cl_preparation.proofs.plain.loaders_above.Goals as goal
 
 pub loop-row-preserved-then-branch : goal.loop-row-preserved-then-branch

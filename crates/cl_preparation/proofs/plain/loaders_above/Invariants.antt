@@ -3,7 +3,7 @@ use Rattle.cl_model.specs.Lineages.{superclasses}
 use Rattle.cl_hierarchy.specs.Climbs.{kins_up}
 use Rattle.cl_hierarchy.specs.Lineages.{kin_of}
 use Rattle.cl_preparation.specs.Walks.{opens}
-use Rattle.cl_preparation.proofs.Uphill.{still_of}
+use Rattle.cl_preparation.proofs.Nearby.{still_of}
 use Rattle.cl_preparation.proofs.plain.loaders_above.Given as goal
 
 abbrev pub invariant-loop-row : goal.invariant-loop-row

@@ -1,5 +1,7 @@
 //! Lineages, and what is accessible to whom: what stands above a class, each ancestor once and supertypes first.
 
+ghost use Rattle.std.specs.Prelude.{◌≤◌, length};
+
 use crate::access::{MEMBERS, PACKAGES, SEEN, ask_members, ask_seen};
 use crate::given::{Told, record, registry};
 use cl_config::Config;
@@ -259,6 +261,24 @@ fn stands_at(
 }
 
 /// Whether just these are the superinterfaces of the class at a place of a lineage, in this order.
+fn are_over(
+    alloc: Global,
+    whole: &Lineages<Untold>,
+    place: usize,
+    wanted: &[u16],
+) -> Result<bool, AllocError>
+    requires { place ≤ length whole.now.above }
+{
+    let rows = whole.superinterfaces_at(alloc, place)?;
+    for (row, class) in rows.iter().zip(wanted) {
+        if row.class().name != name_of(alloc, *class)? {
+            return Ok(false);
+        }
+    }
+    Ok(rows.len() == wanted.len())
+}
+
+/// The same, asked before the supertypes of all classes were looked for and after.
 fn has_over_at(
     alloc: Global,
     tables: &Registry<Untold>,
@@ -271,12 +291,11 @@ fn has_over_at(
         drop(whole);
         return Ok(false);
     }
-    let found = whole.superinterfaces_at(alloc, place);
+    let before = are_over(alloc, &whole, place, wanted)?;
+    whole.find_supers(alloc)?;
+    let after = are_over(alloc, &whole, place, wanted)?;
     drop(whole);
-    let rows = found?;
-    let is_so = are_of(alloc, rows.as_slice(), wanted);
-    drop(rows);
-    is_so
+    Ok(before && after)
 }
 
 pub const CLASS: u16 = 0x21;

@@ -23,7 +23,7 @@ use Rattle.cl_hierarchy.specs.Supers.{HasRow}
 use Rattle.cl_hierarchy.specs.Trees.{SupersBefore, forest, in_front, interface_places, interfaces_in, kin_named, kin_under, kins, kins_after, superclass_in}
 use Rattle.cl_hierarchy.specs.declared.over.Overs.{Overs}
 use Rattle.cl_hierarchy.proofs.Ancestry.{keeps, kins_push, no_row, row_kin}
-use Rattle.cl_hierarchy.proofs.Climbs.{before_split, placed_kin, row_more}
+use Rattle.cl_hierarchy.proofs.Climbs.{all_back, before_split, placed_kin, row_more}
 use Rattle.cl_hierarchy.proofs.Ends.{all_pop, all_push, at_length}
 use Rattle.cl_hierarchy.proofs.Inside.{kins_inside, whole}
 use Rattle.cl_hierarchy.proofs.PartLineages.{all_found, part_lined, part_own, rows_all}
@@ -318,6 +318,13 @@ over_told v l place ps items order are same =
     sym (map-map (kin_at l) v items) ∙ ap (λ (rs : List Rowed). map (kin_at l) rs) same
     ∙ sym (kins_inside l order (λ (r : Rowed). r) (rows_at rows ps) (places_in rows ps (whole l order) are.within))
     ∙ are.order ∙ ap (λ (k : Kin). superinterfaces k) (sym (at_kin l place order))
+
+-- and these are rows of the lineage
+pub over_rows : {A : Type 0} (v : A → Rowed) (l : Lined) (place : ℕ) (ps : List ℕ) (items : List A) → IsInOrder l → AreSuperinterfacesAt (rows_in l) (own_at l place) ps → map v items ≡ rows_at (rows_in l) ps
+    → AllByRecursion (λ x. IsRowIn (rows_in l) (v x)) items
+over_rows v l place ps items order are same =
+    let rows = rows_in l in
+    all_back v (IsRowIn rows) items (subst (λ (rs : List Rowed). AllByRecursion (IsRowIn rows) rs) (sym same) (places_in rows ps (whole l order) are.within))
 
 -- ---- what stands above a class stands before it
 

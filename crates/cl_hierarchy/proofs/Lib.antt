@@ -10,6 +10,7 @@ pub mod Frames
 pub mod Inside
 pub mod Ladders
 pub mod Namings
+pub mod OversAt
 pub mod PartLineages
 pub mod Paths
 pub mod PlaceTours

@@ -455,9 +455,8 @@ rows_next rows ps n p e =
     one None = refl
     one (Some r) = refl
 
-pub row_pushed : {A : Type 0} (v : A → Rowed) (rows : List Rowed) (old new : List A) (p : ℕ) (x clone : A) → new ≡ old ++ clone ∷ [] → v clone ≡ v x → slice_get rows p ≡ Some (v x) → map v new ≡ map v old ++ option_to_list (slice_get rows p)
-row_pushed v rows old new p x clone e same at =
-    ap (λ xs. map v xs) e ∙ map_push v old clone ∙ ap (λ (r : Rowed). map v old ++ r ∷ []) same ∙ ap (λ (o : Option Rowed). map v old ++ option_to_list o) (sym at)
+pub row_pushed : {A : Type 0} (v : A → Rowed) (rows : List Rowed) (old new : List A) (p : ℕ) (x : A) → new ≡ old ++ x ∷ [] → slice_get rows p ≡ Some (v x) → map v new ≡ map v old ++ option_to_list (slice_get rows p)
+row_pushed v rows old new p x e at = ap (λ xs. map v xs) e ∙ map_push v old x ∙ ap (λ (o : Option Rowed). map v old ++ option_to_list o) (sym at)
 
 no_row_at : {A : Type 0} (v : A → Rowed) (xs : List A) (p : ℕ) → slice_get xs p ≡ None → slice_get (map v xs) p ≡ None
 no_row_at v [] zero e = refl
@@ -465,8 +464,8 @@ no_row_at v [] (suc p) e = refl
 no_row_at v (x ∷ xs) zero e = absurd cc
 no_row_at v (x ∷ xs) (suc p) e = no_row_at v xs p e
 
-pub no_row_pushed : {A : Type 0} (v : A → Rowed) (xs old : List A) (p : ℕ) → slice_get xs p ≡ None → map v old ≡ map v old ++ option_to_list (slice_get (map v xs) p)
-no_row_pushed v xs old p none = sym (ap (λ (o : Option Rowed). map v old ++ option_to_list o) (no_row_at v xs p none) ∙ append-nil (map v old))
+pub no_row_pushed : {A B : Type 0} (v : A → Rowed) (w : B → Rowed) (xs : List A) (old : List B) (p : ℕ) → slice_get xs p ≡ None → map w old ≡ map w old ++ option_to_list (slice_get (map v xs) p)
+no_row_pushed v w xs old p none = sym (ap (λ (o : Option Rowed). map w old ++ option_to_list o) (no_row_at v xs p none) ∙ append-nil (map w old))
 
 pub place_read : (ps : List ℕ) (n d : ℕ) → n < length ps → slice_get ps n ≡ Some (get_or ps n d)
 place_read [] n d lt = absurd (omega (arith, lt))

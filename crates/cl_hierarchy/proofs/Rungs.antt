@@ -1,13 +1,12 @@
 -- A lineage that stands on a rung of its ladder.
 use Rattle.std.proofs.Common.{◌≡◌, ◌∙◌, ◌<◌, ◌≤◌, ◌+◌, ℕ, zero, suc, Bool, true, false, not, arith, List, [], ◌∷◌, ◌++◌, Option, Some, None, Result, Ok, Err, IfOk, append_assoc, length, length-append, map, take, refl, sym, ap, subst}
-use Rattle.std.specs.Prelude.{Contains, IfSome, is_some, slice_get}
+use Rattle.std.specs.Prelude.{IfSome, is_some, slice_get}
 use Rattle.std.specs.List.{AllByRecursion}
-use Rattle.std.proofs.lemmas.List.Elements.{Contains-append_left}
 use Rattle.std.proofs.lemmas.Option.{slice_get_within, same_Some}
 use Rattle.cl_model.specs.Content.{Content}
 use Rattle.cl_model.specs.Lineages.{Kin, superclasses}
 use Rattle.cl_config.specs.Views.{Configured}
-use Rattle.cl_hierarchy.specs.Above.{AreOvers, IsUnmixed}
+use Rattle.cl_hierarchy.specs.Above.{AreOvers}
 use Rattle.cl_hierarchy.specs.Fronts.{Climb, IsFront, IsOnStem}
 use Rattle.cl_hierarchy.specs.Ladders.{AreOthers, HasRung, IsCut, IsEarlier, IsLadder, IsMadeOf, IsOnLadder, IsRungAt, Laddered}
 use Rattle.cl_hierarchy.specs.Lineages.{IsLined, IsRowIn, Lined, kin_at, kin_of, others_of, rows_in}
@@ -57,20 +56,6 @@ all_of [] (suc n) h = refl
 all_of (x ∷ xs) zero h = absurd (omega (arith, h))
 all_of (x ∷ xs) (suc n) h = ap (λ ys. x ∷ ys) (all_of xs n (let k : length xs ≤ n = omega (arith, h) in k))
 
--- fewer of them begin more of them
-record Begins {A : Type 0} (xs ys : List A) : Type 0 where
-  rest : List A
-  split : ys ≡ xs ++ rest
-
-begins : {A : Type 0} (xs : List A) (m n : ℕ) → m ≤ n → Begins (take m xs) (take n xs)
-begins [] zero zero h = record { rest = []; split = refl }
-begins [] zero (suc n) h = record { rest = []; split = refl }
-begins [] (suc m) zero h = record { rest = []; split = refl }
-begins [] (suc m) (suc n) h = record { rest = []; split = refl }
-begins (x ∷ xs) zero n h = record { rest = take n (x ∷ xs); split = refl }
-begins (x ∷ xs) (suc m) zero h = absurd (omega (arith, h))
-begins (x ∷ xs) (suc m) (suc n) h = let more = begins xs m n (let k : m ≤ n = omega (arith, h) in k) in record { rest = more.rest; split = ap (λ ys. x ∷ ys) more.split }
-
 get_fewer : {A : Type 0} (xs : List A) (n i : ℕ) (x : A) → slice_get (take n xs) i ≡ Some x → slice_get xs i ≡ Some x
 get_fewer [] zero i x e = absurd cc
 get_fewer [] (suc n) i x e = absurd cc
@@ -108,7 +93,7 @@ several (r ∷ rows) = (tt, several rows)
 
 -- ---- a lineage on its ladder
 
-module _ (told : Option Content) (x : Laddered) (place : ℕ) (own : Rowed) (unmixed : ℕ) (h : IsOnLadder told x place own unmixed) where
+module _ (told : Option Content) (x : Laddered) (place : ℕ) (own : Rowed) (h : IsOnLadder told x place own) where
   abbrev lineage : Lined
   lineage = record { config = x.config; above = take place x.rows; own = own }
 
@@ -117,35 +102,6 @@ module _ (told : Option Content) (x : Laddered) (place : ℕ) (own : Rowed) (unm
 
   pub above_many : length (take place x.rows) ≡ place
   above_many = take_many x.rows place (let within = slice_get_within x.rows place own h.here.at in omega (arith, within))
-
-  pub is_unmixed : place < unmixed → IsUnmixed (rows_in lineage)
-  is_unmixed lt = λ r j c inr_ inj inc.
-      h.unmixed_are r j c (wider r inr_) (wider j inj) (wider c inc)
-    where
-      more : Begins (take (suc place) x.rows) (take unmixed x.rows)
-      more = begins x.rows (suc place) unmixed (let le : suc place ≤ unmixed = omega (arith, lt) in le)
-
-      wider : (r : Rowed) → Contains (rows_in lineage) r → Contains (take unmixed x.rows) r
-      wider r i =
-          subst (λ (rs : List Rowed). Contains rs r) (sym more.split)
-          (Contains-append_left (take (suc place) x.rows) more.rest r (subst (λ (rs : List Rowed). Contains rs r) (sym rows_are) i))
-
-  -- so many rows, but no more than there are
-  pub unmixed_all : (many : ℕ) → place < many → IsUnmixed (take many (rows_in lineage)) → IsUnmixed (take (place + 1) x.rows)
-  unmixed_all many lt is =
-      subst (λ (n : ℕ). IsUnmixed (take n x.rows)) (let e : suc place ≡ place + 1 = omega arith in e) (
-      subst (λ (rs : List Rowed). IsUnmixed rs) (all_of (rows_in lineage) many few ∙ sym rows_are) is)
-    where
-      few : length (rows_in lineage) ≤ many
-      few =
-          let n = length-append (take place x.rows) (own ∷ []) in
-          let m = above_many in
-          omega (arith, n, m, lt)
-
-  pub unmixed_some : (many : ℕ) → many ≤ place → IsUnmixed (take many (rows_in lineage)) → IsUnmixed (take many x.rows)
-  unmixed_some many le is =
-      subst (λ (rs : List Rowed). IsUnmixed rs)
-      (ap (λ (rs : List Rowed). take many rs) (sym rows_are) ∙ fewer x.rows many (suc place) (let k : many ≤ suc place = omega (arith, le) in k)) is
 
   -- what is known of the rows before a place of the ladder is so of those of the lineage
   pub overs_so : (p : ℕ) (o : Overs) → p ≤ place → AreOvers o (take p x.rows) → AreOvers o (take p (rows_in lineage))
@@ -165,15 +121,15 @@ module _ (told : Option Content) (x : Laddered) (place : ℕ) (own : Rowed) (unm
       let j = on.many in
       omega (arith, n, m, k, l, j)
 
-module _ (told : Option Content) (x : Laddered) (place : ℕ) (own : Rowed) (unmixed : ℕ) (h : IsOnLadder told x place own unmixed) (ladder : IsLadder told x) where
+module _ (told : Option Content) (x : Laddered) (place : ℕ) (own : Rowed) (h : IsOnLadder told x place own) (ladder : IsLadder told x) where
   abbrev here : Lined
   here = record { config = x.config; above = take place x.rows; own = own }
 
   rows_here : take (suc place) x.rows ≡ rows_in here
-  rows_here = rows_are told x place own unmixed h
+  rows_here = rows_are told x place own h
 
   many_here : length (take place x.rows) ≡ place
-  many_here = above_many told x place own unmixed h
+  many_here = above_many told x place own h
 
   -- ---- fronts
 
@@ -253,19 +209,11 @@ module _ (told : Option Content) (x : Laddered) (place : ℕ) (own : Rowed) (unm
   others_rows items v by (Err e) is = tt
   others_rows items v by (Ok f) is = all_in v (items f) is.rows_are
 
--- of none all is so
-pub unmixed_none : (rows : List Rowed) → IsUnmixed (take 0 rows)
-unmixed_none rows = subst (λ (rs : List Rowed). IsUnmixed rs) (sym (none_of rows)) (λ r j c inr_. absurd (nothing r inr_))
-  where
-    nothing : (r : Rowed) → Contains [] r → ⊥
-    nothing r i = absurd (let lt = i.1 in omega (arith, lt))
-
 -- what stands up to a rung is a lineage
-pub rung_on : (told : Option Content) (x : Laddered) (place : ℕ) (r : Rowed) (g : Rung) (unmixed : ℕ) → IsLadder told x → slice_get x.rows place ≡ Some r → IsRungAt x.marks place g → IsUnmixed (take unmixed x.rows) → IsOnLadder told x place r unmixed
-rung_on told x place r g unmixed ladder at is are = record {
+pub rung_on : (told : Option Content) (x : Laddered) (place : ℕ) (r : Rowed) (g : Rung) → IsLadder told x → slice_get x.rows place ≡ Some r → IsRungAt x.marks place g → IsOnLadder told x place r
+rung_on told x place r g ladder at is = record {
   here = record { at = at; lined = (rung_fact told x place r g ladder at is).lined };
   rung = (omega arith, (g, is));
-  unmixed_are = are;
 }
 
 -- ---- the same of what lies behind it in memory
@@ -280,9 +228,9 @@ rung_found marks place (Some g) b is meant h = (g, h)
 
 -- made of the rows of a lineage, it stands on the last rung
 pub made_on : (told : Option Content) (config : Configured) (above : List Rowed) (own : Rowed) (x : Laddered) (n : ℕ) → IsMadeOf config above own x → n ≡ length above → IsLined told (record { config = config; above = above; own = own })
-    → IsOnLadder told x n own 0
+    → IsOnLadder told x n own
 made_on told config above own x n m is h =
-    subst (λ (k : ℕ). IsOnLadder told x k own 0) (sym is) (record {
+    subst (λ (k : ℕ). IsOnLadder told x k own) (sym is) (record {
       here = record {
         at = ap (λ (rs : List Rowed). slice_get rs (length above)) m.rows ∙ at_length above [] own;
         lined =
@@ -290,7 +238,6 @@ made_on told config above own x n m is h =
             (subst (λ (rs : List Rowed). IsLined told (record { config = config; above = rs; own = own })) (sym (up_to m.rows)) h);
       };
       rung = m.rung;
-      unmixed_are = unmixed_none x.rows;
     })
   where
     up_to : x.rows ≡ above ++ own ∷ [] → take (length above) x.rows ≡ above

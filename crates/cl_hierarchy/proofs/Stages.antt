@@ -57,7 +57,7 @@ module _ (rows : List Rowed) (ordered : SupersBefore [] rows) where
   row_is : (c : Class) (x : Rowed) → row_of rows c ≡ Some x → IsRowIn rows x
   row_is c x e = ap (λ (y : Class). row_of rows y) (row_kin [] rows c x ordered e).same ∙ e
 
-  kin_is : (c : Class) (x : Rowed) → row_of rows c ≡ Some x → kin_named known c ≡ Some (kin_under known x)
+  pub kin_is : (c : Class) (x : Rowed) → row_of rows c ≡ Some x → kin_named known c ≡ Some (kin_under known x)
   kin_is c x e = (row_kin [] rows c x ordered e).kin
 
   up_stops : (o : Order) (c : Class) (x : Option Rowed) → row_of rows c ≡ x → stops_left o known (upwards_of o x) ≡ stops o (forest known (c ∷ [])) (wants_up o)

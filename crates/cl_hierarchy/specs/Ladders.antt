@@ -5,7 +5,7 @@ use Rattle.std.specs.List.{AllByRecursion}
 use Rattle.cl_model.specs.Content.{Content}
 use Rattle.cl_model.specs.Lineages.{Kin}
 use Rattle.cl_config.specs.Views.{Configured}
-use Rattle.cl_hierarchy.specs.Above.{AreOvers, IsUnmixed}
+use Rattle.cl_hierarchy.specs.Above.{AreOvers}
 use Rattle.cl_hierarchy.specs.Fronts.{IsUpTo}
 use Rattle.cl_hierarchy.specs.Lineages.{IsLined, Lined, above_in, others_of}
 use Rattle.cl_hierarchy.specs.Rows.{Rowed}
@@ -75,13 +75,11 @@ pub record IsLadder (told : Option Content) (x : Laddered) : Type 0 where
   pub few : length x.marks ≤ length x.rows
   pub marks : AreMarks told x
 
--- what a lineage keeps: it is one, its class stands on a rung, and so many of all rows are unmixed
--- (5.3.5, 5.4.2)
+-- what a lineage keeps: it is one, and its class stands on a rung (5.3.5)
 pub record IsOnLadder (told : Option Content) (x : Laddered) (place : ℕ) (own : Rowed)
-    (unmixed : ℕ) : Type 0 where
+    : Type 0 where
   pub here : IsLinedAt told x.config x.rows place own
   pub rung : HasRung x.marks (place + 1) (Some place)
-  pub unmixed_are : IsUnmixed (take unmixed x.rows)
 
 -- all rows up to a place of a ladder (5.3.5)
 abbrev pub IsCut : Laddered → ℕ → Lined → Type 0

@@ -9,6 +9,7 @@ pub mod Imposed
 pub mod Kept
 pub mod Ladders
 pub mod Lineages
+pub mod OversAt
 pub mod Paths
 pub mod PlaceTours
 pub mod Places

@@ -4,7 +4,7 @@ ghost use Rattle.std.specs.Prelude.{◌≡◌, ℕ, Some, is_some, map, take, tr
 ghost use Rattle.std.specs.List.{AllByRecursion};
 ghost use Rattle.std.specs.Option.{option_map};
 ghost use Rattle.cl_model.specs.Lineages.{alone, first, is_subclass, once, superclasses, superinterfaces};
-ghost use Rattle.cl_hierarchy.specs.Above.{AreOvers, IsUnmixed};
+ghost use Rattle.cl_hierarchy.specs.Above.{AreOvers};
 ghost use Rattle.cl_hierarchy.specs.ClassesAt.{lined_by, own_at};
 ghost use Rattle.cl_hierarchy.specs.Climbs.{kins_up};
 ghost use Rattle.cl_hierarchy.specs.Fronts.{IsFront, IsOnStem};
@@ -35,8 +35,6 @@ pub struct Lineage<T: Told> {
     own: Arc<ClassRow<T>>,
     /// Where the class's row stands among those of the ladder; those before it are the rows above the class.
     place: usize,
-    /// So many of the ladder's rows, from the first, are known to be unmixed.
-    unmixed: usize,
 }
 
 impl<T: Told> Drop for Lineage<T> {
@@ -45,7 +43,6 @@ impl<T: Told> Drop for Lineage<T> {
             ladder: _,
             own: _,
             place: _,
-            unmixed: _,
         } = self;
     }
 }
@@ -59,7 +56,7 @@ impl<T: Told> Model for Lineage<T> {
 
     ghost view = { λ l. record { config = l.ladder.value.config; above = take l.place l.ladder.value.rows; own = l.own.value } };
 
-    ghost invariant = { λ l. IsOnLadder T.told l.ladder.value l.place l.own.value l.unmixed };
+    ghost invariant = { λ l. IsOnLadder T.told l.ladder.value l.place l.own.value };
 }
 
 /// Whether `of` is a superclass of the class of this row. The rows of all these are among `rows`.
@@ -112,21 +109,14 @@ impl<T: Told> Lineage<T> {
         let place = above.len();
         let ladder = Ladder::of(alloc, config, above, &own)?;
         let ladder = share(alloc, ladder)?;
-        Ok(Lineage {
-            ladder,
-            own,
-            place,
-            unmixed: 0,
-        })
+        Ok(Lineage { ladder, own, place })
     }
 
-    /// The lineage up to a place of a ladder, of which so many rows, from the first, are unmixed: if it has a rung there.
+    /// The lineage up to a place of a ladder, if it has a rung there.
     pub(crate) fn on_ladder(
         ladder: &Arc<Ladder<T>>,
         place: usize,
-        unmixed: usize,
     ) -> Result<Option<Lineage<T>>, AllocError>
-        requires { IsUnmixed (take unmixed ladder.now.value.rows) }
         ensures cut { IfOk result (λ o. IfSome o (IsCut ladder.now.value place)) }
         ensures some { (bound : ℕ) → HasRung ladder.now.value.marks bound (Some place)
             → IfOk result (λ o. is_some o ≡ true) }
@@ -140,12 +130,7 @@ impl<T: Told> Lineage<T> {
         };
         let own = Arc::try_clone(own)?;
         let ladder = Arc::try_clone(ladder)?;
-        Ok(Some(Lineage {
-            ladder,
-            own,
-            place,
-            unmixed,
-        }))
+        Ok(Some(Lineage { ladder, own, place }))
     }
 
     /// The class.
@@ -208,7 +193,7 @@ impl<T: Told> Lineage<T> {
         if place > self.place {
             return Ok(None);
         }
-        Lineage::on_ladder(&self.ladder, place, self.unmixed)
+        Lineage::on_ladder(&self.ladder, place)
     }
 
     /// Which loaders defined the superinterfaces that the classes above the class name, in constant time
@@ -233,14 +218,6 @@ impl<T: Told> Lineage<T> {
         }
     }
 
-    /// Whether it is known that no superinterface declares a method that a class of another loader declares too, in
-    /// constant time (JVMS SE 8, 5.4.2).
-    pub fn is_unmixed(&self) -> bool
-        ensures { result ≡ true → IsUnmixed (rows_in self.now) }
-    {
-        self.place < self.unmixed
-    }
-
     /// Another handle on the same lineage.
     pub fn try_clone(&self) -> Result<Lineage<T>, AllocError>
         ensures clone { IfOk result (λ l. l ≡ self.now) }
@@ -249,22 +226,7 @@ impl<T: Told> Lineage<T> {
             ladder: Arc::try_clone(&self.ladder)?,
             own: Arc::try_clone(&self.own)?,
             place: self.place,
-            unmixed: self.unmixed,
         })
-    }
-
-    /// The same lineage, which keeps that so many of its rows, from the first, are unmixed.
-    pub fn with_unmixed(self, many: usize) -> Lineage<T>
-        requires { IsUnmixed (take many (rows_in self)) }
-        ensures { result ≡ self }
-    {
-        let mut kept = self;
-        kept.unmixed = if kept.place < many {
-            kept.place + 1
-        } else {
-            many
-        };
-        kept
     }
 
     /// The row of the superclass, if there is one (JVMS SE 8, 4.1). Takes no memory.

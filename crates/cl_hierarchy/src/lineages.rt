@@ -1,13 +1,15 @@
 //! What is asked of each class of a lineage (JVMS SE 8, 5.3.5).
 
 ghost use Rattle.std.specs.Prelude.{◌≡◌, ◌≤◌, length, is_some, map, true, IfOk, IfSome};
-ghost use Rattle.cl_hierarchy.specs.ClassesAt.{lined_at};
-ghost use Rattle.cl_hierarchy.specs.Lineages.{IsLined, kin_at, kin_of, rows_in};
+ghost use Rattle.std.specs.List.{AllByRecursion};
+ghost use Rattle.cl_hierarchy.specs.ClassesAt.{lined_at, own_at};
+ghost use Rattle.cl_hierarchy.specs.Lineages.{IsLined, IsRowIn, kin_at, kin_of, rows_in};
+ghost use Rattle.cl_hierarchy.specs.PlaceTours.{AreSuperinterfacesAt};
 ghost use Rattle.cl_hierarchy.specs.Supers.{AreAllSupers};
 ghost use Rattle.cl_model.specs.Lineages.{superinterfaces};
 
 use crate::lineage::Lineage;
-use crate::place_tour::{rows_at, superinterface_places};
+use crate::place_tour::{rows_at, superinterface_places, up_at};
 use crate::row::ClassRow;
 use crate::supers::{Supers, supers_of_all};
 use cl_model::Told;
@@ -15,29 +17,58 @@ use std::alloc::{AllocError, Global};
 use std::marker::Model;
 use std::sync::Arc;
 
+/// Where the superinterfaces of the class at a place stand.
+struct OverAt {
+    of: usize,
+    places: Vec<usize>,
+}
+
+impl Drop for OverAt {
+    fn drop(self) {
+        let OverAt { of: _, places: _ } = self;
+    }
+}
+
+impl OverAt {
+    /// The places.
+    fn into_places(self) -> Vec<usize>
+        ensures { result.items ≡ self.places.items }
+    {
+        let OverAt { of: _, places } = self;
+        places
+    }
+}
+
 /// A lineage whose classes are asked about, one after another.
 pub struct Lineages<T: Told> {
     whole: Lineage<T>,
-    /// Where the direct supertypes of each class stand, once they were looked for.
+    /// Where the direct supertypes of each class stand, once `find_supers` looked for them.
     table: Option<Vec<Supers>>,
+    /// Where the superinterfaces of one class stand, once `find_superinterfaces` looked for those of one.
+    over: Option<OverAt>,
 }
 
 impl<T: Told> Drop for Lineages<T> {
     fn drop(self) {
-        let Lineages { whole: _, table: _ } = self;
+        let Lineages {
+            whole: _,
+            table: _,
+            over: _,
+        } = self;
     }
 }
 
 impl<T: Told> Model for Lineages<T> {
     ghost use Rattle.std.specs.Prelude.{IfSome};
     ghost use Rattle.cl_hierarchy.specs.Lineages.{Lined, rows_in};
+    ghost use Rattle.cl_hierarchy.specs.OversAt.{IsOverAt};
     ghost use Rattle.cl_hierarchy.specs.Supers.{AreAllSupers};
 
     ghost Value = { Lined };
 
     ghost view = { λ l. l.whole };
 
-    ghost invariant = { λ l. IfSome l.table (λ t. AreAllSupers (rows_in l.whole) (rows_in l.whole) t.items) };
+    ghost invariant = { λ l. IfSome l.table (λ t. AreAllSupers (rows_in l.whole) (rows_in l.whole) t.items) × IfSome l.over (IsOverAt l.whole) };
 }
 
 impl<T: Told> Lineages<T> {
@@ -45,7 +76,11 @@ impl<T: Told> Lineages<T> {
     pub fn of(whole: Lineage<T>) -> Lineages<T>
         ensures whole { result ≡ whole }
     {
-        Lineages { whole, table: None }
+        Lineages {
+            whole,
+            table: None,
+            over: None,
+        }
     }
 
     /// The whole lineage.
@@ -62,7 +97,11 @@ impl<T: Told> Lineages<T> {
     pub fn into_lineage(self) -> Lineage<T>
         ensures whole { result ≡ self }
     {
-        let Lineages { whole, table: _ } = self;
+        let Lineages {
+            whole,
+            table: _,
+            over: _,
+        } = self;
         whole
     }
 
@@ -85,27 +124,167 @@ impl<T: Told> Lineages<T> {
         Ok(Some(lineage))
     }
 
-    /// The rows of all superinterfaces of the class at a place, each once at its first place, in time linear in its
-    /// superclasses and superinterfaces and the supertypes that they name, besides two marks for each row of the whole. The first
-    /// such call looks for the names of all rows, and later ones for none (JVMS SE 8, 5.4.3.3).
-    pub fn superinterfaces_at(
-        &mut self,
-        alloc: Global,
-        place: usize,
-    ) -> Result<Vec<Arc<ClassRow<T>>>, AllocError>
+    /// Where the direct supertypes of each class stand, looked for by their names.
+    fn make_table(&self, alloc: Global) -> Result<Vec<Supers>, AllocError>
+        ensures { IfOk result (λ v. AreAllSupers (rows_in self.now) (rows_in self.now) v.items) }
+    {
+        supers_of_all(alloc, self.whole.config().seed(), self.whole.rows())
+    }
+
+    /// Looks for the direct supertypes of all rows by their names, so that no later `superinterfaces_at` does. A second call
+    /// does nothing.
+    pub fn find_supers(&mut self, alloc: Global) -> Result<(), AllocError>
+        ensures same { self.new ≡ self.old }
+    {
+        if self.table.is_none() {
+            let table = self.make_table(alloc)?;
+            self.table = Some(table);
+        }
+        Ok(())
+    }
+
+    /// The places of the rows of all superinterfaces of the class at a place.
+    fn places_at(&self, alloc: Global, place: usize) -> Result<Vec<usize>, AllocError>
+        requires within { place ≤ length self.now.above }
+        ensures { IfOk result (λ v. AreSuperinterfacesAt (rows_in self.now) (own_at self.now place)
+            v.items) }
+    {
+        match &self.table {
+            Some(table) => superinterface_places(alloc, self.whole.rows(), table.as_slice(), place),
+            None => {
+                let table = self.make_table(alloc)?;
+                superinterface_places(alloc, self.whole.rows(), table.as_slice(), place)
+            }
+        }
+    }
+
+    /// Where the superclass of the class at a place stands, if that is its one direct supertype and was looked for.
+    fn only_up(&self, place: usize) -> Option<usize>
+        requires within { place ≤ length self.now.above }
+        ensures { IfSome result (λ up. up ≤ length self.now.above
+            → superinterfaces (kin_of (lined_at self.now place))
+            ≡ superinterfaces (kin_of (lined_at self.now up))) }
+    {
+        if self.whole.row_at(place).places().len() > 1 {
+            return None;
+        }
+        match &self.table {
+            Some(table) => up_at(table.as_slice(), place),
+            None => None,
+        }
+    }
+
+    /// Whether the class at a place is known to have the superinterfaces of the class at another: it is that, or names none, and
+    /// that is its superclass.
+    fn shares_over(&self, place: usize, of: usize) -> bool
+        requires within { place ≤ length self.now.above }
+        requires of { of ≤ length self.now.above }
+        ensures { result ≡ true → superinterfaces (kin_of (lined_at self.now place))
+            ≡ superinterfaces (kin_of (lined_at self.now of)) }
+    {
+        if place == of {
+            return true;
+        }
+        match self.only_up(place) {
+            Some(up) => up == of,
+            None => false,
+        }
+    }
+
+    /// The places of the superinterfaces that are kept, if they are those of the class at a place.
+    fn take_over(&mut self, place: usize) -> Option<Vec<usize>>
         requires within { place ≤ length self.old.above }
         ensures same { self.new ≡ self.old }
-        ensures superinterfaces { IfOk result (λ v. map (λ r. kin_at self.old r.value) v.items
-            ≡ superinterfaces (kin_of (lined_at self.old place))) }
+        ensures places { IfSome result (λ v. AreSuperinterfacesAt (rows_in self.old)
+            (own_at self.old place) v.items) }
     {
-        let rows = self.whole.rows();
-        let table = match self.table.take() {
-            Some(table) => table,
-            None => supers_of_all(alloc, self.whole.config().seed(), rows)?,
+        // brings what the lineage keeps
+        let _ = self.lineage();
+        let over = self.over.take()?;
+        if !self.shares_over(place, over.of) {
+            self.over = Some(over);
+            return None;
+        }
+        Some(over.into_places())
+    }
+
+    /// Keeps where the superinterfaces of the class at a place stand, if they are known to be those that are kept: it is so of a class
+    /// that names none, where those of its superclass are kept. Constant time.
+    pub fn pass_superinterfaces(&mut self, place: usize)
+        requires within { place ≤ length self.old.above }
+        ensures same { self.new ≡ self.old }
+    {
+        if let Some(places) = self.take_over(place) {
+            self.over = Some(OverAt { of: place, places });
+        }
+    }
+
+    /// Looks for the superinterfaces of the class at a place, and keeps where they stand, so that `superinterfaces_at` looks for none,
+    /// nor for those of a class that names none and whose superclass it is.
+    pub fn find_superinterfaces(&mut self, alloc: Global, place: usize) -> Result<(), AllocError>
+        requires within { place ≤ length self.old.above }
+        ensures same { self.new ≡ self.old }
+    {
+        self.find_supers(alloc)?;
+        let places = match self.take_over(place) {
+            Some(places) => places,
+            None => self.places_at(alloc, place)?,
         };
-        let places = superinterface_places(alloc, rows, table.as_slice(), place);
-        self.table = Some(table);
-        let places = places?;
-        rows_at(alloc, rows, places.as_slice())
+        self.over = Some(OverAt { of: place, places });
+        Ok(())
+    }
+
+    /// The places of the superinterfaces of the class at a place, if they are kept.
+    fn over_at(&self, place: usize) -> Option<&[usize]>
+        requires within { place ≤ length self.now.above }
+        ensures { IfSome result (λ v. AreSuperinterfacesAt (rows_in self.now)
+            (own_at self.now place) v.now) }
+    {
+        let over = self.over.as_ref()?;
+        if over.of == place {
+            Some(over.places.as_slice())
+        } else {
+            None
+        }
+    }
+
+    /// The rows at the places of the superinterfaces of the class at a place.
+    fn rows_over(
+        &self,
+        alloc: Global,
+        place: usize,
+        places: &[usize],
+    ) -> Result<Vec<&Arc<ClassRow<T>>>, AllocError>
+        requires within { place ≤ length self.now.above }
+        requires are { AreSuperinterfacesAt (rows_in self.now) (own_at self.now place)
+            places.now }
+        ensures superinterfaces { IfOk result (λ v. map (λ r. kin_at self.now r.now.value) v.items
+            ≡ superinterfaces (kin_of (lined_at self.now place))) }
+        ensures rows { IfOk result (λ v. AllByRecursion
+            (λ r. IsRowIn (rows_in self.now) r.now.value) v.items) }
+    {
+        rows_at(alloc, self.whole.rows(), places)
+    }
+
+    /// The rows of all superinterfaces of the class at a place, each once at its first place, as references, with no handle
+    /// for each, in time linear in its superclasses and superinterfaces and the supertypes that they name, besides two marks
+    /// for each row of the whole. Names are looked for once if `find_supers` was called, and else in this call. Where they were found by
+    /// `find_superinterfaces`, in time linear in their number (JVMS SE 8, 5.4.3.3).
+    pub fn superinterfaces_at(
+        &self,
+        alloc: Global,
+        place: usize,
+    ) -> Result<Vec<&Arc<ClassRow<T>>>, AllocError>
+        requires within { place ≤ length self.now.above }
+        ensures superinterfaces { IfOk result (λ v. map (λ r. kin_at self.now r.now.value) v.items
+            ≡ superinterfaces (kin_of (lined_at self.now place))) }
+        ensures rows { IfOk result (λ v. AllByRecursion
+            (λ r. IsRowIn (rows_in self.now) r.now.value) v.items) }
+    {
+        if let Some(places) = self.over_at(place) {
+            return self.rows_over(alloc, place, places);
+        }
+        let places = self.places_at(alloc, place)?;
+        self.rows_over(alloc, place, places.as_slice())
     }
 }

@@ -165,7 +165,7 @@ impl PlaceTour {
 }
 
 /// Where the superclass of the class at a place stands, if it has one.
-fn up_at(table: &[Supers], place: usize) -> Option<usize>
+pub(crate) fn up_at(table: &[Supers], place: usize) -> Option<usize>
     ensures { (s : Supers) → slice_get table.now place ≡ Some s → result ≡ s.up }
 {
     table.get(place)?.up
@@ -208,28 +208,29 @@ pub(crate) fn superinterface_places<T: Told>(
 }
 
 /// Adds the row at a place, if there is one.
-fn push_row<T: Told>(
-    found: &mut Vec<Arc<ClassRow<T>>>,
-    rows: &[Arc<ClassRow<T>>],
+fn push_row<'a, T: Told>(
+    found: &mut Vec<&'a Arc<ClassRow<T>>>,
+    rows: &'a [Arc<ClassRow<T>>],
     place: usize,
 ) -> Result<(), AllocError>
-    ensures { OnOk result (map (λ r. r.value) found.new.items ≡ map (λ r. r.value) found.old.items
+    ensures { OnOk result (map (λ r. r.now.value) found.new.items
+        ≡ map (λ r. r.now.value) found.old.items
         ++ option_to_list (slice_get (map (λ r. r.value) rows.now) place)) }
 {
     if let Some(row) = rows.get(place) {
-        found.push(Arc::try_clone(row)?)?;
+        found.push(row)?;
     }
     Ok(())
 }
 
-/// The rows at places.
-pub(crate) fn rows_at<T: Told>(
+/// The rows at places, with no handle for each.
+pub(crate) fn rows_at<'a, T: Told>(
     alloc: Global,
-    rows: &[Arc<ClassRow<T>>],
+    rows: &'a [Arc<ClassRow<T>>],
     places: &[usize],
-) -> Result<Vec<Arc<ClassRow<T>>>, AllocError>
-    ensures { IfOk result (λ v. map (λ r. r.value) v.items ≡ rows_at (map (λ r. r.value) rows.now)
-        places.now) }
+) -> Result<Vec<&'a Arc<ClassRow<T>>>, AllocError>
+    ensures { IfOk result (λ v. map (λ r. r.now.value) v.items
+        ≡ rows_at (map (λ r. r.value) rows.now) places.now) }
 {
     let mut found = Vec::with_capacity(alloc, places.len())?;
     for place in places {

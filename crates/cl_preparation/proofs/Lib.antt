@@ -11,6 +11,7 @@ pub mod Uphill
 pub mod Reached
 pub mod Silence
 pub mod Standing
+pub mod Surveyed
 pub mod Thinned
 pub mod Unmixed
 pub mod Walking

@@ -163,7 +163,7 @@ near_over key l away over tp are =
     let tree : List ℕ = loaders (if is_interface (kin_of l).file then [] else overridden key (kin_of l)) in
     let taking : List ℕ = loaders (filter (takes_part key) (superinterfaces (kin_of l))) in
     others_both own [] up (loaders (filter (takes_part key) (map bare over)))
-    ∙ ap (λ (xs : List ℕ). others_after own [] up ++ xs) (are.over_are.loaders_are key (others_after own [] up))
+    ∙ ap (λ (xs : List ℕ). others_after own [] up ++ xs) (are.over_are.loaders_are key (others_after own [] up) tp)
     ∙ ap (λ (xs : List ℕ). xs ++ others_after own xs taking) (up_near key l away (is_interface (file_of l.own.file)) tp are.away_are)
     ∙ sym (others_both own [] tree taking)
 
@@ -213,15 +213,15 @@ inherited_here l above j m are =
     (sym (found_bare m.key l above) ∙ ap (λ (ks : List Kin). option_map (λ a. a.class.loader) (find (is_offered m.key) ks)) are)
     ∙ sym (inherited_is (kin_of l) (bare j) m)
 
-second_bare : (l : Lined) (rs : List Rowed) → flat_map (λ (j : Kin). flat_map (fewer_inherited (kin_of l) j) j.file.methods) (map (kin_at l) rs) ≡ flat_map (λ (j : Rowed). flat_map (fewer_inherited (kin_of l) (bare j)) (bare j).file.methods) rs
-second_bare l [] = refl
-second_bare l (r ∷ rs) = ap (λ ns. flat_map (fewer_inherited (kin_of l) (bare r)) (file_of r.file).methods ++ ns) (second_bare l rs)
+second_bare : (c : Kin) (l : Lined) (rs : List Rowed) → flat_map (λ (j : Kin). flat_map (fewer_inherited c j) j.file.methods) (map (kin_at l) rs) ≡ flat_map (λ (j : Rowed). flat_map (fewer_inherited c (bare j)) (bare j).file.methods) rs
+second_bare c l [] = refl
+second_bare c l (r ∷ rs) = ap (λ ns. flat_map (fewer_inherited c (bare r)) (file_of r.file).methods ++ ns) (second_bare c l rs)
 
--- all of them add what all do
-pub all_added : (l : Lined) (over : List Rowed) → map (kin_at l) over ≡ superinterfaces (kin_of l) → AddAll l over
-all_added l over overs = record {
-  loaders_are = λ key listed. ap (others_after l.own.class.loader listed) (sym (counted_bare false key l over) ∙ ap (λ (ks : List Kin). loaders (filter (takes_part key) ks)) overs);
-  second_are = λ b. sym (second_bare l over) ∙ ap (flat_map (λ (j : Kin). flat_map (fewer_inherited (kin_of l) j) j.file.methods)) overs;
+-- all of them add what all do, told by rows of the lineage that has the class at a place
+pub all_added : (l whole : Lined) (over : List Rowed) → map (kin_at whole) over ≡ superinterfaces (kin_of l) → AddAll l over
+all_added l whole over overs = record {
+  loaders_are = λ key listed tp. ap (others_after l.own.class.loader listed) (sym (counted_bare false key whole over) ∙ ap (λ (ks : List Kin). loaders (filter (takes_part key) ks)) overs);
+  second_are = λ b. sym (second_bare (kin_of l) whole over) ∙ ap (flat_map (λ (j : Kin). flat_map (fewer_inherited (kin_of l) j) j.file.methods)) overs;
 }
 
 -- an interface with all of them, told by rows of the lineage that has it at a place
@@ -230,10 +230,7 @@ interface_near l whole own away over mine inter none overs = record {
   own_is = mine;
   away_are = λ off. absurd (let no : true ≡ false = sym inter ∙ off in cc);
   away_in = subst (λ (rs : List Rowed). AllByRecursion (IsRowIn (rows_in l)) rs) (sym none) tt;
-  over_are = record {
-    loaders_are = λ key listed. ap (others_after l.own.class.loader listed) (sym (counted_bare false key whole over) ∙ ap (λ (ks : List Kin). loaders (filter (takes_part key) ks)) overs);
-    second_are = λ off. absurd (let no : true ≡ false = sym inter ∙ off in cc);
-  };
+  over_are = all_added l whole over overs;
 }
 
 second_here : (l : Lined) (above over : List Rowed) → map (kin_at l) above ≡ superclasses (kin_of l) → AddAll l over → is_interface (file_of l.own.file) ≡ false → second_by_rows true l.own above over ≡ by_superinterfaces fewer_inherited (kin_of l)
@@ -274,6 +271,11 @@ class_told l own away over one all near class first second =
     second ∙ ap (λ ns. ns ++ by_superinterfaces fewer_inherited c) (first ∙ declared_near l own away over near)
     ∙ sym (ap (λ (b : Bool). flat_map (fewer_declared c) c.file.methods ++ (if b then [] else by_superinterfaces fewer_inherited c)) (class_of l own near.own_is class))
 
+-- and where what it inherits imposes nothing
+pub class_first : (l : Lined) (own : Rowed) (away over : List Rowed) (all : List Need) → AreNear l own away over → is_interface (file_of own.file) ≡ false → all ≡ flat_map (near_declared own away over) (bare own).file.methods
+    → [] ≡ by_superinterfaces fewer_inherited (kin_of l) → all ≡ fewer_constraints_of (kin_of l)
+class_first l own away over all near class first none = class_told l own away over all all near class first (sym (append-nil all) ∙ ap (λ ns. all ++ ns) none)
+
 -- and so with the rows of its superclasses
 module _ {A : Type 0} (f : A → Rowed) (l : Lined) (own : Rowed) (xs ys : List A) (away over above : List Rowed) (near : AreNear l own away over) (one : ys ≡ xs) (made : above ≡ map f ys)
     (are : map (λ r. kin_at l (f r)) xs ≡ superclasses (kin_of l)) (within : AllByRecursion (λ r. IsRowIn (rows_in l) (f r)) xs) where
@@ -288,6 +290,11 @@ module _ {A : Type 0} (f : A → Rowed) (l : Lined) (own : Rowed) (xs ys : List 
   second_given rs is class =
       ap (second_by_rows true own above) is ∙ ap (λ (r : Rowed). second_by_rows true r above over) near.own_is
       ∙ second_here l above over above_are near.over_are (class_of l own near.own_is class)
+
+-- methods of rows, by where they are kept
+pub methods_at : {A : Type 0} (v : A → Rowed) (xs : List A) → flat_map (λ x. (bare (v x)).file.methods) xs ≡ flat_map (λ r. (bare r).file.methods) (map v xs)
+methods_at v [] = refl
+methods_at v (x ∷ xs) = ap (λ ms. (bare (v x)).file.methods ++ ms) (methods_at v xs)
 
 -- superinterfaces that declare nothing
 nothing_left : (xs ys : List Member) → xs ++ ys ≡ [] → xs ≡ []
@@ -305,10 +312,9 @@ none_there c (r ∷ rs) none =
     ap (λ (ms : List Member). flat_map (fewer_inherited c (bare r)) ms ++ flat_map (λ (j : Rowed). flat_map (fewer_inherited c (bare j)) (bare j).file.methods) rs) (nothing_left (bare r).file.methods more none)
     ∙ none_there c rs (nothing_right (bare r).file.methods more none)
 
-pub second_none : (l : Lined) (own : Rowed) (away over rs : List Rowed) → AreNear l own away over → is_interface (file_of own.file) ≡ false → rs ≡ over → flat_map (λ (r : Rowed). (bare r).file.methods) rs ≡ []
+pub second_none : (l : Lined) (own : Rowed) (away over : List Rowed) → AreNear l own away over → is_interface (file_of own.file) ≡ false → flat_map (λ (r : Rowed). (bare r).file.methods) over ≡ []
     → [] ≡ by_superinterfaces fewer_inherited (kin_of l)
-second_none l own away over rs near class same none =
-    sym (none_there (kin_of l) over (ap (flat_map (λ (r : Rowed). (bare r).file.methods)) (sym same) ∙ none)) ∙ near.over_are.second_are (class_of l own near.own_is class)
+second_none l own away over near class none = sym (none_there (kin_of l) over none) ∙ near.over_are.second_are (class_of l own near.own_is class)
 
 none_of_none : (few : List Need) → length few ≤ 0 → [] ≡ few
 none_of_none [] h = refl

@@ -14,9 +14,9 @@ use Rattle.cl_model.specs.Preparation.{equals_of, inherited_from, is_special, ov
 use Rattle.cl_model.specs.States.{Need}
 use Rattle.cl_model.proofs.Closed.{all_left}
 use Rattle.cl_model.proofs.Complete.{is_class}
+use Rattle.cl_model.proofs.Derivations.{all_map}
 use Rattle.cl_model.proofs.Derived.{all_both}
 use Rattle.cl_model.proofs.Progress.{once_kept}
-use Rattle.cl_hierarchy.specs.Above.{IsUnmixed}
 use Rattle.cl_hierarchy.specs.Frames.{accepted_of}
 use Rattle.cl_hierarchy.specs.Lineages.{IsRowIn, Lined, kin_at, kin_of, others_of, row_of, rows_in}
 use Rattle.cl_hierarchy.specs.Rows.{Rowed}
@@ -85,9 +85,9 @@ over_named Q P known [] mine well = tt
 over_named Q P known (c ∷ cs) mine well = one_named Q P known c cs (kin_named known c) well mine.0 refl (over_named Q P known cs mine.1 well)
 
 -- what a row has to keep
-record IsFine (Q : Class → Type 0) (P : Kin → Type 0) (r : Rowed) : Type 0 where
-  names : AllByRecursion Q (interfaces_in r)
-  here : (ks : List Kin) → Q r.class → P (kin_under ks r)
+pub record IsFine (Q : Class → Type 0) (P : Kin → Type 0) (r : Rowed) : Type 0 where
+  pub names : AllByRecursion Q (interfaces_in r)
+  pub here : (ks : List Kin) → Q r.class → P (kin_under ks r)
 
 over_row : (Q : Class → Type 0) (P : Kin → Type 0) (known : List Kin) (r : Rowed) → AllByRecursion Q (interfaces_in r) → AreWell Q P known
     → AllByRecursion P (preorder (forest known (interfaces_in r)) true ++ preorder (forest known (superclass_in r)) false)
@@ -113,7 +113,7 @@ well_after Q P known [] fine well = well
 well_after Q P known (r ∷ rows) fine well = well_after Q P (kin_under known r ∷ known) rows fine.1 (well_more Q P known r fine.0 well)
 
 -- each superinterface is as it has to be
-all_over : (Q : Class → Type 0) (P : Kin → Type 0) (l : Lined) → AllByRecursion Q (interfaces_in l.own) → AllByRecursion (IsFine Q P) l.above → AllByRecursion P (superinterfaces (kin_of l))
+pub all_over : (Q : Class → Type 0) (P : Kin → Type 0) (l : Lined) → AllByRecursion Q (interfaces_in l.own) → AllByRecursion (IsFine Q P) l.above → AllByRecursion P (superinterfaces (kin_of l))
 all_over Q P l names fine =
     let well : AreWell Q P (kins l.above) = well_after Q P [] l.above fine (λ c k e. absurd cc) in
     once_kept P [] (preorder (kin_of l).interfaces true ++ preorder (kin_of l).superclass false) (over_row Q P (kins l.above) l.own names well)
@@ -244,7 +244,7 @@ quiet_at l above r ks are mine none = record {
   none = λ b. sym (flat_same (inherited_by_rows true l.own above r) (fewer_inherited (kin_of l) (bare r)) (bare r).file.methods (λ m. inherited_here l above r m are)) ∙ none b;
 }
 
-none_new : (own : ℕ) (listed xs : List ℕ) → AllByRecursion (λ (a : ℕ). a ≡ own) xs → others_after own listed xs ≡ []
+pub none_new : (own : ℕ) (listed xs : List ℕ) → AllByRecursion (λ (a : ℕ). a ≡ own) xs → others_after own listed xs ≡ []
 none_new own listed [] mine = refl
 none_new own listed (x ∷ xs) mine = rw (eq-eqb own x (sym mine.0)) (none_new own listed xs mine.1)
 
@@ -256,15 +256,17 @@ own_loaders l test (k ∷ ks) quiet = by (test k) (own_loaders l test ks quiet.1
     by true rest = (quiet.0.own, rest)
     by false rest = rest
 
+pub second_each : (c : Kin) (ks : List Kin) → AllByRecursion (λ (k : Kin). flat_map (fewer_inherited c k) k.file.methods ≡ []) ks → flat_map (λ (j : Kin). flat_map (fewer_inherited c j) j.file.methods) ks ≡ []
+second_each c [] none = refl
+second_each c (k ∷ ks) none = ap (λ (ns : List Need). ns ++ flat_map (λ (j : Kin). flat_map (fewer_inherited c j) j.file.methods) ks) none.0 ∙ second_each c ks none.1
+
 second_quiet : (l : Lined) (ks : List Kin) → is_interface (file_of l.own.file) ≡ false → AllByRecursion (IsQuiet l) ks → flat_map (λ (j : Kin). flat_map (fewer_inherited (kin_of l) j) j.file.methods) ks ≡ []
-second_quiet l [] b quiet = refl
-second_quiet l (k ∷ ks) b quiet =
-    ap (λ (ns : List Need). ns ++ flat_map (λ (j : Kin). flat_map (fewer_inherited (kin_of l) j) j.file.methods) ks) (quiet.0.none b) ∙ second_quiet l ks b quiet.1
+second_quiet l ks b quiet = second_each (kin_of l) ks (all_map (IsQuiet l) (λ (k : Kin). flat_map (fewer_inherited (kin_of l) k) k.file.methods ≡ []) (λ k is. is.none b) ks quiet)
 
 -- where each superinterface is quiet, none adds anything
 near_alone : (l : Lined) → AllByRecursion (IsQuiet l) (superinterfaces (kin_of l)) → AddAll l []
 near_alone l quiet = record {
-  loaders_are = λ key listed.
+  loaders_are = λ key listed tp.
       sym (none_new l.own.class.loader listed (loaders (filter (takes_part key) (superinterfaces (kin_of l)))) (own_loaders l (takes_part key) (superinterfaces (kin_of l)) quiet));
   second_are = λ class. sym (second_quiet l (superinterfaces (kin_of l)) class quiet);
 }
@@ -356,18 +358,19 @@ quiet_interface l own mine oe me first rest inter =
     all_quiet l (λ r. Unit {0}) own mine oe me first rest (all_any l.above) (λ r ks known over. record { own = over.own; none = λ off. absurd (let no : true ≡ false = sym inter ∙ off in cc) })
 
 -- it imposes nothing but with itself
-declares_none : (c : Kin) (m : Member) → is_interface c.file ≡ true → others_after c.class.loader [] (loaders (filter (takes_part m.key) (superinterfaces c))) ≡ [] → fewer_declared c m ≡ []
-declares_none c m inter none = at (takes_part m.key c)
+pub declares_none : (c : Kin) (m : Member) → is_interface c.file ≡ true → (takes_part m.key c ≡ true → others_after c.class.loader [] (loaders (filter (takes_part m.key) (superinterfaces c))) ≡ []) → fewer_declared c m ≡ []
+declares_none c m inter none = at (takes_part m.key c) none
   where
-    over : others_after c.class.loader [] (loaders_over c m.key) ≡ []
-    over =
-        ap (λ (b : Bool). others_after c.class.loader [] (loaders (if b then [] else overridden m.key c) ++ loaders (filter (takes_part m.key) (superinterfaces c)))) inter ∙ none
+    over : others_after c.class.loader [] (loaders (filter (takes_part m.key) (superinterfaces c))) ≡ [] → others_after c.class.loader [] (loaders_over c m.key) ≡ []
+    over off =
+        ap (λ (b : Bool). others_after c.class.loader [] (loaders (if b then [] else overridden m.key c) ++ loaders (filter (takes_part m.key) (superinterfaces c)))) inter ∙ off
 
-    at : (b : Bool) → (if b then flat_map (equals_of m.key c.class.loader) (others_after c.class.loader [] (loaders_over c m.key)) else []) ≡ []
-    at true = ap (λ (ls : List ℕ). flat_map (equals_of m.key c.class.loader) ls) over
-    at false = refl
+    at : (b : Bool) → (b ≡ true → others_after c.class.loader [] (loaders (filter (takes_part m.key) (superinterfaces c))) ≡ [])
+        → (if b then flat_map (equals_of m.key c.class.loader) (others_after c.class.loader [] (loaders_over c m.key)) else []) ≡ []
+    at true off = ap (λ (ls : List ℕ). flat_map (equals_of m.key c.class.loader) ls) (over (off refl))
+    at false off = refl
 
-declare_none : (c : Kin) (ms : List Member) → is_interface c.file ≡ true → ((key : Key) → others_after c.class.loader [] (loaders (filter (takes_part key) (superinterfaces c))) ≡ []) → flat_map (fewer_declared c) ms ≡ []
+declare_none : (c : Kin) (ms : List Member) → is_interface c.file ≡ true → ((key : Key) → takes_part key c ≡ true → others_after c.class.loader [] (loaders (filter (takes_part key) (superinterfaces c))) ≡ []) → flat_map (fewer_declared c) ms ≡ []
 declare_none c [] inter none = refl
 declare_none c (m ∷ ms) inter none = ap (λ (ns : List Need). ns ++ flat_map (fewer_declared c) ms) (declares_none c m inter (none m.key)) ∙ declare_none c ms inter none
 
@@ -378,7 +381,7 @@ quiet_imposes l own mine oe me first rest inter =
     sym (
     ap (λ (b : Bool). flat_map (fewer_declared c) c.file.methods ++ (if b then [] else by_superinterfaces fewer_inherited c)) inter
     ∙ append-nil (flat_map (fewer_declared c) c.file.methods)
-    ∙ declare_none c c.file.methods inter (λ key. sym (add.loaders_are key []))
+    ∙ declare_none c c.file.methods inter (λ key tp. sym (add.loaders_are key [] tp))
     )
 
 -- a class, all of whose superinterfaces are of its loader, and whose superclasses of other loaders declare nothing that these declare: none, or such as are unmixed
@@ -402,25 +405,13 @@ quiet_home l away own mine oe me first rest are none =
     (λ r key within over on. subst (λ (rs : List Rowed). AllByRecursion (λ (k : Kin). is_offered key k ≡ true → k.class.loader ≡ l.own.class.loader) (map (kin_at l) rs)) (sym none) tt)
 
 -- a row that is found is one of them
-found_in : (p : Rowed → Bool) (rows : List Rowed) (r : Rowed) → find p rows ≡ Some r → Contains rows r
+pub found_in : (p : Rowed → Bool) (rows : List Rowed) (r : Rowed) → find p rows ≡ Some r → Contains rows r
 found_in p [] r e = absurd cc
 found_in p (x ∷ rows) r e = by (p x) (found_in p rows r) e
   where
     by : (b : Bool) → (find p rows ≡ Some r → Contains rows r) → (if b then Some x else find p rows) ≡ Some r → Contains (x ∷ rows) r
     by true more e = subst (λ (y : Rowed). Contains (x ∷ rows) y) (same_Some x r e) (Contains-append_left (x ∷ []) rows x (Contains-push [] x))
     by false more e = Contains-append_right (x ∷ []) rows r (more e)
-
-unmixed_away : (l : Lined) (r : Rowed) (key : Key) (away : List Rowed) → IsUnmixed (rows_in l) → Contains (rows_in l) r → IsOver l r.class → is_offered key (kin_under [] r) ≡ true → AllByRecursion (IsRowIn (rows_in l)) away
-    → AllByRecursion (λ (k : Kin). is_offered key k ≡ true → k.class.loader ≡ l.own.class.loader) (map (kin_at l) away)
-unmixed_away l r key [] unmixed within over on known = tt
-unmixed_away l r key (a ∷ away) unmixed within over on known =
-    ((λ there. sym (unmixed over.row r a over.within within (found_in (λ x. same_class x.class a.class) (rows_in l) a known.0) over.names key on there) ∙ over.own), unmixed_away l r key away unmixed within over on known.1)
-
--- a class, all of whose superinterfaces are of its loader, and none of whose rows are mixed
-pub quiet_unmixed : (l : Lined) (away : List Rowed) (own : ℕ) (mine : Rowed) → own ≡ l.own.class.loader → mine ≡ l.own → names_other own mine ≡ false → list_any (names_other own) l.above ≡ false
-    → map (kin_at l) away ≡ others_of (Some l.own.class.loader) (superclasses (kin_of l)) → AllByRecursion (IsRowIn (rows_in l)) away → IsUnmixed (rows_in l) → AddAll l []
-quiet_unmixed l away own mine oe me first rest are known unmixed =
-    quiet_away l away own mine oe me first rest are (λ r key within over on. unmixed_away l r key away unmixed within over on known)
 
 -- a class, all of whose superinterfaces are of its loader, and over which all rows are silent
 pub quiet_class : {A : Type 0} (v : A → Rowed) (l : Lined) (xs ys near again : List A) (away : List Rowed) (own : ℕ) (mine : Rowed) → own ≡ l.own.class.loader → mine ≡ l.own → map v again ≡ l.above
@@ -474,12 +465,3 @@ left_silent v own near away r x (Some n) same h = (h.0, silent_near v own near a
 -- where it declares none
 pub none_heard : (away : List Rowed) (r : Rowed) → (file_of r.file).methods ≡ [] → false ≡ list_any (is_heard away r) (file_of r.file).methods
 none_heard away r none = sym (ap (λ (ms : List Member). list_any (is_heard away r) ms) none)
-
--- none is looked at
-pub over_none : (l : Lined) (over : List Rowed) → over ≡ [] → AddAll l [] → AddAll l over
-over_none l over none all = subst (λ (rs : List Rowed). AddAll l rs) (sym none) all
-
--- all are looked at
-pub over_all : {R E : Type 0} (items : R → List Rowed) (l : Lined) (r : Result R E) → IfOk r (λ v. map (kin_at l) (items v) ≡ superinterfaces (kin_of l)) → IfOk r (λ v. AddAll l (items v))
-over_all items l (Ok v) overs = all_added l (items v) overs
-over_all items l (Err e) overs = tt

@@ -1,9 +1,12 @@
 -- What was noted of rows one by one tells that they are unmixed.
-use Rattle.std.proofs.Common.{arith, ◌≡◌, ◌∙◌, ◌+◌, ◌<◌, ◌≤◌, ℕ, Bool, true, false, cond, if◌then◌else◌, Option, Some, None, List, [], ◌∷◌, ◌++◌, map, length, take, get_or, refl, ap, sym, subst, suc}
-use Rattle.std.specs.Prelude.{Contains, filter_map, nat_eq, option_map, slice_get}
-use Rattle.std.specs.List.{AllByRecursion, cons_option}
+use Rattle.std.proofs.Common.{arith, ◌≡◌, ◌∙◌, ◌⊎◌, inl, inr, ◌&&◌, ◌||◌, not, ◌+◌, ◌<◌, ◌≤◌, ℕ, Bool, true, false, cond, if◌then◌else◌, Option, Some, None, List, [], ◌∷◌, ◌++◌, map, length, take, get_or, refl, ap, sym, subst, suc}
+use Rattle.std.specs.Prelude.{◌==◌, Contains, filter_map, is_some, nat_eq, option_and_then, option_map, slice_get}
+use Rattle.std.specs.Option.{option_map_or}
+use Rattle.std.specs.List.{AllByRecursion, cons_option, list_all, list_any}
 use Rattle.std.specs.Cmp.Lexicographic.{bytes_decides, pointwise}
 use Rattle.std.proofs.lemmas.Bool.{and_parts, eqb-true}
+use Rattle.std.proofs.lemmas.List.Folds.{list_any-append}
+use Rattle.std.specs.Map.{lookup}
 use Rattle.std.specs.List.{take-map}
 use Rattle.std.proofs.lemmas.List.{length-map, length_push, take-append-le, take_more}
 use Rattle.std.proofs.lemmas.List.Elements.{All-contains, All-from_recursion, All-take, recursion_from_All}
@@ -18,20 +21,25 @@ use Rattle.cl_classfile.specs.declared.entry.Entry.{Entry}
 use Rattle.cl_classfile.specs.Structure.{Member, Structure}
 use Rattle.cl_classfile.specs.Files.{Key, Name, class_name, declared_by, file_of, keyed, member, method_of, same_key, same_name, text_at}
 use Rattle.cl_classfile.specs.Files as files
+use Rattle.cl_classfile.specs.Lookups.{method_named}
 use Rattle.cl_classfile.proofs.KeyTexts.{reads_methods}
 use Rattle.cl_model.specs.declared.class.Class.{Class}
 use Rattle.cl_model.specs.Classes.{Above, AsSuperinterface}
 use Rattle.cl_model.specs.Lineages.{if_declared, is_offered, is_virtual}
+use Rattle.cl_model.specs.Lineages as lineages
 use Rattle.cl_model.proofs.Keys.{keys_are_told}
-use Rattle.cl_hierarchy.specs.Above.{IsUnmixed}
 use Rattle.cl_hierarchy.specs.Frames.{accepted_of}
 use Rattle.cl_hierarchy.specs.Rows.{Rowed}
 use Rattle.cl_hierarchy.specs.Trees.{interface_places, interfaces_in, kin_under}
 use Rattle.cl_preparation.specs.declared.declarers.Declarers.{Declarers}
 use Rattle.cl_preparation.specs.declared.declarers.Declarers.TheVariants as declarers
 use Rattle.cl_preparation.specs.declared.declarers.MethodTexts.{MethodTexts}
-use Rattle.cl_preparation.specs.Declarers.{Has, IsNoted, IsRowNoted, Joins, Keeps, NamesAre, is_known, is_noted, same_texts}
+use Rattle.cl_preparation.specs.Declarers.{AreMixed, Has, IsNoted, IsRowNoted, IsTold, Joins, Keeps, NamesAre, is_known, is_mix, is_noted, is_plain, is_single, same_texts}
 use Rattle.cl_model.proofs.Derivations.{all_map}
+use Rattle.cl_preparation.specs.declared.survey.Survey.{Survey}
+use Rattle.cl_preparation.specs.Relatives.{bare}
+use Rattle.cl_preparation.specs.Surveys.{AreUnmixed, IsAlone, IsSurvey, IsUnmixed}
+use Rattle.cl_preparation.proofs.Silence.{is_off}
 
 -- ---- one method
 
@@ -71,10 +79,10 @@ member_noted old new pool named l m n d name descriptor ne de same_name same_des
 -- ---- the methods of a class
 
 -- a method that a class offers was noted by its texts
-record IsFound {S : Type 0} (declared : IndexMap MethodTexts Declarers S) (named : Bool) (l : ℕ) (key : Key) : Type 0 where
-  texts : MethodTexts
-  read : method_of texts.name texts.descriptor ≡ Some key
-  noted : is_noted declared texts named l ≡ true
+pub record IsFound {S : Type 0} (declared : IndexMap MethodTexts Declarers S) (named : Bool) (l : ℕ) (key : Key) : Type 0 where
+  pub texts : MethodTexts
+  pub read : method_of texts.name texts.descriptor ≡ Some key
+  pub noted : is_noted declared texts named l ≡ true
 
 abbrev Offers : Option files.Member → Type 0
 Offers o = if_declared o is_virtual ≡ true
@@ -131,30 +139,103 @@ texts_one : (t u : MethodTexts) (key : Key) → method_of t.name t.descriptor �
 texts_one t u key te ue =
     texts_same t u (sym (reads_methods.same t.name t.descriptor u.name u.descriptor key key te ue) ∙ (keys_are_told key key).1 refl)
 
--- where a class that is named as a superinterface declares a method, all that declare it are of its loader
-one_loader : (o : Option Declarers) (named : Bool) (a b : ℕ) → is_known o true a ≡ true → is_known o named b ≡ true → a ≡ b
-one_loader None named a b h k = absurd cc
-one_loader (Some (declarers.One l)) named a b h k = absurd cc
-one_loader (Some declarers.Several) named a b h k = absurd cc
-one_loader (Some (declarers.Bound l)) named a b h k = sym (eqb-true l a h) ∙ eqb-true l b k
+-- what a class offers was noted
+pub row_found : {R S : Type 0} (names : IndexSet Name R) (declared : IndexMap MethodTexts Declarers S) (rows : List Rowed) (x : Rowed) (key : Key) → AllByRecursion (IsRowNoted names declared) rows → Contains rows x → is_offered key (bare x) ≡ true
+    → IsFound declared (contains same_name names x.class.name) x.class.loader key
+row_found names declared rows x key noted there on =
+    noted_key declared x.file.pool (contains same_name names x.class.name) x.class.loader key x.file.methods
+    (All-contains (IsRowNoted names declared) rows x (All-from_recursion (IsRowNoted names declared) rows noted) there) on
 
-pub rows_unmixed : {R S : Type 0} (names : IndexSet Name R) (declared : IndexMap MethodTexts Declarers S) (rows : List Rowed) → AllByRecursion (NamesAre names) rows → AllByRecursion (IsRowNoted names declared) rows → IsUnmixed rows
-rows_unmixed {R} {S} names declared rows named noted = λ r j c r_in j_in c_in over key j_on c_on.
-    let mine : IsFound declared (contains same_name names j.class.name) j.class.loader key = of j key j_in j_on in
-    let other : IsFound declared (contains same_name names c.class.name) c.class.loader key = of c key c_in c_on in
+-- where one loader defined all that declare a method
+single_one : (o : Option Declarers) (n m : Bool) (a b : ℕ) → option_map_or is_single o true ≡ true → is_known o n a ≡ true → is_known o m b ≡ true → a ≡ b
+single_one None n m a b is h k = absurd cc
+single_one (Some (declarers.One l)) n m a b is h k = sym (eqb-true l a (and_parts (not n) (l == a) h).1) ∙ eqb-true l b (and_parts (not m) (l == b) k).1
+single_one (Some declarers.Several) n m a b is h k = absurd cc
+single_one (Some (declarers.Bound l)) n m a b is h k = sym (eqb-true l a h) ∙ eqb-true l b k
+single_one (Some declarers.Mixed) n m a b is h k = absurd cc
+
+pub all_alone : (rows : List Rowed) (s : Survey) (key : Key) → IsSurvey rows s → IsTold s.declared key is_single → IsAlone rows key
+all_alone rows s key is told = λ a b a_in b_in a_on b_on.
+    let mine : IsFound s.declared (contains same_name s.names a.class.name) a.class.loader key = row_found s.names s.declared rows a key is.noted a_in a_on in
+    let other : IsFound s.declared (contains same_name s.names b.class.name) b.class.loader key = row_found s.names s.declared rows b key is.noted b_in b_on in
     let one : mine.texts ≡ other.texts = texts_one mine.texts other.texts key mine.read other.read in
-    let is : contains same_name names j.class.name ≡ true = name_is names r j.class (All-contains (NamesAre names) rows r (All-from_recursion (NamesAre names) rows named) r_in) over in
-    one_loader (get same_texts declared other.texts) (contains same_name names c.class.name) j.class.loader c.class.loader
-    (sym (ap (λ (b : Bool). is_noted declared other.texts b j.class.loader) is) ∙ sym (ap (λ (t : MethodTexts). is_noted declared t (contains same_name names j.class.name) j.class.loader) one) ∙ mine.noted) other.noted
+    single_one (get same_texts s.declared other.texts) (contains same_name s.names a.class.name) (contains same_name s.names b.class.name) a.class.loader b.class.loader (told other.texts other.read)
+    (sym (ap (λ (t : MethodTexts). is_noted s.declared t (contains same_name s.names a.class.name) a.class.loader) one) ∙ mine.noted) other.noted
+
+-- where a class that is named as a superinterface declares a method which is not mixed, all that declare it are of its loader
+one_loader : (o : Option Declarers) (named : Bool) (a b : ℕ) → option_map_or is_mix o false ≡ false → is_known o true a ≡ true → is_known o named b ≡ true → a ≡ b
+one_loader None named a b plain h k = absurd cc
+one_loader (Some (declarers.One l)) named a b plain h k = absurd cc
+one_loader (Some declarers.Several) named a b plain h k = absurd cc
+one_loader (Some (declarers.Bound l)) named a b plain h k = sym (eqb-true l a h) ∙ eqb-true l b k
+one_loader (Some declarers.Mixed) named a b plain h k = absurd cc
+
+pub all_unmixed : (rows : List Rowed) (s : Survey) (key : Key) → IsSurvey rows s → ((t : MethodTexts) → method_of t.name t.descriptor ≡ Some key → option_map_or is_mix (get same_texts s.declared t) false ≡ false) → IsUnmixed rows key
+all_unmixed rows s key is plain = λ r j c r_in j_in c_in over j_on c_on.
+    let mine : IsFound s.declared (contains same_name s.names j.class.name) j.class.loader key = row_found s.names s.declared rows j key is.noted j_in j_on in
+    let other : IsFound s.declared (contains same_name s.names c.class.name) c.class.loader key = row_found s.names s.declared rows c key is.noted c_in c_on in
+    let one : mine.texts ≡ other.texts = texts_one mine.texts other.texts key mine.read other.read in
+    let named : contains same_name s.names j.class.name ≡ true = name_is s.names r j.class (All-contains (NamesAre s.names) rows r (All-from_recursion (NamesAre s.names) rows is.named) r_in) over in
+    one_loader (get same_texts s.declared other.texts) (contains same_name s.names c.class.name) j.class.loader c.class.loader (plain other.texts other.read)
+    (sym (ap (λ (b : Bool). is_noted s.declared other.texts b j.class.loader) named) ∙ sym (ap (λ (t : MethodTexts). is_noted s.declared t (contains same_name s.names j.class.name) j.class.loader) one) ∙ mine.noted) other.noted
+
+plain_off : (o : Option Declarers) → option_map_or is_plain o true ≡ true → option_map_or is_mix o false ≡ false
+plain_off None e = refl
+plain_off (Some d) e = is_off (is_mix d) e
+
+pub plain_unmixed : (rows : List Rowed) (s : Survey) (key : Key) → IsSurvey rows s → IsTold s.declared key is_plain → IsUnmixed rows key
+plain_unmixed rows s key is told = all_unmixed rows s key is (λ t read. plain_off (get same_texts s.declared t) (told t read))
+
+-- a test of those that are known of one text of a key is one of all its texts
+pub told_by : {S : Type 0} (declared : IndexMap MethodTexts Declarers S) (t : MethodTexts) (key : Key) (o : Option Declarers) (test : Declarers → Bool) → method_of t.name t.descriptor ≡ Some key → o ≡ get same_texts declared t → option_map_or test o true ≡ true
+    → IsTold declared key test
+told_by declared t key o test read is on = λ u other.
+    ap (λ (x : MethodTexts). option_map_or test (get same_texts declared x) true) (texts_one u t key other read) ∙ ap (λ (x : Option Declarers). option_map_or test x true) (sym is) ∙ on
+
+-- where no method is mixed
+off_by : (b : Bool) → (b ≡ true → false ≡ true) → b ≡ false
+off_by true f = absurd (let no : false ≡ true = f refl in cc)
+off_by false f = refl
+
+pub none_mixed : (rows : List Rowed) (s : Survey) → IsSurvey rows s → s.mixed.items ≡ [] → AreUnmixed rows
+none_mixed rows s is none = λ key. all_unmixed rows s key is
+    (λ t read. off_by (option_map_or is_mix (get same_texts s.declared t) false) (λ on. sym (ap (λ (ts : List MethodTexts). list_any (same_texts t) ts) none) ∙ is.mixed t on))
+
+-- one that passes a test, of which all pass another
+any_all : (p q : MethodTexts → Bool) (ts : List MethodTexts) → list_any p ts ≡ true → list_all q ts ≡ true → (t : MethodTexts) × (p t ≡ true) × (q t ≡ true)
+any_all p q [] some all = absurd cc
+any_all p q (t ∷ ts) some all =
+    let both : (q t ≡ true) × (list_all q ts ≡ true) = and_parts (q t) (list_all q ts) all in
+    by both.0 (λ on. any_all p q ts on both.1) (p t) refl some
   where
-    of : (x : Rowed) (key : Key) → Contains rows x → is_offered key (kin_under [] x) ≡ true → IsFound declared (contains same_name names x.class.name) x.class.loader key
-    of x key there on =
-        noted_key declared x.file.pool (contains same_name names x.class.name) x.class.loader key x.file.methods
-        (All-contains (IsRowNoted names declared) rows x (All-from_recursion (IsRowNoted names declared) rows noted) there) on
+    by : q t ≡ true → (list_any p ts ≡ true → (u : MethodTexts) × (p u ≡ true) × (q u ≡ true)) → (b : Bool) → p t ≡ b → (b || list_any p ts) ≡ true → (u : MethodTexts) × (p u ≡ true) × (q u ≡ true)
+    by here more true e on = (t, e, here)
+    by here more false e on = more on
+
+-- where a class declares all that are mixed, it declares a method, or that is unmixed
+module _ (rows : List Rowed) (s : Survey) (own : Rowed) (is : IsSurvey rows s) (all : list_all (λ t. is_some (method_named (file_of own.file) t.name t.descriptor)) s.mixed.items ≡ true) (key : Key) where
+  pub declared_or : (t : MethodTexts) → method_of t.name t.descriptor ≡ Some key → (is_some (lineages.method_of (bare own) key) ≡ true) ⊎ IsUnmixed rows key
+  declared_or t read = by (option_map_or is_mix (get same_texts s.declared t) false) refl
+    where
+      there : option_map_or is_mix (get same_texts s.declared t) false ≡ true → is_some (lineages.method_of (bare own) key) ≡ true
+      there on =
+          let found = any_all (same_texts t) (λ u. is_some (method_named (file_of own.file) u.name u.descriptor)) s.mixed.items (is.mixed t on) all in
+          let same : t ≡ found.0 = texts_same t found.0 found.1 in
+          sym (ap (λ (o : Option Key). is_some (option_and_then (member (file_of own.file).methods) o)) read)
+          ∙ ap (λ (u : MethodTexts). is_some (method_named (file_of own.file) u.name u.descriptor)) same ∙ found.2
+
+      by : (b : Bool) → option_map_or is_mix (get same_texts s.declared t) false ≡ b → (is_some (lineages.method_of (bare own) key) ≡ true) ⊎ IsUnmixed rows key
+      by true e = inl (there e)
+      by false e = inr (all_unmixed rows s key is (λ u other. ap (λ (x : MethodTexts). option_map_or is_mix (get same_texts s.declared x) false) (texts_one u t key other read) ∙ e))
+
+  pub offered_or : (j : Rowed) → Contains rows j → is_offered key (bare j) ≡ true → (is_some (lineages.method_of (bare own) key) ≡ true) ⊎ IsUnmixed rows key
+  offered_or j there on =
+      let mine : IsFound s.declared (contains same_name s.names j.class.name) j.class.loader key = row_found s.names s.declared rows j key is.noted there on in
+      declared_or mine.texts mine.read
 
 -- ---- as the code tells it
 
-all_more : {A : Type 0} (P : A → Type 0) (xs : List A) (i : ℕ) (x : A) → i < length xs → x ≡ get_or xs i x → AllByRecursion P (take i xs) → P x → AllByRecursion P (take (i + 1) xs)
+pub all_more : {A : Type 0} (P : A → Type 0) (xs : List A) (i : ℕ) (x : A) → i < length xs → x ≡ get_or xs i x → AllByRecursion P (take i xs) → P x → AllByRecursion P (take (i + 1) xs)
 all_more P xs i x h at all here =
     let next : take (i + 1) xs ≡ take i xs ++ x ∷ [] = take_more xs i x h ∙ ap (λ y. take i xs ++ y ∷ []) (sym at) in
     subst (AllByRecursion P) (sym next) (all_both P (take i xs) (x ∷ []) all (here, tt))
@@ -213,23 +294,43 @@ names_all v old new l rs own i above oe ie before step =
     let all : AllByRecursion (λ x. NamesAre new (v x)) rs = all_map (λ x. NamesAre old (v x)) (λ x. NamesAre new (v x)) (λ x was. λ k n there. step.0 n (was k n there)) rs first in
     all_both (NamesAre new) l.above (l.own ∷ []) (subst (λ (xs : List Rowed). AllByRecursion (NamesAre new) xs) above (all_forth v (NamesAre new) rs all)) (subst (NamesAre new) oe step.1, tt)
 
--- so many rows were noted
-pub front_unmixed : {A R S : Type 0} (v : A → Rowed) (names : IndexSet Name R) (declared : IndexMap MethodTexts Declarers S) (l : Lined) (rs : List A) (i many : ℕ) → map v rs ≡ l.above → i ≤ length rs → many ≡ i
-    → AllByRecursion (NamesAre names) (rows_in l) → AllByRecursion (λ x. IsRowNoted names declared (v x)) (take i rs) → IsUnmixed (take many (rows_in l))
-front_unmixed v names declared l rs i many above h me named noted =
-    let front : take i (rows_in l) ≡ map v (take i rs) = ap (λ (xs : List Rowed). take i (xs ++ l.own ∷ [])) (sym above) ∙ take-append-le i (map v rs) (l.own ∷ []) (subst (λ (n : ℕ). i ≤ n) (sym (length-map rs v)) h) ∙ take-map v i rs in
-    let all : AllByRecursion (NamesAre names) (take i (rows_in l)) =
-    recursion_from_All (NamesAre names) (take i (rows_in l)) (All-take (NamesAre names) i (rows_in l) (All-from_recursion (NamesAre names) (rows_in l) named)) in
-    subst (λ (n : ℕ). IsUnmixed (take n (rows_in l))) (sym me) (rows_unmixed names declared (take i (rows_in l)) all (subst (λ (xs : List Rowed). AllByRecursion (IsRowNoted names declared) xs) (sym front) (all_forth v (IsRowNoted names declared) (take i rs) noted)))
-
--- all rows were
-pub all_unmixed : {A R S : Type 0} (v : A → Rowed) (names : IndexSet Name R) (old new : IndexMap MethodTexts Declarers S) (l : Lined) (rs : List A) (own : Rowed) (i many : ℕ) → map v rs ≡ l.above → own ≡ l.own → i ≡ length rs → many ≡ i + 1
-    → AllByRecursion (NamesAre names) (rows_in l) → AllByRecursion (λ x. IsRowNoted names old (v x)) (take i rs) → Keeps old new × IsRowNoted names new own → IsUnmixed (take many (rows_in l))
-all_unmixed v names old new l rs own i many above oe ie me named noted step =
-    let counted : length (rows_in l) ≡ length rs + 1 = length_push l.above l.own ∙ ap (λ (n : ℕ). n + 1) (ap (λ (xs : List Rowed). length xs) (sym above) ∙ length-map rs v) in
-    let whole : take many (rows_in l) ≡ rows_in l = ap (λ (n : ℕ). take n (rows_in l)) (me ∙ ap (λ (n : ℕ). n + 1) ie ∙ sym counted) ∙ take-length (rows_in l) in
+-- and those of the own row
+pub rows_noted : {A R S : Type 0} (v : A → Rowed) (names : IndexSet Name R) (old new : IndexMap MethodTexts Declarers S) (l : Lined) (rs : List A) (own : Rowed) (i : ℕ) → map v rs ≡ l.above → own ≡ l.own → i ≡ length rs
+    → AllByRecursion (λ x. IsRowNoted names old (v x)) (take i rs) → Keeps old new × IsRowNoted names new own → AllByRecursion (IsRowNoted names new) (rows_in l)
+rows_noted v names old new l rs own i above oe ie noted step =
     let first : AllByRecursion (λ x. IsRowNoted names old (v x)) rs = subst (λ xs. AllByRecursion (λ x. IsRowNoted names old (v x)) xs) (ap (λ (n : ℕ). take n rs) ie ∙ take-length rs) noted in
     let all : AllByRecursion (λ x. IsRowNoted names new (v x)) rs = all_map (λ x. IsRowNoted names old (v x)) (λ x. IsRowNoted names new (v x)) (λ x. row_still names old new step.0 (v x)) rs first in
-    subst (λ (xs : List Rowed). IsUnmixed xs) (sym whole)
-    (rows_unmixed names new (rows_in l) named
-    (all_both (IsRowNoted names new) l.above (l.own ∷ []) (subst (λ (xs : List Rowed). AllByRecursion (IsRowNoted names new) xs) above (all_forth v (IsRowNoted names new) rs all)) (subst (IsRowNoted names new) oe step.1, tt)))
+    all_both (IsRowNoted names new) l.above (l.own ∷ []) (subst (λ (xs : List Rowed). AllByRecursion (IsRowNoted names new) xs) above (all_forth v (IsRowNoted names new) rs all)) (subst (IsRowNoted names new) oe step.1, tt)
+
+-- ---- the methods that are mixed
+
+-- what is left of the methods: those that are mixed are listed, or among them
+abbrev pub AreLeft : {S : Type 0} → IndexMap MethodTexts Declarers S → List MethodTexts → List (MethodTexts × Declarers) → Type 0
+AreLeft declared mixed left =
+    (t : MethodTexts) → option_map_or is_mix (get same_texts declared t) false ≡ true → (list_any (same_texts t) mixed || option_map_or is_mix (lookup (same_texts t) left) false) ≡ true
+
+step : (a s m b : Bool) → (a || (if s then m else b)) ≡ true → ((a || (m && s)) || b) ≡ true
+step true s m b e = refl
+step false true true b e = refl
+step false true false b e = absurd cc
+step false false true b e = e
+step false false false b e = e
+
+-- one more is looked at
+pub left_more : {S : Type 0} (declared : IndexMap MethodTexts Declarers S) (mixed after : List MethodTexts) (left : List (MethodTexts × Declarers)) (t : MethodTexts) (d : Declarers) (b : Bool) → b ≡ is_mix d → after ≡ mixed ++ (if b then t ∷ [] else [])
+    → AreLeft declared mixed ((t, d) ∷ left) → AreLeft declared after left
+left_more declared mixed after left t d b be more are = λ u on.
+    let p : MethodTexts → Bool = same_texts u in
+    let rest : Bool = option_map_or is_mix (lookup p left) false in
+    ap (λ (ts : List MethodTexts). list_any p ts || rest) more
+    ∙ ap (λ (x : Bool). x || rest) (list_any-append p mixed (if b then t ∷ [] else []) ∙ ap (λ (x : Bool). list_any p mixed || x) (extra p b (p t) refl))
+    ∙ step (list_any p mixed) (p t) b rest (ap (λ (x : Bool). list_any p mixed || x) (branch p (p t)) ∙ are u on)
+  where
+    extra : (p : MethodTexts → Bool) (m s : Bool) → p t ≡ s → list_any p (if m then t ∷ [] else []) ≡ (m && s)
+    extra p true true e = rw e refl
+    extra p true false e = rw e refl
+    extra p false s e = refl
+
+    branch : (p : MethodTexts → Bool) (s : Bool) → (if s then b else option_map_or is_mix (lookup p left) false) ≡ option_map_or is_mix (if s then Some d else lookup p left) false
+    branch p true = be
+    branch p false = refl

@@ -1,13 +1,13 @@
 -- Which classes declare a method, as a survey notes it (JVMS SE 8, 5.4.2).
 use Rattle.std.specs.Prelude.{◌≡◌, ◌==◌, ℕ, Bool, true, false, ◌&&◌, not, nat_eq, List, Option, Some, slice_get}
 use Rattle.std.specs.Option.{option_map_or}
-use Rattle.std.specs.List.{AllByRecursion}
+use Rattle.std.specs.List.{AllByRecursion, list_any}
 use Rattle.std.specs.Cmp.Lexicographic.{pointwise}
 use Rattle.indexmap.specs.IndexMap.{IndexMap, get}
 use Rattle.indexmap.specs.IndexSet.{IndexSet, contains}
 use Rattle.cl_classfile.specs.declared.entry.Entry.{Entry}
 use Rattle.cl_classfile.specs.Structure.{Member}
-use Rattle.cl_classfile.specs.Files.{Name, file_of, same_name, text_at}
+use Rattle.cl_classfile.specs.Files.{Key, Name, file_of, method_of, same_name, text_at}
 use Rattle.cl_model.specs.Lineages.{is_virtual}
 use Rattle.cl_hierarchy.specs.Rows.{Rowed}
 use Rattle.cl_preparation.specs.declared.declarers.Declarers.{Declarers}
@@ -20,6 +20,25 @@ abbrev pub admits : Declarers → Bool → ℕ → Bool
 admits (declarers.One a) named l = not named && (a == l)
 admits declarers.Several named l = not named
 admits (declarers.Bound a) named l = a == l
+admits declarers.Mixed named l = true
+
+-- one loader defined them all
+abbrev pub is_single : Declarers → Bool
+is_single (declarers.One a) = true
+is_single declarers.Several = false
+is_single (declarers.Bound a) = true
+is_single declarers.Mixed = false
+
+-- more than one did, and one of the classes is named as a superinterface
+abbrev pub is_mix : Declarers → Bool
+is_mix (declarers.One a) = false
+is_mix declarers.Several = false
+is_mix (declarers.Bound a) = false
+is_mix declarers.Mixed = true
+
+-- it is not so
+abbrev pub is_plain : Declarers → Bool
+is_plain d = not (is_mix d)
 
 -- it is among those that are known, if there are some
 abbrev pub is_known : Option Declarers → Bool → ℕ → Bool
@@ -38,6 +57,18 @@ same_texts a b = pointwise nat_eq a.name b.name && pointwise nat_eq a.descriptor
 abbrev pub is_noted : {S : Type 0} → IndexMap MethodTexts Declarers S → MethodTexts → Bool → ℕ
     → Bool
 is_noted declared t named l = is_known (get same_texts declared t) named l
+
+-- those that are noted of the method with this key, if some are, pass a test
+abbrev pub IsTold : {S : Type 0} → IndexMap MethodTexts Declarers S → Key → (Declarers → Bool) → Type 0
+IsTold declared key test =
+    (t : MethodTexts) → method_of t.name t.descriptor ≡ Some key
+    → option_map_or test (get same_texts declared t) true ≡ true
+
+-- the methods that are mixed are among these
+abbrev pub AreMixed : {S : Type 0} → IndexMap MethodTexts Declarers S → List MethodTexts → Type 0
+AreMixed declared mixed =
+    (t : MethodTexts) → option_map_or is_mix (get same_texts declared t) false ≡ true
+    → list_any (same_texts t) mixed ≡ true
 
 -- what was noted still is
 abbrev pub Keeps : {S : Type 0} → IndexMap MethodTexts Declarers S

@@ -9,4 +9,5 @@ pub mod Nearby
 pub mod Packages
 pub mod Quiet
 pub mod Relatives
+pub mod Surveys
 pub mod Walks

@@ -1,5 +1,5 @@
 -- What is looked at for the few equalities of a preparation, as rows (JVMS SE 8, 5.4.2).
-use Rattle.std.specs.Prelude.{◌≡◌, ℕ, false, if◌then◌else◌, List, [], ◌++◌, Some, map, filter, flat_map}
+use Rattle.std.specs.Prelude.{◌≡◌, ℕ, false, true, if◌then◌else◌, List, [], ◌++◌, Some, map, filter, flat_map}
 use Rattle.std.specs.List.{AllByRecursion}
 use Rattle.cl_classfile.specs.Files.{Key, Member, file_of, is_interface}
 use Rattle.cl_model.specs.Lineages.{superclasses, superinterfaces}
@@ -15,7 +15,7 @@ use Rattle.cl_preparation.specs.Walks.{opens}
 -- class, and for what a class that is no interface inherits the same equalities (5.4.2)
 pub record AddAll (l : Lined) (over : List Rowed) : Type 0 where
   pub loaders_are :
-      (key : Key) (listed : List ℕ)
+      (key : Key) (listed : List ℕ) → takes_part key (bare l.own) ≡ true
       → others_after l.own.class.loader listed (loaders (filter (takes_part key) (map bare over)))
       ≡ others_after l.own.class.loader listed
       (loaders (filter (takes_part key) (superinterfaces (kin_of l))))

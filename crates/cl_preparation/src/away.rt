@@ -1,13 +1,14 @@
-//! The superclasses of other loaders than a class's own, as preparation looks at them (JVMS SE 8, 5.4.2).
+//! Classes above a class, as preparation looks at them (JVMS SE 8, 5.4.2).
 
-ghost use Rattle.std.specs.Prelude.{◌≡◌, ◌<◌, ◌++◌, List, Some, true, length, map, filter, slice_get, option_map, IfOk, OnOk};
+ghost use Rattle.std.specs.Prelude.{◌≡◌, ◌<◌, ◌++◌, List, [], Some, false, true, length, map, filter, flat_map, slice_get, option_map, IfOk, OnOk};
 ghost use Rattle.std.specs.List.{list_any};
 ghost use Rattle.cl_classfile.specs.Files.{file_of};
 ghost use Rattle.cl_model.specs.Lineages.{is_offered, method_of};
+ghost use Rattle.cl_model.specs.Preparation.{takes_part};
 ghost use Rattle.cl_hierarchy.specs.Rows.{Rowed};
 ghost use Rattle.cl_preparation.specs.Fewer.{loaders, others_after};
 ghost use Rattle.cl_preparation.specs.Relatives.{AreFilters, AreNames, bare};
-ghost use Rattle.cl_preparation.specs.Walks.{opens};
+ghost use Rattle.cl_preparation.specs.Walks.{counts, opens};
 
 use crate::filter::NameFilter;
 use crate::key::MethodKey;
@@ -20,9 +21,9 @@ use std::alloc::{AllocError, Global};
 use std::marker::Model;
 use std::sync::Arc;
 
-/// Superclasses of other loaders than a class's own, nearest first. A class may have thousands, and all classes below them
-/// have the same: so no more is kept of each than where its row is, but, where much is to be looked up, a filter of its
-/// methods' names, where it has many.
+/// Superclasses of other loaders than a class's own, nearest first, or its superinterfaces, in preorder. A class may have
+/// thousands, and all classes below them have the same: so no more is kept of each than where its row is, but, where much is to
+/// be looked up, a filter of its methods' names, where it has many.
 pub(crate) struct Away<'a, T: Told> {
     rows: Vec<&'a Arc<ClassRow<T>>>,
     /// Of the first of them; of others there is none.
@@ -59,6 +60,25 @@ fn filters_of<T: Told>(
         filters.push(names_of(alloc, row.file())?)?;
     }
     Ok(filters)
+}
+
+/// Whether a class declares methods.
+fn has_methods<T: Told>(row: &ClassRow<T>) -> bool
+    ensures { result ≡ false → (file_of row.now.file).methods ≡ [] }
+{
+    !row.file().methods().is_empty()
+}
+
+/// Whether one of the classes of these rows does.
+fn any_has_methods<T: Told>(rows: &[&Arc<ClassRow<T>>]) -> bool
+    ensures { result ≡ false → flat_map (λ r. (bare r.now.value).file.methods) rows.now ≡ [] }
+{
+    for row in rows {
+        if has_methods(row) {
+            return true;
+        }
+    }
+    false
 }
 
 impl<'a, T: Told> Away<'a, T> {
@@ -126,6 +146,15 @@ impl<'a, T: Told> Away<'a, T> {
         }
     }
 
+    /// Whether the class at a place declares a method with this key that takes part in overriding (JVMS SE 8, 5.4.5).
+    fn takes_part(&self, place: usize, key: &MethodKey) -> bool
+        requires { place < length self.now }
+        ensures { (r : Rowed) → slice_get self.now place ≡ Some r
+            → result ≡ takes_part key.now (bare r) }
+    {
+        !key.is_special() && self.offers(place, key)
+    }
+
     /// Whether the class at a place declares a method with this key that takes part in overriding, and is public or protected
     /// (JVMS SE 8, 5.4.5).
     fn is_open(&self, place: usize, key: &MethodKey) -> bool
@@ -148,24 +177,53 @@ impl<'a, T: Told> Away<'a, T> {
         false
     }
 
-    /// Lists, once each, the other loaders than this of those that declare a public or protected method with this key which
-    /// takes part in overriding.
-    pub fn list_open(
+    /// Whether the class at a place declares a method with this key that takes part in overriding, a public or a protected one where
+    /// that is asked.
+    fn counts(&self, place: usize, key: &MethodKey, only_open: bool) -> bool
+        requires { place < length self.now }
+        ensures { (r : Rowed) → slice_get self.now place ≡ Some r
+            → result ≡ counts only_open key.now (bare r) }
+    {
+        if only_open {
+            self.is_open(place, key)
+        } else {
+            self.takes_part(place, key)
+        }
+    }
+
+    /// Lists, once each, the other loaders than this of those that declare a method with this key which takes part in
+    /// overriding, a public or a protected one where that is asked.
+    pub fn list_counted(
         &self,
         listed: &mut Listed,
         own: LoaderId,
         key: &MethodKey,
+        only_open: bool,
     ) -> Result<(), AllocError>
         ensures { OnOk result (listed.new ≡ listed.old ++ others_after own listed.old
-            (loaders (filter (opens key.now) (map bare self.now)))) }
+            (loaders (filter (counts only_open key.now) (map bare self.now)))) }
     {
         for place in 0..self.len() {
             let loader = self.rows[place].class().loader;
             // first, since a look at its methods takes longer
-            if listed.is_new(own, loader) && self.is_open(place, key) {
+            if listed.is_new(own, loader) && self.counts(place, key, only_open) {
                 listed.push(loader)?;
             }
         }
         Ok(())
+    }
+
+    /// Whether one of them declares methods.
+    pub fn any_has_methods(&self) -> bool
+        ensures { result ≡ false → flat_map (λ r. (bare r).file.methods) self.now ≡ [] }
+    {
+        any_has_methods(self.rows.as_slice())
+    }
+
+    /// The rows.
+    pub fn as_slice(&self) -> &[&'a Arc<ClassRow<T>>]
+        ensures { map (λ r. r.now.value) result.now ≡ self.now }
+    {
+        self.rows.as_slice()
     }
 }

@@ -1,10 +1,12 @@
 //! Which loaders defined the classes that declare a method (JVMS SE 8, 5.4.2).
 
-ghost use Rattle.std.specs.Prelude.{◌≡◌, true, IfOk, IfSome};
+ghost use Rattle.std.specs.Prelude.{◌≡◌, ℕ, Some, false, true, IfOk, OnOk};
 ghost use Rattle.std.specs.List.{AllByRecursion};
+ghost use Rattle.cl_classfile.specs.Files.{method_of};
 ghost use Rattle.indexmap.specs.IndexMap.{get};
-ghost use Rattle.cl_preparation.specs.Declarers.{IsNoted, Joins, Keeps, admits, is_noted, same_texts};
+ghost use Rattle.cl_preparation.specs.Declarers.{IsNoted, IsTold, Joins, Keeps, admits, is_mix, is_noted, is_plain, is_single, same_texts};
 
+use crate::key::MethodKey;
 use crate::method::is_virtual;
 use cl_classfile::{Entry, Member, text_at};
 use cl_hierarchy::ClassRow;
@@ -36,12 +38,50 @@ pub(crate) enum Declarers {
     One(LoaderId),
     /// More than one, and none of the classes is named as a superinterface.
     Several,
-    /// This one, and it has to be: one of the classes is named as a superinterface.
+    /// This one, and one of the classes is named as a superinterface.
     Bound(LoaderId),
+    /// More than one, and one of the classes is named as a superinterface.
+    Mixed,
 }
 
 /// Methods, with who declares them.
 pub(crate) type Declared = IndexMap<MethodTexts, Declarers, Seed>;
+
+impl MethodTexts {
+    /// The texts of a method's key.
+    fn of(alloc: Global, key: &MethodKey) -> Result<MethodTexts, AllocError>
+        ensures { IfOk result (λ t. method_of t.name t.descriptor ≡ Some key.now) }
+    {
+        Ok(MethodTexts {
+            name: key.name().try_clone(alloc)?,
+            descriptor: key.descriptor().try_clone(alloc)?,
+        })
+    }
+
+    /// A copy, which shares the bytes.
+    pub fn try_clone(&self, alloc: Global) -> Result<MethodTexts, AllocError>
+        ensures { IfOk result (λ t. t ≡ self.now) }
+    {
+        Ok(MethodTexts {
+            name: self.name.try_clone(alloc)?,
+            descriptor: self.descriptor.try_clone(alloc)?,
+        })
+    }
+
+    /// The name.
+    pub fn name(&self) -> &Name
+        ensures { result.now ≡ self.now.name }
+    {
+        &self.name
+    }
+
+    /// The text of the descriptor.
+    pub fn descriptor(&self) -> &Name
+        ensures { result.now ≡ self.now.descriptor }
+    {
+        &self.descriptor
+    }
+}
 
 impl Declarers {
     /// Those of a method that one class declares.
@@ -55,73 +95,123 @@ impl Declarers {
         }
     }
 
-    /// With one class more: none where a superinterface and a class of another loader would declare the method.
-    fn with(&self, named: bool, loader: LoaderId) -> Option<Declarers>
-        ensures { IfSome result (Joins (Some self.now) named loader) }
+    /// Those of a method that classes of more than one loader declare, the last of which is named as a superinterface or not.
+    fn apart(named: bool) -> Declarers
+        ensures last { (a : ℕ) → admits result named a ≡ true }
+        ensures others { (a : ℕ) → admits result false a ≡ true }
+    {
+        if named {
+            Declarers::Mixed
+        } else {
+            Declarers::Several
+        }
+    }
+
+    /// With one class more.
+    fn with(&self, named: bool, loader: LoaderId) -> Declarers
+        ensures { Joins (Some self.now) named loader result }
     {
         match self {
             Declarers::One(other) => {
                 if *other == loader {
-                    Some(Declarers::one(named, loader))
-                } else if named {
-                    None
+                    Declarers::one(named, loader)
                 } else {
-                    Some(Declarers::Several)
+                    Declarers::apart(named)
                 }
             }
-            Declarers::Several => {
-                if named {
-                    None
-                } else {
-                    Some(Declarers::Several)
-                }
-            }
+            Declarers::Several => Declarers::apart(named),
             Declarers::Bound(other) => {
                 if *other == loader {
-                    Some(Declarers::Bound(loader))
+                    Declarers::Bound(loader)
                 } else {
-                    None
+                    Declarers::Mixed
                 }
             }
+            Declarers::Mixed => Declarers::Mixed,
+        }
+    }
+
+    /// Whether one loader defined them all.
+    fn is_single(&self) -> bool
+        ensures { result ≡ is_single self.now }
+    {
+        match self {
+            Declarers::One(_) => true,
+            Declarers::Several => false,
+            Declarers::Bound(_) => true,
+            Declarers::Mixed => false,
+        }
+    }
+
+    /// Whether more than one loader defined them, and one of them is named as a superinterface.
+    pub fn is_mix(&self) -> bool
+        ensures { result ≡ is_mix self.now }
+    {
+        match self {
+            Declarers::One(_) => false,
+            Declarers::Several => false,
+            Declarers::Bound(_) => false,
+            Declarers::Mixed => true,
         }
     }
 }
 
-/// Who declares a method, with one class more, if that may be.
-fn joined(
+/// Whether one loader defined all classes that are known to declare a method, if some are.
+pub(crate) fn is_of_one(
+    alloc: Global,
     declared: &Declared,
-    texts: &MethodTexts,
-    named: bool,
-    loader: LoaderId,
-) -> Option<Declarers>
-    ensures { IfSome result (Joins (get same_texts declared.now texts.now) named loader) }
+    key: &MethodKey,
+) -> Result<bool, AllocError>
+    ensures { IfOk result (λ b. b ≡ true → IsTold declared.now key.now is_single) }
 {
-    match declared.get(texts) {
-        Some(known) => known.with(named, loader),
-        None => Some(Declarers::one(named, loader)),
+    let texts = MethodTexts::of(alloc, key)?;
+    match declared.get(&texts) {
+        Some(declarers) => Ok(declarers.is_single()),
+        None => Ok(true),
     }
 }
 
-/// Notes that a class declares a method, and answers whether that may be.
+/// Whether a method is not known to be declared by a class that is named as a superinterface and by one of another loader.
+pub(crate) fn is_no_mix(
+    alloc: Global,
+    declared: &Declared,
+    key: &MethodKey,
+) -> Result<bool, AllocError>
+    ensures { IfOk result (λ b. b ≡ true → IsTold declared.now key.now is_plain) }
+{
+    let texts = MethodTexts::of(alloc, key)?;
+    match declared.get(&texts) {
+        Some(declarers) => Ok(!declarers.is_mix()),
+        None => Ok(true),
+    }
+}
+
+/// Who declares a method, with one class more.
+fn joined(declared: &Declared, texts: &MethodTexts, named: bool, loader: LoaderId) -> Declarers
+    ensures { Joins (get same_texts declared.now texts.now) named loader result }
+{
+    match declared.get(texts) {
+        Some(known) => known.with(named, loader),
+        None => Declarers::one(named, loader),
+    }
+}
+
+/// Notes that a class declares a method.
 fn note(
     declared: &mut Declared,
     texts: MethodTexts,
     named: bool,
     loader: LoaderId,
-) -> Result<bool, AllocError>
-    ensures { IfOk result (λ b. b ≡ true → Keeps declared.old declared.new
+) -> Result<(), AllocError>
+    ensures { OnOk result (Keeps declared.old declared.new
         × (is_noted declared.new texts named loader ≡ true)) }
 {
-    match joined(declared, &texts, named, loader) {
-        Some(declarers) => {
-            declared.insert(texts, declarers)?;
-            Ok(true)
-        }
-        None => Ok(false),
-    }
+    let declarers = joined(declared, &texts, named, loader);
+    declared.insert(texts, declarers)?;
+    Ok(())
 }
 
-/// Notes a method of a class, if it is neither private nor static, and answers whether that may be.
+/// Notes a method of a class, if it is neither private nor static.
 fn note_member(
     alloc: Global,
     declared: &mut Declared,
@@ -129,12 +219,12 @@ fn note_member(
     member: &Member,
     named: bool,
     loader: LoaderId,
-) -> Result<bool, AllocError>
-    ensures { IfOk result (λ b. b ≡ true → Keeps declared.old declared.new
+) -> Result<(), AllocError>
+    ensures { OnOk result (Keeps declared.old declared.new
         × IsNoted declared.new pool.now named loader member.now) }
 {
     if !is_virtual(member.flags()) {
-        return Ok(true);
+        return Ok(());
     }
     let name = text_at(pool, member.name_index());
     let descriptor = text_at(pool, member.descriptor_index());
@@ -147,19 +237,18 @@ fn note_member(
             note(declared, texts, named, loader)
         }
         // (each method of a class file has both)
-        _ => Ok(true),
+        _ => Ok(()),
     }
 }
 
-/// Notes the methods of a class that are neither private nor static, and answers whether each may be: a superinterface and
-/// a class of another loader must not declare the same one.
+/// Notes the methods of a class that are neither private nor static.
 pub(crate) fn note_row<T: Told>(
     alloc: Global,
     declared: &mut Declared,
     row: &ClassRow<T>,
     named: bool,
-) -> Result<bool, AllocError>
-    ensures { IfOk result (λ b. b ≡ true → Keeps declared.old declared.new × AllByRecursion
+) -> Result<(), AllocError>
+    ensures { OnOk result (Keeps declared.old declared.new × AllByRecursion
         (IsNoted declared.new row.now.file.pool named row.now.class.loader)
         row.now.file.methods) }
 {
@@ -167,9 +256,7 @@ pub(crate) fn note_row<T: Told>(
     let pool = row.file().pool();
     let members = row.file().methods();
     for member in members {
-        if !note_member(alloc, declared, pool, member, named, loader)? {
-            return Ok(false);
-        }
+        note_member(alloc, declared, pool, member, named, loader)?;
     }
-    Ok(true)
+    Ok(())
 }

@@ -1,27 +1,31 @@
 //! The few loading constraints of a preparation that stand for all of them (JVMS SE 8, 5.3.4, 5.4.2).
 
-ghost use Rattle.std.specs.Prelude.{◌≡◌, ◌≤◌, ◌++◌, [], Some, if◌then◌else◌, false, length, map, filter, flat_map, IfOk, OnOk};
+ghost use Rattle.std.specs.Prelude.{◌≡◌, ◌≤◌, ◌++◌, [], Some, if◌then◌else◌, false, true, length, map, filter, flat_map, IfOk, IfSome, OnOk};
 ghost use Rattle.std.specs.List.{AllByRecursion};
 ghost use Rattle.cl_classfile.specs.Files.{file_of, is_interface};
 ghost use Rattle.cl_model.specs.Lineages.{superclasses};
 ghost use Rattle.cl_model.specs.Preparation.{constraints_of};
 ghost use Rattle.cl_hierarchy.specs.ClassesAt.{lined_at};
 ghost use Rattle.cl_hierarchy.specs.Imposed.{AreEnough, OfPreparation, needs_of};
-ghost use Rattle.cl_hierarchy.specs.Lineages.{IsRowIn, kin_at, kin_of, others_of, rows_in};
+ghost use Rattle.cl_hierarchy.specs.Lineages.{IsRowIn, Lined, kin_at, kin_of, others_of, rows_in};
 ghost use Rattle.cl_preparation.specs.Fewer.{by_superinterfaces, fewer_constraints_of, fewer_inherited, loaders, others_after};
-ghost use Rattle.cl_preparation.specs.Nearby.{AreNear, near_declared, near_loaders};
+ghost use Rattle.cl_preparation.specs.Nearby.{AddAll, AreNear, near_declared, near_loaders};
 ghost use Rattle.cl_preparation.specs.Relatives.{bare};
+ghost use Rattle.cl_preparation.specs.Surveys.{Surveys};
 ghost use Rattle.cl_preparation.specs.Walks.{opens};
 
 use crate::away::Away;
 use crate::inherited::Inheritance;
 use crate::key::MethodKey;
-use crate::listed::{Listed, list_others};
+use crate::listed::Listed;
 use crate::method::Method;
 use crate::plain::{plain_needs, push_with};
-use crate::quiet::{has_own_over, over_of};
+use crate::preparations::Preparations;
+use crate::quiet::{are_quiet, has_own_over};
 use crate::relative::Relative;
 use crate::relatives::{all_of, has_none_over, imposes_nothing, takes_no_part};
+use crate::silent::is_silent;
+use crate::survey::Survey;
 use cl_hierarchy::{ClassAt, ClassRow, Equalities, Lineage, Lineages};
 use cl_model::{Equality, Told};
 use std::alloc::{AllocError, Global};
@@ -32,13 +36,13 @@ const FEW_LOOKS: usize = 4;
 
 /// A class with what its methods are looked up in: its superclasses of other loaders than its own, nearest first, of an
 /// interface none, and its superinterfaces in preorder, or none where these add nothing.
-struct Nearby<'a, T: Told> {
+struct Nearby<'a, 'b, T: Told> {
     own: Relative<T>,
     away: Away<'a, T>,
-    over: Vec<Relative<T>>,
+    over: Away<'b, T>,
 }
 
-impl<'a, T: Told> Drop for Nearby<'a, T> {
+impl<'a, 'b, T: Told> Drop for Nearby<'a, 'b, T> {
     fn drop(self) {
         let Nearby {
             own: _,
@@ -60,29 +64,7 @@ fn away_of<T: Told>(alloc: Global, lineage: &Lineage<T>) -> Result<Away<'_, T>, 
     Away::filtered(alloc, rows)
 }
 
-/// Whether one of these classes declares methods.
-fn any_has_methods<T: Told>(classes: &[Relative<T>]) -> bool
-    ensures { result ≡ false → flat_map (λ r. (bare r).file.methods) classes.now ≡ [] }
-{
-    for class in classes {
-        if class.has_methods() {
-            return true;
-        }
-    }
-    false
-}
-
-impl<'a, T: Told> Nearby<'a, T> {
-    /// The class of a lineage.
-    fn of(alloc: Global, lineage: &'a Lineage<T>) -> Result<Nearby<'a, T>, AllocError>
-        ensures { IfOk result (λ n. AreNear lineage.now n.own n.away n.over.items) }
-    {
-        let away = away_of(alloc, lineage)?;
-        let over = over_of(alloc, lineage, &away)?;
-        let own = Relative::of(alloc, lineage.own())?;
-        Ok(Nearby { own, away, over })
-    }
-
+impl<'a, 'b, T: Told> Nearby<'a, 'b, T> {
     /// Lists, once each, the other loaders of superclasses that declare a public or protected method with this key; of an
     /// interface none (JVMS SE 8, 5.4.2).
     fn list_above(&self, listed: &mut Listed, key: &MethodKey) -> Result<(), AllocError>
@@ -93,19 +75,19 @@ impl<'a, T: Told> Nearby<'a, T> {
         if self.own.is_interface() {
             return Ok(());
         }
-        self.away.list_open(listed, self.own.loader(), key)
+        self.away.list_counted(listed, self.own.loader(), key, true)
     }
 
     /// The other loaders of what a method with this key overrides, each once: those of superclasses, nearest first, then those
     /// of superinterfaces. What is overridden for its package alone is of a loader that is listed (JVMS SE 8, 5.4.5).
     fn loaders_over(&self, alloc: Global, key: &MethodKey) -> Result<Listed, AllocError>
         ensures { IfOk result (λ v. v ≡ near_loaders self.now.own self.now.away
-            self.now.over.items key.now) }
+            self.now.over key.now) }
     {
         let mut listed = Listed::new(alloc);
         self.list_above(&mut listed, key)?;
         let own = self.own.loader();
-        list_others(&mut listed, own, key, self.over.as_slice())?;
+        self.over.list_counted(&mut listed, own, key, false)?;
         Ok(listed)
     }
 
@@ -117,7 +99,7 @@ impl<'a, T: Told> Nearby<'a, T> {
         method: &Method,
     ) -> Result<(), AllocError>
         ensures { OnOk result (needs_of needs.new.items ≡ needs_of needs.old.items ++ near_declared
-            self.now.own self.now.away self.now.over.items method.now) }
+            self.now.own self.now.away self.now.over method.now) }
     {
         let key = method.key();
         if !self.own.takes_part(key) {
@@ -136,7 +118,7 @@ impl<'a, T: Told> Nearby<'a, T> {
         methods: &[Method],
     ) -> Result<(), AllocError>
         ensures { OnOk result (needs_of needs.new.items ≡ needs_of needs.old.items ++ flat_map
-            (near_declared self.now.own self.now.away self.now.over.items) methods.now) }
+            (near_declared self.now.own self.now.away self.now.over) methods.now) }
     {
         for method in methods {
             self.push_declared(alloc, needs, method)?;
@@ -152,26 +134,25 @@ impl<'a, T: Told> Nearby<'a, T> {
         lineage: &Lineage<T>,
     ) -> Result<(), AllocError>
         requires near { AreNear lineage.now self.now.own self.now.away
-            self.now.over.items }
+            self.now.over }
         requires class { is_interface (file_of self.now.own.file) ≡ false }
         ensures { OnOk result (needs_of needs.new.items ≡ needs_of needs.old.items
             ++ by_superinterfaces fewer_inherited (kin_of lineage.now)) }
     {
-        let over = self.over.as_slice();
         // only where a superinterface declares methods is a list of all superclasses made
-        if !any_has_methods(over) {
+        if !self.over.any_has_methods() {
             return Ok(());
         }
         let rows = lineage.superclasses(alloc)?;
         let above = all_of(alloc, rows.as_slice())?;
         let inherited = Inheritance::of(&self.own, above.as_slice(), Some(&self.away));
-        inherited.push_interfaces(alloc, needs, over)
+        inherited.push_rows(alloc, needs, self.over.as_slice())
     }
 
     /// What the methods of the class impose, each other loader once for a method.
     fn declared(&self, alloc: Global) -> Result<Vec<Equality>, AllocError>
         ensures { IfOk result (λ v. needs_of v.items ≡ flat_map (near_declared self.now.own
-            self.now.away self.now.over.items) (bare self.now.own).file.methods) }
+            self.now.away self.now.over) (bare self.now.own).file.methods) }
     {
         let mut needs = Vec::new(alloc);
         let methods = self.own.methods(alloc)?;
@@ -180,23 +161,148 @@ impl<'a, T: Told> Nearby<'a, T> {
     }
 
     /// What the preparation of the class of this lineage imposes, each other loader once for a method.
-    fn needs(&self, alloc: Global, lineage: &Lineage<T>) -> Result<Vec<Equality>, AllocError>
+    fn needs(
+        &self,
+        alloc: Global,
+        survey: Option<&Survey>,
+        lineage: &Lineage<T>,
+    ) -> Result<Vec<Equality>, AllocError>
+        requires survey { IfSome survey (λ s. Surveys lineage.now s.now) }
         requires near { AreNear lineage.now self.now.own self.now.away
-            self.now.over.items }
+            self.now.over }
         requires class { is_interface (file_of self.now.own.file) ≡ false }
         ensures { IfOk result (λ v. needs_of v.items
             ≡ fewer_constraints_of (kin_of lineage.now)) }
     {
         let mut needs = self.declared(alloc)?;
+        if inherits_alike(survey, &self.own) {
+            return Ok(needs);
+        }
         self.push_over(alloc, &mut needs, lineage)?;
         Ok(needs)
     }
 }
 
-/// The few equalities that stand for all that the preparation of a class imposes, which is no interface.
-fn class_needs<T: Told>(alloc: Global, lineage: &Lineage<T>) -> Result<Vec<Equality>, AllocError>
-    requires { is_interface (file_of lineage.now.own.file) ≡ false }
-    ensures { IfOk result (λ v. needs_of v.items ≡ fewer_constraints_of
+/// Whether what stands over the class at a place, which is no interface, may add to the few: else it has no superinterfaces, or such
+/// as add nothing.
+fn may_add<T: Told>(
+    alloc: Global,
+    survey: Option<&Survey>,
+    lineage: &Lineage<T>,
+    away: &Away<'_, T>,
+) -> Result<bool, AllocError>
+    requires survey { IfSome survey (λ s. Surveys lineage.now s.now) }
+    requires classes { map (kin_at lineage.now) away.now
+        ≡ others_of (Some (kin_of lineage.now).class.loader) (superclasses (kin_of lineage.now)) }
+    requires rows { AllByRecursion (IsRowIn (rows_in lineage.now)) away.now }
+    ensures { IfOk result (λ b. b ≡ false → AddAll lineage.now []) }
+{
+    // most classes have none
+    if has_none_over(lineage) {
+        return Ok(false);
+    }
+    if has_no_mix(survey) {
+        return Ok(false);
+    }
+    // mostly, where there are some, and a tour through all rows takes longer
+    let are_quiet = are_quiet(alloc, lineage, away)?;
+    Ok(!are_quiet)
+}
+
+/// Whether a survey tells that no method which a superinterface declares is one that a class of another loader declares.
+fn has_no_mix(survey: Option<&Survey>) -> bool
+    ensures { (l : Lined) → IfSome survey.entry (λ s. Surveys l s.now) → result ≡ true
+        → AddAll l [] }
+{
+    match survey {
+        Some(survey) => survey.has_no_mix(),
+        None => false,
+    }
+}
+
+/// Whether a survey tells that what a class does not declare itself is declared by superinterfaces of the loader of all that do.
+fn inherits_alike<T: Told>(survey: Option<&Survey>, own: &Relative<T>) -> bool
+    ensures { (l : Lined) → IfSome survey.entry (λ s. Surveys l s.now) → own.now ≡ l.own
+        → result ≡ true → [] ≡ by_superinterfaces fewer_inherited (kin_of l) }
+{
+    match survey {
+        Some(survey) => survey.is_mix_declared(own.row()),
+        None => false,
+    }
+}
+
+/// Looks for the superinterfaces of the class at a place, where they may add to the few.
+fn find_over<T: Told>(
+    alloc: Global,
+    whole: &mut Preparations<T>,
+    place: usize,
+    may_add: bool,
+) -> Result<(), AllocError>
+    requires within { place ≤ length whole.old.above }
+    ensures { whole.new ≡ whole.old }
+{
+    if may_add {
+        whole.find_superinterfaces(alloc, place)
+    } else {
+        Ok(())
+    }
+}
+
+/// The superinterfaces of the class at a place, in preorder, where they may add to the few.
+fn over_at<T: Told>(
+    alloc: Global,
+    whole: &Lineages<T>,
+    place: usize,
+    may_add: bool,
+) -> Result<Away<'_, T>, AllocError>
+    requires within { place ≤ length whole.now.above }
+    ensures { (l : Lined) → l ≡ lined_at whole.now place → (may_add ≡ false → AddAll l [])
+        → IfOk result (λ a. AddAll l a) }
+{
+    if !may_add {
+        return Ok(Away::unfiltered(alloc, Vec::new(alloc)));
+    }
+    let rows = whole.superinterfaces_at(alloc, place)?;
+    Ok(Away::unfiltered(alloc, rows))
+}
+
+/// The few equalities of the class at a place, which is no interface, with what stands near it.
+fn near_needs<T: Told>(
+    alloc: Global,
+    whole: &mut Preparations<T>,
+    place: usize,
+    lineage: &Lineage<T>,
+) -> Result<Vec<Equality>, AllocError>
+    requires lineage { lineage.now ≡ lined_at whole.old place }
+    requires within { place ≤ length whole.old.above }
+    requires class { is_interface (file_of lineage.now.own.file) ≡ false }
+    ensures same { whole.new ≡ whole.old }
+    ensures needs { IfOk result (λ v. needs_of v.items ≡ fewer_constraints_of
+        (kin_of lineage.now)) }
+{
+    let away = away_of(alloc, lineage)?;
+    let may_add = may_add(alloc, whole.survey(), lineage, &away)?;
+    find_over(alloc, whole, place, may_add)?;
+    let over = over_at(alloc, whole.lineages(), place, may_add)?;
+    let own = Relative::of(alloc, lineage.own())?;
+    let nearby = Nearby { own, away, over };
+    let needs = nearby.needs(alloc, whole.survey(), lineage);
+    drop(nearby);
+    needs
+}
+
+/// The few equalities that stand for all that the preparation of the class at a place imposes, which is no interface.
+fn class_needs<T: Told>(
+    alloc: Global,
+    whole: &mut Preparations<T>,
+    place: usize,
+    lineage: &Lineage<T>,
+) -> Result<Vec<Equality>, AllocError>
+    requires lineage { lineage.now ≡ lined_at whole.old place }
+    requires within { place ≤ length whole.old.above }
+    requires class { is_interface (file_of lineage.now.own.file) ≡ false }
+    ensures same { whole.new ≡ whole.old }
+    ensures needs { IfOk result (λ v. needs_of v.items ≡ fewer_constraints_of
         (kin_of lineage.now)) }
 {
     if imposes_nothing(alloc, lineage)? {
@@ -206,48 +312,67 @@ fn class_needs<T: Told>(alloc: Global, lineage: &Lineage<T>) -> Result<Vec<Equal
     if lineage.own().file().methods().len() <= FEW_LOOKS && has_none_over(lineage) {
         return plain_needs(alloc, lineage);
     }
-    let nearby = Nearby::of(alloc, lineage)?;
-    let needs = nearby.needs(alloc, lineage);
-    drop(nearby);
-    needs
+    near_needs(alloc, whole, place, lineage)
 }
 
 /// What the methods of an interface impose, over these superinterfaces.
 fn interface_needs<T: Told>(
     alloc: Global,
     own: Relative<T>,
-    over: &[Arc<ClassRow<T>>],
+    over: Vec<&Arc<ClassRow<T>>>,
 ) -> Result<Vec<Equality>, AllocError>
     ensures { IfOk result (λ v. needs_of v.items ≡ flat_map (near_declared own []
-        (map (λ r. r.value) over.now)) (bare own).file.methods) }
+        (map (λ r. r.now.value) over.entry.items)) (bare own).file.methods) }
 {
-    let over = all_of(alloc, over)?;
     // (the superclass of an interface is not asked)
     let away = Away::unfiltered(alloc, Vec::new(alloc));
+    let over = Away::unfiltered(alloc, over);
     let nearby = Nearby { own, away, over };
     let needs = nearby.declared(alloc);
     drop(nearby);
     needs
 }
 
+/// Whether a survey tells that the class at a place imposes nothing.
+fn is_known_silent<T: Told>(
+    alloc: Global,
+    whole: &Preparations<T>,
+    place: usize,
+    own: &Relative<T>,
+) -> Result<bool, AllocError>
+    requires own { own.now ≡ (lined_at whole.now place).own }
+    requires within { place ≤ length whole.now.above }
+    ensures { IfOk result (λ b. b ≡ true
+        → [] ≡ fewer_constraints_of (kin_of (lined_at whole.now place))) }
+{
+    match whole.survey() {
+        Some(survey) => is_silent(alloc, survey, own),
+        None => Ok(false),
+    }
+}
+
 /// The few equalities of the class at a place. No lineage is made of an interface: those of interfaces over one another need
 /// not begin each other, and to make them all takes time in the square of their number.
 fn needs_at<T: Told>(
     alloc: Global,
-    lineages: &mut Lineages<T>,
+    whole: &mut Preparations<T>,
     place: usize,
     class: &ClassAt<T>,
 ) -> Result<Vec<Equality>, AllocError>
-    requires class { class.now ≡ lined_at lineages.old place }
-    requires within { place ≤ length lineages.old.above }
-    ensures same { lineages.new ≡ lineages.old }
+    requires class { class.now ≡ lined_at whole.old place }
+    requires within { place ≤ length whole.old.above }
+    ensures same { whole.new ≡ whole.old }
     ensures needs { IfOk result (λ v. needs_of v.items ≡ fewer_constraints_of (kin_of class.now)) }
 {
+    whole.pass_superinterfaces(place);
     let own = Relative::of(alloc, class.own())?;
+    if is_known_silent(alloc, whole, place, &own)? {
+        return Ok(Vec::new(alloc));
+    }
     if !own.is_interface() {
-        return match lineages.lineage_at(alloc, place)? {
+        return match whole.lineages().lineage_at(alloc, place)? {
             None => unreachable!(),
-            Some(lineage) => class_needs(alloc, &lineage),
+            Some(lineage) => class_needs(alloc, whole, place, &lineage),
         };
     }
     if takes_no_part(alloc, &own)? {
@@ -256,8 +381,9 @@ fn needs_at<T: Told>(
     if has_own_over(class) {
         return Ok(Vec::new(alloc));
     }
-    let over = lineages.superinterfaces_at(alloc, place)?;
-    interface_needs(alloc, own, over.as_slice())
+    whole.find_supers(alloc)?;
+    let over = whole.lineages().superinterfaces_at(alloc, place)?;
+    interface_needs(alloc, own, over)
 }
 
 /// The loading constraints that the preparation of the class at a place of a lineage imposes, in order, but for such as always
@@ -266,18 +392,18 @@ fn needs_at<T: Told>(
 /// yet; and all of these stand where the few do. Only memory refuses it (JVMS SE 8, 5.3.4, 5.4.2).
 pub fn fewer_constraints_of<T: Told>(
     alloc: Global,
-    lineages: &mut Lineages<T>,
+    whole: &mut Preparations<T>,
     place: usize,
 ) -> Result<Equalities<T>, AllocError>
-    requires within { place ≤ length lineages.old.above }
-    ensures same { lineages.new ≡ lineages.old }
+    requires within { place ≤ length whole.old.above }
+    ensures same { whole.new ≡ whole.old }
     ensures few { IfOk result (λ e. AreEnough
-        (constraints_of (kin_of (lined_at lineages.old place))) (needs_of e.needs)) }
+        (constraints_of (kin_of (lined_at whole.old place))) (needs_of e.needs)) }
     ensures exactly { IfOk result (λ e. needs_of e.needs
-        ≡ fewer_constraints_of (kin_of (lined_at lineages.old place))) }
-    ensures origin { IfOk result (λ e. e.origin ≡ OfPreparation (lined_at lineages.old place)) }
+        ≡ fewer_constraints_of (kin_of (lined_at whole.old place))) }
+    ensures origin { IfOk result (λ e. e.origin ≡ OfPreparation (lined_at whole.old place)) }
 {
-    let class = ClassAt::of(lineages.lineage(), place)?;
-    let needs = needs_at(alloc, lineages, place, &class)?;
+    let class = ClassAt::of(whole.lineage(), place)?;
+    let needs = needs_at(alloc, whole, place, &class)?;
     Ok(Equalities::of_preparation(class, needs))
 }

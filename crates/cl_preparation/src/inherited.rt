@@ -1,6 +1,6 @@
 //! What superinterfaces impose with what a class inherits (JVMS SE 8, 5.4.2).
 
-ghost use Rattle.std.specs.Prelude.{◌≡◌, ◌++◌, false, flat_map, IfSome, is_some, OnOk};
+ghost use Rattle.std.specs.Prelude.{◌≡◌, ◌++◌, false, flat_map, map, IfSome, is_some, OnOk};
 ghost use Rattle.std.specs.List.{list_any};
 ghost use Rattle.cl_model.specs.Lineages.{is_offered};
 ghost use Rattle.cl_hierarchy.specs.Imposed.{needs_of};
@@ -14,9 +14,11 @@ use crate::method::Method;
 use crate::quiet::any_offers;
 use crate::relative::Relative;
 use crate::walk::inherited_loader;
+use cl_hierarchy::ClassRow;
 use cl_model::{Equality, LoaderId, Told};
 use std::alloc::{AllocError, Global};
 use std::marker::Model;
+use std::sync::Arc;
 
 /// A class and its superclasses, nearest first. Where only the few equalities are wanted that stand for all, it has those of
 /// other loaders than its own once more, by themselves.
@@ -167,6 +169,39 @@ impl<'a, T: Told> Inheritance<'a, T> {
     {
         for interface in interfaces {
             self.push_interface(alloc, needs, interface)?;
+        }
+        Ok(())
+    }
+
+    /// Adds what the methods of the superinterface of a row impose.
+    fn push_row(
+        &self,
+        alloc: Global,
+        needs: &mut Vec<Equality>,
+        row: &Arc<ClassRow<T>>,
+    ) -> Result<(), AllocError>
+        ensures { OnOk result (needs_of needs.new.items ≡ needs_of needs.old.items ++ flat_map
+            (inherited_by_rows self.now.few self.now.own self.now.above row.now.value)
+            (bare row.now.value).file.methods) }
+    {
+        let interface = Relative::of(alloc, row)?;
+        self.push_interface(alloc, needs, &interface)
+    }
+
+    /// Adds what the methods of the superinterfaces of these rows impose.
+    #[tactic(auto, using(crate::proofs::Constraints::pushed_more))]
+    pub fn push_rows(
+        &self,
+        alloc: Global,
+        needs: &mut Vec<Equality>,
+        rows: &[&Arc<ClassRow<T>>],
+    ) -> Result<(), AllocError>
+        ensures { OnOk result (needs_of needs.new.items ≡ needs_of needs.old.items
+            ++ second_by_rows self.now.few self.now.own self.now.above
+            (map (λ r. r.now.value) rows.now)) }
+    {
+        for row in rows {
+            self.push_row(alloc, needs, row)?;
         }
         Ok(())
     }

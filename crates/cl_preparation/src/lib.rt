@@ -14,13 +14,15 @@ mod method;
 mod overriding;
 mod packages;
 mod plain;
+mod preparations;
 mod quiet;
 mod relative;
 mod relatives;
+mod silent;
 mod survey;
 mod walk;
 
 pub use fewer::fewer_constraints_of;
 pub use overriding::overrides;
+pub use preparations::Preparations;
 pub use relatives::constraints_of;
-pub use survey::surveyed;

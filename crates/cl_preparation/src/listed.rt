@@ -97,34 +97,6 @@ impl Listed {
     }
 }
 
-/// Whether the loader of a class is new, and it declares a method with this key that takes part.
-fn adds<T: Told>(own: LoaderId, listed: &Listed, key: &MethodKey, class: &Relative<T>) -> bool
-    ensures { result ≡ (is_new own listed.now class.now.class.loader && takes_part key.now
-        (bare class.now)) }
-{
-    // first, since a look at its methods takes longer
-    listed.is_new(own, class.loader()) && class.takes_part(key)
-}
-
-/// Lists, once each, the other loaders of those of these classes that declare a method with this key which takes part.
-#[tactic(auto, using(crate::proofs::Nearby::listed_end))]
-pub(crate) fn list_others<T: Told>(
-    listed: &mut Listed,
-    own: LoaderId,
-    key: &MethodKey,
-    classes: &[Relative<T>],
-) -> Result<(), AllocError>
-    ensures { OnOk result (listed.new ≡ listed.old ++ others_after own listed.old
-        (loaders (filter (takes_part key.now) (map bare classes.now)))) }
-{
-    for class in classes {
-        if adds(own, listed, key, class) {
-            listed.push(class.loader())?;
-        }
-    }
-    Ok(())
-}
-
 /// Adds what a method of a class of this loader imposes with each of these loaders.
 pub(crate) fn push_listed(
     alloc: Global,

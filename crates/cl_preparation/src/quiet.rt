@@ -18,7 +18,6 @@ use crate::away::Away;
 use crate::key::MethodKey;
 use crate::method::Method;
 use crate::relative::Relative;
-use crate::relatives::{has_none_over, superinterfaces_of};
 use cl_hierarchy::{ClassAt, ClassRow, Lineage, Overs};
 use cl_model::{Class, LoaderId, Told};
 use std::alloc::{AllocError, Global};
@@ -188,8 +187,8 @@ pub(crate) fn has_own_over<T: Told>(class: &ClassAt<T>) -> bool
 
 /// Whether the superinterfaces of a class, which is no interface, add nothing: all are of its loader, and none of their
 /// methods stands over one that is inherited of another loader. What is asked is which loaders defined the superinterfaces
-/// that are named, whether the rows are known to be unmixed, and else the rows of the own loader (JVMS SE 8, 5.4.2).
-fn are_quiet<T: Told>(
+/// that are named, and then the rows of the own loader (JVMS SE 8, 5.4.2).
+pub(crate) fn are_quiet<T: Told>(
     alloc: Global,
     lineage: &Lineage<T>,
     away: &Away<'_, T>,
@@ -207,34 +206,8 @@ fn are_quiet<T: Told>(
     if away.is_empty() {
         return Ok(true);
     }
-    // no method of a superinterface is one that a class of another loader declares
-    if lineage.is_unmixed() {
-        return Ok(true);
-    }
     let rows = lineage.superclasses(alloc)?;
     let near = near_of(rows.as_slice(), own);
     let silent = are_silent(alloc, own, near, away, lineage.above())?;
     Ok(silent)
-}
-
-/// The superinterfaces of a class that may add to the few, in preorder: all of them, or none where they add nothing.
-pub(crate) fn over_of<T: Told>(
-    alloc: Global,
-    lineage: &Lineage<T>,
-    away: &Away<'_, T>,
-) -> Result<Vec<Relative<T>>, AllocError>
-    requires classes { map (kin_at lineage.now) away.now
-        ≡ others_of (Some (kin_of lineage.now).class.loader) (superclasses (kin_of lineage.now)) }
-    requires rows { AllByRecursion (IsRowIn (rows_in lineage.now)) away.now }
-    ensures { IfOk result (λ v. AddAll lineage.now v.items) }
-{
-    // most classes have none
-    if has_none_over(lineage) {
-        return Ok(Vec::new(alloc));
-    }
-    // mostly, where there are some, and a tour through all rows takes longer
-    if are_quiet(alloc, lineage, away)? {
-        return Ok(Vec::new(alloc));
-    }
-    superinterfaces_of(alloc, lineage)
 }

@@ -120,6 +120,13 @@ impl<T: Told> Relative<T> {
         })
     }
 
+    /// Its row.
+    pub fn row(&self) -> &ClassRow<T>
+        ensures { result.now ≡ self.now }
+    {
+        &self.row
+    }
+
     /// The loader that defined it.
     pub fn loader(&self) -> LoaderId
         ensures { result ≡ self.now.class.loader }
@@ -146,13 +153,6 @@ impl<T: Told> Relative<T> {
         ensures { IfOk result (λ ms. ms.items ≡ (file_of self.now.file).methods) }
     {
         methods_of(alloc, self.row.file())
-    }
-
-    /// Whether it declares methods.
-    pub fn has_methods(&self) -> bool
-        ensures { result ≡ false → (file_of self.now.file).methods ≡ [] }
-    {
-        !self.row.file().methods().is_empty()
     }
 
     /// The flags of the method with this key, if it declares one.

@@ -1,21 +1,43 @@
-//! How many rows of a lineage are unmixed: none of their superinterfaces declares a method that a class of another loader
-//! declares too (JVMS SE 8, 5.4.2).
+//! Who declares each method of the classes of a lineage, found by one look at all of them: so it is known of a class, with no
+//! look at those above it, which of its methods classes of other loaders may declare too (JVMS SE 8, 5.4.2).
 
-ghost use Rattle.std.specs.Prelude.{◌≡◌, true, take, IfOk, OnOk};
-ghost use Rattle.std.specs.List.{AllByRecursion};
+ghost use Rattle.std.specs.Prelude.{◌≡◌, List, true, IfOk, OnOk, is_some, map};
+ghost use Rattle.std.specs.List.{AllByRecursion, list_all};
 ghost use Rattle.indexmap.specs.IndexSet.{contains};
-ghost use Rattle.cl_classfile.specs.Files.{same_name};
-ghost use Rattle.cl_hierarchy.specs.Above.{IsUnmixed};
+ghost use Rattle.cl_classfile.specs.Files.{file_of, same_name};
+ghost use Rattle.cl_classfile.specs.Lookups.{method_named};
 ghost use Rattle.cl_hierarchy.specs.Lineages.{rows_in};
-ghost use Rattle.cl_preparation.specs.Declarers.{Has, IsRowNoted, Keeps, NamesAre};
+ghost use Rattle.cl_hierarchy.specs.Rows.{Rowed};
+ghost use Rattle.cl_preparation.specs.Declarers.{AreMixed, Has, IsRowNoted, Keeps, NamesAre};
+ghost use Rattle.cl_preparation.specs.Surveys.{AreUnmixed, IsAlone, IsSurvey, IsUnmixed};
 
-use crate::declarers::{Declared, note_row};
-use crate::relatives::has_none_over;
+use crate::declarers::{Declared, MethodTexts, is_no_mix, is_of_one, note_row};
+use crate::key::MethodKey;
+use crate::overriding::flags;
 use cl_hierarchy::{ClassRow, Lineage};
 use cl_model::Told;
 use cl_names::{Name, Seed};
 use indexmap::{IndexMap, IndexSet};
 use std::alloc::{AllocError, Global};
+
+/// What one look at all classes of a lineage found.
+pub(crate) struct Survey {
+    /// The names of the superinterfaces that they name.
+    names: Names,
+    declared: Declared,
+    /// The methods that a superinterface and a class of another loader declare.
+    mixed: Vec<MethodTexts>,
+}
+
+impl Drop for Survey {
+    fn drop(self) {
+        let Survey {
+            names: _,
+            declared: _,
+            mixed: _,
+        } = self;
+    }
+}
 
 /// Names, each once.
 type Names = IndexSet<Name, Seed>;
@@ -56,82 +78,103 @@ fn named_in<T: Told>(alloc: Global, lineage: &Lineage<T>) -> Result<Names, Alloc
     Ok(names)
 }
 
-/// Notes the methods of a class, and answers whether each may be. A class that has the name of a superinterface is taken for
-/// one whatever its loader is: that makes no rows unmixed that are not, and two such classes seldom stand in one lineage.
+/// Notes the methods of a class. A class that has the name of a superinterface is taken for one whatever its loader is: then
+/// more methods are mixed than are, and two such classes seldom stand in one lineage.
 fn note_class<T: Told>(
     alloc: Global,
     declared: &mut Declared,
     names: &Names,
     row: &ClassRow<T>,
-) -> Result<bool, AllocError>
-    ensures { IfOk result (λ b. b ≡ true → Keeps declared.old declared.new
+) -> Result<(), AllocError>
+    ensures { OnOk result (Keeps declared.old declared.new
         × IsRowNoted names.now declared.new row.now) }
 {
     let named = names.contains(&row.class().name);
     note_row(alloc, declared, row, named)
 }
 
-/// How many rows of a lineage, from the first, can be noted.
-fn count_noted<T: Told>(
+/// Notes the methods of all classes of a lineage.
+fn note_all<T: Told>(
     alloc: Global,
     lineage: &Lineage<T>,
     names: &Names,
-) -> Result<usize, AllocError>
-    requires { AllByRecursion (NamesAre names.now) (rows_in lineage.now) }
-    ensures { IfOk result (λ n. IsUnmixed (take n (rows_in lineage.now))) }
+) -> Result<Declared, AllocError>
+    ensures { IfOk result (λ d. AllByRecursion (IsRowNoted names.now d)
+        (rows_in lineage.now)) }
 {
     let mut declared = IndexMap::with_hasher(alloc, lineage.config().seed());
     let above = lineage.above();
-    let mut many = 0;
     for row in above {
-        if !note_class(alloc, &mut declared, names, row)? {
-            return Ok(many);
+        note_class(alloc, &mut declared, names, row)?;
+    }
+    note_class(alloc, &mut declared, names, lineage.own())?;
+    Ok(declared)
+}
+
+/// The methods that are mixed, each once.
+fn mixed_in(alloc: Global, declared: &Declared) -> Result<Vec<MethodTexts>, AllocError>
+    ensures { IfOk result (λ v. AreMixed declared.now v.items) }
+{
+    let mut mixed = Vec::new(alloc);
+    for (texts, declarers) in declared.iter() {
+        if declarers.is_mix() {
+            mixed.push(texts.try_clone(alloc)?)?;
         }
-        many += 1;
     }
-    if !note_class(alloc, &mut declared, names, lineage.own())? {
-        return Ok(many);
-    }
-    Ok(many + 1)
+    Ok(mixed)
 }
 
-/// How many rows of a lineage, from the first, are unmixed, in time linear in the rows, the superinterfaces that they name
-/// and the methods that they declare.
-fn count_unmixed<T: Told>(alloc: Global, lineage: &Lineage<T>) -> Result<usize, AllocError>
-    ensures { IfOk result (λ n. IsUnmixed (take n (rows_in lineage.now))) }
+/// Whether a class declares a method with these texts.
+fn declares<T: Told>(row: &ClassRow<T>, texts: &MethodTexts) -> bool
+    ensures { result ≡ is_some (method_named (file_of row.now.file) texts.now.name
+        texts.now.descriptor) }
 {
-    let names = named_in(alloc, lineage)?;
-    count_noted(alloc, lineage, &names)
+    flags(row, texts.name(), texts.descriptor()).is_some()
 }
 
-/// Whether a survey takes less than it may save, where so many classes are to be prepared: the preparation of each would look
-/// at all above it. Without superinterfaces none does.
-fn is_worth_surveying<T: Told>(lineage: &Lineage<T>, left: usize) -> bool {
-    if has_none_over(lineage) {
-        return false;
+impl Survey {
+    /// Of all classes of a lineage, in time linear in these, the superinterfaces that they name and the methods that they declare.
+    pub fn of<T: Told>(alloc: Global, lineage: &Lineage<T>) -> Result<Survey, AllocError>
+        ensures { IfOk result (IsSurvey (rows_in lineage.now)) }
+    {
+        let names = named_in(alloc, lineage)?;
+        let declared = note_all(alloc, lineage, &names)?;
+        let mixed = mixed_in(alloc, &declared)?;
+        Ok(Survey {
+            names,
+            declared,
+            mixed,
+        })
     }
-    let rows = lineage.above().len();
-    let mut work = rows;
-    for row in lineage.above() {
-        work = work.saturating_add(row.file().methods().len());
-    }
-    left.saturating_mul(rows) >= work
-}
 
-/// The same lineage, which keeps how many of its rows are unmixed, where that is worth a survey as the classes from this
-/// place on are to be prepared: so that the preparation of each has to look at few of them (JVMS SE 8, 5.4.2). Only memory
-/// refuses it.
-pub fn surveyed<T: Told>(
-    alloc: Global,
-    lineage: Lineage<T>,
-    from: usize,
-) -> Result<Lineage<T>, AllocError>
-    ensures { IfOk result (λ l. l ≡ lineage) }
-{
-    let left = lineage.above().len().saturating_sub(from);
-    if !is_worth_surveying(&lineage, left) {
-        return Ok(lineage);
+    /// Whether all classes that declare a method with this key, neither private nor static, are known to be of one loader.
+    pub fn is_alone(&self, alloc: Global, key: &MethodKey) -> Result<bool, AllocError>
+        ensures { (rows : List Rowed) → IsSurvey rows self.now
+            → IfOk result (λ b. b ≡ true → IsAlone rows key.now) }
+    {
+        is_of_one(alloc, &self.declared, key)
     }
-    let many = count_unmixed(alloc, &lineage)?;
-    Ok(lineage.with_unmixed(many))
+
+    /// Whether the superinterfaces that declare a method with this key are known to be of the loader of all that do.
+    pub fn is_unmixed(&self, alloc: Global, key: &MethodKey) -> Result<bool, AllocError>
+        ensures { (rows : List Rowed) → IsSurvey rows self.now
+            → IfOk result (λ b. b ≡ true → IsUnmixed rows key.now) }
+    {
+        is_no_mix(alloc, &self.declared, key)
+    }
+
+    /// Whether that is so of all methods.
+    pub fn has_no_mix(&self) -> bool
+        ensures { (rows : List Rowed) → IsSurvey rows self.now → result ≡ true → AreUnmixed rows }
+    {
+        self.mixed.is_empty()
+    }
+
+    /// Whether a class declares all methods of which it is not so.
+    pub fn is_mix_declared<T: Told>(&self, row: &ClassRow<T>) -> bool
+        ensures { result ≡ list_all (λ t. is_some (method_named (file_of row.now.file)
+            t.name t.descriptor)) self.now.mixed.items }
+    {
+        self.mixed.iter().all(|texts| declares(row, texts))
+    }
 }

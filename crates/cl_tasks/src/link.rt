@@ -22,9 +22,9 @@ use crate::stage::{Chain, Goal, Link, Next, Stage};
 use crate::turn::Turn;
 use cl_config::Config;
 use cl_findings::{Finding, bring_lineages};
-use cl_hierarchy::{ClassRow, Equalities, Lineage, Lineages};
+use cl_hierarchy::{ClassRow, Equalities, Lineage};
 use cl_model::{Class, Need, Told};
-use cl_preparation::{fewer_constraints_of, surveyed};
+use cl_preparation::{Preparations, fewer_constraints_of};
 use std::alloc::{AllocError, Global};
 use std::sync::Arc;
 
@@ -92,7 +92,7 @@ pub(crate) fn take_whole<T: Told>(
     ensures plain { IsPlain result.turn }
     ensures past { IsPast result.stage }
 {
-    let whole = Lineages::of(whole);
+    let whole = Preparations::of(whole);
     // brings that a `usize` counts them, and what the lineage keeps
     let _ = count_rows(&whole);
     let _ = whole.lineage();
@@ -108,14 +108,14 @@ pub(crate) fn take_whole<T: Told>(
 }
 
 /// How many classes stand above the class of a lineage.
-fn count_rows<T: Told>(whole: &Lineages<T>) -> usize
+fn count_rows<T: Told>(whole: &Preparations<T>) -> usize
     ensures { result ≡ length whole.now.above }
 {
     whole.lineage().above().len()
 }
 
 /// The row at a place of a lineage, if there is one.
-fn row_at<T: Told>(whole: &Lineages<T>, place: usize) -> Option<&Arc<ClassRow<T>>>
+fn row_at<T: Told>(whole: &Preparations<T>, place: usize) -> Option<&Arc<ClassRow<T>>>
     ensures { option_map (λ r. r.now.value) result ≡ slice_get (rows_in whole.now) place }
 {
     let above = whole.lineage().above();
@@ -126,7 +126,7 @@ fn row_at<T: Told>(whole: &Lineages<T>, place: usize) -> Option<&Arc<ClassRow<T>
 }
 
 /// The class at a place of a lineage; the class itself stands last.
-fn class_at<T: Told>(alloc: Global, whole: &Lineages<T>, place: usize) -> Result<Class, AllocError>
+fn class_at<T: Told>(alloc: Global, whole: &Preparations<T>, place: usize) -> Result<Class, AllocError>
     ensures { IfOk result (λ c. c ≡ class_in whole.now place) }
 {
     match row_at(whole, place) {
@@ -188,14 +188,14 @@ fn trace_first<T: Told>(alloc: Global, config: &Arc<Config>, chain: Chain<T>) ->
         whole,
         place: from,
     } = chain;
-    match surveyed(alloc, whole.into_lineage(), from) {
+    match whole.surveyed(alloc, from) {
         Err(_) => out_of_memory(goal.q, goal.request),
         Ok(whole) => trace(
             alloc,
             config,
             Chain {
                 goal,
-                whole: Lineages::of(whole),
+                whole,
                 place: from,
             },
         ),
@@ -265,7 +265,7 @@ fn trace<T: Told>(alloc: Global, config: &Arc<Config>, chain: Chain<T>) -> Next<
 /// Loading constraints of the class at a place that stand for all of them, to be shared.
 fn list_at<T: Told>(
     alloc: Global,
-    whole: &mut Lineages<T>,
+    whole: &mut Preparations<T>,
     place: usize,
 ) -> Result<Arc<Equalities<T>>, AllocError>
     requires { place ≤ length whole.old.above }

@@ -7,9 +7,10 @@ use crate::turn::{Reply, Turn};
 use cl_config::Config;
 use cl_delegation::{Home, Search};
 use cl_findings::{Finding, Target};
-use cl_hierarchy::{ClassRow, Equalities, Frame, Lineage, Lineages, Path};
+use cl_hierarchy::{ClassRow, Equalities, Frame, Lineage, Path};
 use cl_members::Found;
 use cl_model::{Request, Told};
+use cl_preparation::Preparations;
 use std::alloc::Global;
 use std::sync::Arc;
 
@@ -89,7 +90,7 @@ pub struct Goal<T: Told> {
 #[derive(Drop)]
 pub struct Chain<T: Told> {
     pub goal: Goal<T>,
-    pub whole: Lineages<T>,
+    pub whole: Preparations<T>,
     pub place: usize,
 }
 

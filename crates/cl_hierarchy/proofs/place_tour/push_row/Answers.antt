@@ -6,8 +6,9 @@ use Rattle.cl_hierarchy.proofs.place_tour.push_row.Goals as goal
 
 pub returns-in_ok-push : goal.returns-in_ok-push
 returns-in_ok-push g c =
-    row_pushed (λ r. r.value) (map (λ r. r.value) c.args.rows.now) c.args.found.now.items c.push.new.self.items c.args.place c.in-Some.row.now c.in_ok-try_clone.field-0 c.in_ok-push.ensures.items c.in_ok-try_clone.ensures
+    row_pushed (λ r. r.now.value) (map (λ r. r.value) c.args.rows.now) c.args.found.now.items c.push.new.self.items c.args.place c.in-Some.row c.in_ok-push.ensures.items
     (read_at (λ r. r.value) c.args.rows.now _ c.args.place c.in-Some.row.now refl c.in-Some.ensures.lookup.3.0 c.in-Some.ensures.lookup.1)
 
 pub returns-in_default : goal.returns-in_default
-returns-in_default g c = no_row_pushed (λ r. r.value) c.args.rows.now c.args.found.now.items c.args.place (slice_get_past c.args.rows.now c.args.place c.in_default.ensures.lookup.3)
+returns-in_default g c =
+    no_row_pushed (λ r. r.value) (λ r. r.now.value) c.args.rows.now c.args.found.now.items c.args.place (slice_get_past c.args.rows.now c.args.place c.in_default.ensures.lookup.3)

@@ -17,5 +17,5 @@ returns-clause-exactly g c =
 pub returns-clause-few : goal.returns-clause-few
 returns-clause-few g c =
     let is = c.in_ok-class.ensures ∙ ap (λ (l : Lined). lined_at l c.args.place) c.lineage.ensures.whole in
-    enough_given (kin_of (lined_at c.args.lineages.now c.args.place)) (needs_of c.of_preparation.result.needs)
+    enough_given (kin_of (lined_at c.args.whole.now c.args.place)) (needs_of c.of_preparation.result.needs)
     (ap (λ (e : Listed). needs_of e.needs) c.of_preparation.ensures ∙ c.in_ok-needs.ensures.needs ∙ ap (λ (l : Lined). fewer_constraints_of (kin_of l)) is)

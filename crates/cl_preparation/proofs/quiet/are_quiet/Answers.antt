@@ -2,7 +2,7 @@ use Rattle.std.proofs.Common.{◌≡◌, length, ap, sym, ◌∙◌}
 use Rattle.std.proofs.lemmas.List.{nil_from_length}
 use Rattle.cl_model.specs.declared.class.Class.{Class}
 use Rattle.cl_hierarchy.specs.Rows.{Rowed}
-use Rattle.cl_preparation.proofs.Silence.{quiet_class, quiet_home, quiet_unmixed}
+use Rattle.cl_preparation.proofs.Silence.{quiet_class, quiet_home}
 use Rattle.cl_preparation.proofs.quiet.are_quiet.Goals as goal
 
 pub returns-then-is_empty : goal.returns-then-is_empty
@@ -11,12 +11,6 @@ returns-then-is_empty g c = λ e.
     quiet_home c.args.lineage.now c.args.away.now c.class.result.now.loader c.deref-2.result.now
     (ap (λ (k : Class). k.loader) c.class.ensures.class ∙ ap (λ (r : Rowed). r.class.loader) (c.deref.ensures ∙ c.own.ensures.own)) (c.deref-2.ensures ∙ c.own-2.ensures.own)
     (sym c.names_other.ensures ∙ c.if-names_other.false) (c.may_name_other.ensures c.args.lineage.now.above c.overs.ensures c.if-may_name_other.false) c.requires.classes (nil_from_length c.args.away.now none)
-
-pub returns-then-is_unmixed : goal.returns-then-is_unmixed
-returns-then-is_unmixed g c = λ e.
-    quiet_unmixed c.args.lineage.now c.args.away.now c.class.result.now.loader c.deref-2.result.now
-    (ap (λ (k : Class). k.loader) c.class.ensures.class ∙ ap (λ (r : Rowed). r.class.loader) (c.deref.ensures ∙ c.own.ensures.own)) (c.deref-2.ensures ∙ c.own-2.ensures.own)
-    (sym c.names_other.ensures ∙ c.if-names_other.false) (c.may_name_other.ensures c.args.lineage.now.above c.overs.ensures c.if-may_name_other.false) c.requires.classes c.requires.rows (c.is_unmixed.ensures c.if-is_unmixed.true)
 
 pub returns : goal.returns
 returns g c = λ e.

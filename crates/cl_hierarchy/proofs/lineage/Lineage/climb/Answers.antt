@@ -15,4 +15,4 @@ returns g c =
     subst (λ (l : Lined). kins_up c.of.result ≡ superclasses (kin_of l)) c.self.view_is
     (c.of.ensures.left own (ap (λ (y : Laddered). slice_get y.rows c.self.inside.place) c.deref.ensures ∙ c.self.invariant.here.at)
     ∙ ap (λ (y : Laddered). above_in y.rows own) c.deref.ensures
-    ∙ ap (λ (k : Kin). superclasses k) (own_kin g.T.Told.told x c.self.inside.place own c.self.inside.unmixed c.self.invariant ladder))
+    ∙ ap (λ (k : Kin). superclasses k) (own_kin g.T.Told.told x c.self.inside.place own c.self.invariant ladder))

@@ -13,9 +13,9 @@ invariant_of-result g c =
     let found = rung_found c.deref.result.now.marks c.args.place c.rung.result c.is_none.result c.is_none.ensures c.if-is_none.false c.rung.ensures.rung in
     let at : slice_get c.args.ladder.now.value.rows c.args.place ≡ Some c.in-Some.own.now.value =
     ap (λ (x : Laddered). slice_get x.rows c.args.place) (sym c.deref-2.ensures) ∙ read_at (λ r. r.value) c.rows.result.now c.deref-2.result.now.rows c.args.place c.in-Some.own.now c.rows.ensures.rows look.3.0 look.1 in
-    let on = rung_on g.T.Told.told c.args.ladder.now.value c.args.place c.in-Some.own.now.value found.0 c.args.unmixed ladder at (subst (λ (x : Laddered). IsRungAt x.marks c.args.place found.0) c.deref.ensures found.1) c.requires in
-    subst (λ (x : Laddered). IsOnLadder g.T.Told.told x c.args.place c.in_ok-own.own.value c.args.unmixed) (sym c.in_ok-ladder.ensures)
-    (subst (λ (r : Rowed). IsOnLadder g.T.Told.told c.args.ladder.now.value c.args.place r c.args.unmixed) (sym c.in_ok-own.ensures) on)
+    let on = rung_on g.T.Told.told c.args.ladder.now.value c.args.place c.in-Some.own.now.value found.0 ladder at (subst (λ (x : Laddered). IsRungAt x.marks c.args.place found.0) c.deref.ensures found.1) in
+    subst (λ (x : Laddered). IsOnLadder g.T.Told.told x c.args.place c.in_ok-own.own.value) (sym c.in_ok-ladder.ensures)
+    (subst (λ (r : Rowed). IsOnLadder g.T.Told.told c.args.ladder.now.value c.args.place r) (sym c.in_ok-own.ensures) on)
 
 pub returns-clause-cut : goal.returns-clause-cut
 returns-clause-cut g c =

@@ -9,5 +9,5 @@ use Rattle.cl_hierarchy.proofs.lineage.Lineage.overs.Goals as goal
 pub returns : goal.returns
 returns g c =
     subst (λ (l : Lined). AreOvers c.overs_before.result l.above) c.self.view_is
-    (subst (λ (rs : List Rowed). AreOvers c.overs_before.result rs) (above_is g.T.Told.told c.self.inside.ladder.value c.self.inside.place c.self.inside.own.value c.self.inside.unmixed c.self.invariant)
+    (subst (λ (rs : List Rowed). AreOvers c.overs_before.result rs) (above_is g.T.Told.told c.self.inside.ladder.value c.self.inside.place c.self.inside.own.value c.self.invariant)
     (subst (λ (l : Lined). AreOvers c.overs_before.result (take c.self.inside.place (rows_in l))) (sym c.self.view_is) c.overs_before.ensures.of))

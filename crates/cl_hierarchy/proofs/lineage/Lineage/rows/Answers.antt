@@ -10,5 +10,5 @@ returns-clause-rows g c =
     map_take (λ r. r.value) c.rows.result.now (c.self.inside.place + 1)
     ∙ ap (λ (rs : List Rowed). take (c.self.inside.place + 1) rs) (c.rows.ensures.rows ∙ ap (λ (x : Laddered). x.rows) c.deref.ensures)
     ∙ ap (λ (n : ℕ). take n c.self.inside.ladder.value.rows) (let e : c.self.inside.place + 1 ≡ suc c.self.inside.place = omega arith in e)
-    ∙ rows_are g.T.Told.told c.self.inside.ladder.value c.self.inside.place c.self.inside.own.value c.self.inside.unmixed c.self.invariant
+    ∙ rows_are g.T.Told.told c.self.inside.ladder.value c.self.inside.place c.self.inside.own.value c.self.invariant
     ∙ ap rows_in c.self.view_is

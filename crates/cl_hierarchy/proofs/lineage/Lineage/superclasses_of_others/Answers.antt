@@ -14,7 +14,7 @@ returns-clause-superclasses g c =
     let are = c.superclasses_at.ensures.superclasses c.self.inside.own.value (ap (λ (x : Laddered). slice_get x.rows c.self.inside.place) c.deref-2.ensures ∙ c.self.invariant.here.at) in
     let mine : c.class.result.now.loader ≡ c.self.inside.own.value.class.loader = ap (λ x. x.loader) c.class.ensures.class ∙ ap (λ (r : Rowed). r.class.loader) c.deref.ensures in
     subst (λ (l : Lined). IfOk c.superclasses_at.result (λ v. map (λ r. kin_at l r.now.value) v.items ≡ others_of (Some l.own.class.loader) (superclasses (kin_of l)))) c.self.view_is
-    (others_kins g.T.Told.told c.self.inside.ladder.value c.self.inside.place c.self.inside.own.value c.self.inside.unmixed c.self.invariant ladder (λ v. v.items) (λ r. r.now.value) (Some c.self.inside.own.value.class.loader) c.superclasses_at.result
+    (others_kins g.T.Told.told c.self.inside.ladder.value c.self.inside.place c.self.inside.own.value c.self.invariant ladder (λ v. v.items) (λ r. r.now.value) (Some c.self.inside.own.value.class.loader) c.superclasses_at.result
     (subst (λ (n : ℕ). IfOk c.superclasses_at.result (λ v. AreOthers c.self.inside.ladder.value c.self.inside.place (Some n) c.self.inside.own.value (map (λ y. y.now.value) v.items))) mine
     (subst (λ (x : Laddered). IfOk c.superclasses_at.result (λ v. AreOthers x c.self.inside.place (Some c.class.result.now.loader) c.self.inside.own.value (map (λ y. y.now.value) v.items))) c.deref-2.ensures are)))
 
@@ -23,5 +23,5 @@ returns-clause-rows g c =
     let ladder = subst (λ (x : Laddered). IsLadder g.T.Told.told x) c.deref-2.ensures c.superclasses_at.ensures.kept in
     let are = c.superclasses_at.ensures.superclasses c.self.inside.own.value (ap (λ (x : Laddered). slice_get x.rows c.self.inside.place) c.deref-2.ensures ∙ c.self.invariant.here.at) in
     subst (λ (l : Lined). IfOk c.superclasses_at.result (λ v. AllByRecursion (λ r. IsRowIn (rows_in l) r.now.value) v.items)) c.self.view_is
-    (others_rows g.T.Told.told c.self.inside.ladder.value c.self.inside.place c.self.inside.own.value c.self.inside.unmixed c.self.invariant ladder (λ v. v.items) (λ r. r.now.value) (Some c.class.result.now.loader) c.superclasses_at.result
+    (others_rows g.T.Told.told c.self.inside.ladder.value c.self.inside.place c.self.inside.own.value c.self.invariant ladder (λ v. v.items) (λ r. r.now.value) (Some c.class.result.now.loader) c.superclasses_at.result
     (subst (λ (x : Laddered). IfOk c.superclasses_at.result (λ v. AreOthers x c.self.inside.place (Some c.class.result.now.loader) c.self.inside.own.value (map (λ y. y.now.value) v.items))) c.deref-2.ensures are))

@@ -6,4 +6,4 @@ use Rattle.cl_preparation.proofs.fewer.Nearby.push_each_declared.Given as goal
 
 abbrev pub invariant-loop-method : goal.invariant-loop-method
 invariant-loop-method g l =
-    needs_of l.needs.items ≡ needs_of l.initial.needs.items ++ flat_map (near_declared l.self.own l.self.away l.self.over.items) (take l.method-index l.methods)
+    needs_of l.needs.items ≡ needs_of l.initial.needs.items ++ flat_map (near_declared l.self.own l.self.away l.self.over) (take l.method-index l.methods)

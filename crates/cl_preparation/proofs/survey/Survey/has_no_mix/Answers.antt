@@ -1,0 +1,8 @@
+use Rattle.std.proofs.Common.{◌∙◌, sym}
+use Rattle.std.proofs.lemmas.Bool.{eqb-true}
+use Rattle.std.proofs.lemmas.List.{nil_from_length}
+use Rattle.cl_preparation.proofs.Unmixed.{none_mixed}
+use Rattle.cl_preparation.proofs.survey.Survey.has_no_mix.Goals as goal
+
+pub returns : goal.returns
+returns c = λ rows is none. none_mixed rows c.args.self.now is (nil_from_length c.args.self.now.mixed.items (eqb-true _ _ (sym c.is_empty.ensures ∙ none)))

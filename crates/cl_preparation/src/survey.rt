@@ -1,7 +1,7 @@
 //! Who declares each method of the classes of a lineage, found by one look at all of them: so it is known of a class, with no
 //! look at those above it, which of its methods classes of other loaders may declare too (JVMS SE 8, 5.4.2).
 
-ghost use Rattle.std.specs.Prelude.{◌≡◌, List, true, IfOk, OnOk, is_some, map};
+ghost use Rattle.std.specs.Prelude.{◌≡◌, List, true, IfOk, OnOk, is_some, length};
 ghost use Rattle.std.specs.List.{AllByRecursion, list_all};
 ghost use Rattle.indexmap.specs.IndexSet.{contains};
 ghost use Rattle.cl_classfile.specs.Files.{file_of, same_name};
@@ -124,6 +124,13 @@ fn mixed_in(alloc: Global, declared: &Declared) -> Result<Vec<MethodTexts>, Allo
     Ok(mixed)
 }
 
+/// Whether these are no methods.
+fn is_none(methods: &[MethodTexts]) -> bool
+    ensures { result ≡ true → length methods.now ≡ 0 }
+{
+    methods.len() == 0
+}
+
 /// Whether a class declares a method with these texts.
 fn declares<T: Told>(row: &ClassRow<T>, texts: &MethodTexts) -> bool
     ensures { result ≡ is_some (method_named (file_of row.now.file) texts.now.name
@@ -167,7 +174,7 @@ impl Survey {
     pub fn has_no_mix(&self) -> bool
         ensures { (rows : List Rowed) → IsSurvey rows self.now → result ≡ true → AreUnmixed rows }
     {
-        self.mixed.is_empty()
+        is_none(self.mixed.as_slice())
     }
 
     /// Whether a class declares all methods of which it is not so.

@@ -14,12 +14,13 @@ use Rattle.cl_preparation.proofs.fewer.needs_at.Goals as goal
 
 pub returns-then-branch-clause-needs : goal.returns-then-branch-clause-needs
 returns-then-branch-clause-needs g c =
-    ap needs_of c.new.ensures.items ∙ c.in_ok-is_known_silent.ensures c.if-branch.true ∙ ap (λ (l : Lined). fewer_constraints_of (kin_of l)) (sym c.requires.class)
+    ap needs_of c.new.ensures.items ∙ c.in_ok-is_known_silent.ensures c.if-branch.true ∙ ap (λ (l : Lined). fewer_constraints_of (kin_of (lined_at l c.args.place))) c.pass_superinterfaces.ensures
+    ∙ ap (λ (l : Lined). fewer_constraints_of (kin_of l)) (sym c.requires.class)
 
 pub returns-then-not-is_interface-clause-needs : goal.returns-then-not-is_interface-clause-needs
 returns-then-not-is_interface-clause-needs g c =
     let is : c.in-Some.lineage ≡ lined_at c.lineages.result.now c.args.place = rw c.in-Some.is at c.in_ok-lineage_at.ensures.lineage in
-    let here = is ∙ ap (λ (l : Lined). lined_at l c.args.place) c.lineages.ensures in
+    let here = is ∙ ap (λ (l : Lined). lined_at l c.args.place) (c.lineages.ensures ∙ c.pass_superinterfaces.ensures) in
     IfOk-weaker c.class_needs.result _ _ (λ v e. e ∙ ap (λ (l : Lined). fewer_constraints_of (kin_of l)) (here ∙ sym c.requires.class)) c.class_needs.ensures.needs
 
 pub returns-then-branch-2-clause-needs : goal.returns-then-branch-2-clause-needs
@@ -37,6 +38,6 @@ returns-clause-needs g c =
     let over : List Rowed = map (λ r. r.now.value) c.in_ok-over.over.items in
     let overs : map (kin_at whole) over ≡ superinterfaces (kin_of l) =
     map-map (kin_at whole) (λ r. r.now.value) c.in_ok-over.over.items ∙ c.in_ok-over.ensures.superinterfaces
-    ∙ ap (λ (x : Lined). superinterfaces (kin_of (lined_at x c.args.place))) c.lineages-2.ensures ∙ ap (λ (x : Lined). superinterfaces (kin_of x)) (sym c.requires.class) in
+    ∙ ap (λ (x : Lined). superinterfaces (kin_of (lined_at x c.args.place))) (c.lineages-2.ensures ∙ c.find_supers.ensures ∙ c.pass_superinterfaces.ensures) ∙ ap (λ (x : Lined). superinterfaces (kin_of x)) (sym c.requires.class) in
     IfOk-weaker c.interface_needs.result _ _
     (λ v e. interface_told l c.in_ok-own.own [] over (needs_of v.items) (interface_near l whole c.in_ok-own.own [] over mine inter refl overs) inter e) c.interface_needs.ensures

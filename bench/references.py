@@ -141,6 +141,35 @@ def crowned(path, count=800):
     in_halves(path, count, lambda place: f"method 0001 m{place} (Lp/T;)V", ["p/I"])
 
 
+def paired(path, count=800):
+    in_halves(path, count, lambda place: f"method 0001 m{place % count} (Lp/T;)V")
+
+
+def against(path, count=800):
+    """Classes of app over one that declares what a superinterface of boot does: each inherits it."""
+    over = with_lines(section("boot", "p/I", flags="0601"), ["method 0401 z (Lp/T;)V"])
+    first = with_lines(section("app", "p/C", interfaces=["p/I"]), ["method 0001 z (Lp/T;)V"])
+    names = [f"p/C{n}" for n in range(count)]
+    below = over_one_another(names, lambda place: [f"method 0001 m{place} (Lp/T;)V"], top="p/C")
+    bundle(path, TWO, [TOP, over, first, *below], [f"link app {names[-1]}\n"])
+
+
+def offered(path, count=500):
+    """Abstract classes of app under a superinterface of boot with many methods, none of which a class declares."""
+    over = with_lines(section("boot", "p/I", flags="0601"), [f"method 0401 m{n} (Lp/T;)V" for n in range(count)])
+    names = [f"p/C{n}" for n in range(count)]
+    classes = [section("app", name, above, interfaces=[] if above in names else ["p/I"], flags="0421") for name, above in zip(names, [OBJECT, *names])]
+    bundle(path, TWO, [TOP, over, *classes], [f"link app {names[-1]}\n"])
+
+
+def crossed(path, count=500):
+    """Classes of app, each of which names a superinterface of boot anew and declares its method."""
+    over = with_lines(section("boot", "p/I", flags="0601"), ["method 0401 z (Lp/T;)V"])
+    names = [f"p/C{n}" for n in range(count)]
+    classes = over_one_another(names, lambda place: ["method 0001 z (Lp/T;)V"], interfaces=["p/I"])
+    bundle(path, TWO, [TOP, over, *classes], [f"link app {names[-1]}\n"])
+
+
 def fans(path, count=1000):
     over = [f"p/I{n}" for n in range(count)]
     classes = [TOP, *(with_lines(section("boot", name, flags="0601"), ["method 0401 m ()V"]) for name in over)]
@@ -269,12 +298,12 @@ def blocks(path, count=2000):
 def main(folder):
     os.makedirs(folder, exist_ok=True)
     references = methods, settled, constraints, refused
-    chains = overriding, repeated, halves, crowned, fans, plain, topped, wide, distinct, many, inherited, naming, interfaces, beside, comb, fringe, twos, combs, blocks
+    chains = overriding, repeated, halves, crowned, paired, against, offered, crossed, fans, plain, topped, wide, distinct, many, inherited, naming, interfaces, beside, comb, fringe, twos, combs, blocks
     for make in *references, ladder, links, *chains:
         make(f"{folder}/{make.__name__}")
     counts = {overriding: 15000, plain: 22000, topped: 22000, distinct: 15000, many: 1000, inherited: 14000, naming: 17000}
     for make, count in {**counts, interfaces: 14000, beside: 7000, comb: 6500, fringe: 6500, twos: 11000, combs: 5000, blocks: 14000, repeated: 7500, halves: 7000,
-        crowned: 7000, fans: 6700}.items():
+        crowned: 7000, paired: 7000, against: 12000, offered: 10000, crossed: 11000, fans: 6700}.items():
         make(f"{folder}/{make.__name__}_mb", count)
 
 

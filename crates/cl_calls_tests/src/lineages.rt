@@ -278,7 +278,7 @@ fn are_over(
     Ok(rows.len() == wanted.len())
 }
 
-/// The same, asked before the supertypes of all classes were looked for and after.
+/// The same, asked before the supertypes of all classes were looked for, after, and once those superinterfaces are kept.
 fn has_over_at(
     alloc: Global,
     tables: &Registry<Untold>,
@@ -294,8 +294,10 @@ fn has_over_at(
     let before = are_over(alloc, &whole, place, wanted)?;
     whole.find_supers(alloc)?;
     let after = are_over(alloc, &whole, place, wanted)?;
+    whole.find_superinterfaces(alloc, place)?;
+    let kept = are_over(alloc, &whole, place, wanted)?;
     drop(whole);
-    Ok(before && after)
+    Ok(before && after && kept)
 }
 
 pub const CLASS: u16 = 0x21;

@@ -44,6 +44,18 @@ flags_opened None true f r e none some = none e
 flags_opened None false f r e none some = none e
 flags_opened (Some m) special f r e none some = some m.flags e
 
+-- whether a method is open, if it is declared and offered
+pub flags_offered : (o : Option files.Member) (special : Bool) (f : Option ℕ) (r : Option Bool) → f ≡ option_map (λ m. m.flags) o → (f ≡ None → r ≡ None)
+    → ((x : ℕ) → f ≡ Some x → r ≡ (if is_virtual x then Some (not special && is_wide x) else None))
+    → r ≡ (if if_declared o is_virtual then Some ((not special && if_declared o is_virtual) && if_declared o is_wide) else None)
+flags_offered None special f r e none some = none e
+flags_offered (Some m) special f r e none some = some m.flags e ∙ by (is_virtual m.flags) special (is_wide m.flags)
+  where
+    by : (v s w : Bool) → (if v then Some (not s && w) else None) ≡ (if v then Some ((not s && v) && w) else None)
+    by true true w = refl
+    by true false w = refl
+    by false s w = refl
+
 -- where none is open that takes part, one that is there takes part and is not open
 pub opened_tell : (part wide : Bool) (r : Option Bool) (b : Bool) → r ≡ (if part then Some wide else None) → (r ≡ None → b ≡ false) → ((x : Bool) → r ≡ Some x → b ≡ not x) → b ≡ (part && not wide)
 opened_tell true wide r b e none some = some wide e

@@ -1,10 +1,12 @@
 pub mod Beyond
+pub mod Chains
 pub mod Constraints
 pub mod Declared
 pub mod Filters
 pub mod Inheriting
 pub mod Interfaces
 pub mod Keys
+pub mod MethodsAbove
 pub mod Named
 pub mod Nearby
 pub mod Uphill

@@ -271,11 +271,6 @@ class_told l own away over one all near class first second =
     second ∙ ap (λ ns. ns ++ by_superinterfaces fewer_inherited c) (first ∙ declared_near l own away over near)
     ∙ sym (ap (λ (b : Bool). flat_map (fewer_declared c) c.file.methods ++ (if b then [] else by_superinterfaces fewer_inherited c)) (class_of l own near.own_is class))
 
--- and where what it inherits imposes nothing
-pub class_first : (l : Lined) (own : Rowed) (away over : List Rowed) (all : List Need) → AreNear l own away over → is_interface (file_of own.file) ≡ false → all ≡ flat_map (near_declared own away over) (bare own).file.methods
-    → [] ≡ by_superinterfaces fewer_inherited (kin_of l) → all ≡ fewer_constraints_of (kin_of l)
-class_first l own away over all near class first none = class_told l own away over all all near class first (sym (append-nil all) ∙ ap (λ ns. all ++ ns) none)
-
 -- and so with the rows of its superclasses
 module _ {A : Type 0} (f : A → Rowed) (l : Lined) (own : Rowed) (xs ys : List A) (away over above : List Rowed) (near : AreNear l own away over) (one : ys ≡ xs) (made : above ≡ map f ys)
     (are : map (λ r. kin_at l (f r)) xs ≡ superclasses (kin_of l)) (within : AllByRecursion (λ r. IsRowIn (rows_in l) (f r)) xs) where

@@ -142,7 +142,7 @@ module _ (l : Lined) (rows : List Rowed) (part : IsPart rows l) where
       subst (λ (ks : List Kin). AllByRecursion (λ (x : ℕ). x ≡ l.own.class.loader) (loaders ks)) (sym (overridden_is_walked key (kin_of l) tp))
       (walked_of key l.own.class.loader (l.own.class ∷ []) (superclasses (kin_of l)) (up_own key (offered key tp) alone))
 
-  alone_none : (m : Member) → (takes_part m.key (bare l.own) ≡ true → IsAlone rows m.key) → fewer_declared (kin_of l) m ≡ []
+  pub alone_none : (m : Member) → (takes_part m.key (bare l.own) ≡ true → IsAlone rows m.key) → fewer_declared (kin_of l) m ≡ []
   alone_none m alone = by (takes_part m.key (kin_of l)) refl
     where
       up : List ℕ

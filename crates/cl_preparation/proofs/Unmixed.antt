@@ -44,13 +44,13 @@ use Rattle.cl_preparation.proofs.Silence.{is_off}
 -- ---- one method
 
 -- it is noted, and what was noted of others still is
-texts_same : (t u : MethodTexts) → same_texts t u ≡ true → t ≡ u
+pub texts_same : (t u : MethodTexts) → same_texts t u ≡ true → t ≡ u
 texts_same t u e =
     let both = and_parts (pointwise nat_eq t.name u.name) (pointwise nat_eq t.descriptor u.descriptor) e in
     ap (λ (n : Name). let made : MethodTexts = record { name = n; descriptor = t.descriptor } in made) ((bytes_decides t.name u.name).0 both.0)
     ∙ ap (λ (d : Name). let made : MethodTexts = record { name = u.name; descriptor = d } in made) ((bytes_decides t.descriptor u.descriptor).0 both.1)
 
-texts_self : (t : MethodTexts) → same_texts t t ≡ true
+pub texts_self : (t : MethodTexts) → same_texts t t ≡ true
 texts_self t = rw ((bytes_decides t.name t.name).1 refl) ((bytes_decides t.descriptor t.descriptor).1 refl)
 
 pub noted_more : {S : Type 0} (old new : IndexMap MethodTexts Declarers S) (t : MethodTexts) (d : Declarers) (named : Bool) (l : ℕ) → Joins (get same_texts old t) named l d
@@ -135,7 +135,7 @@ name_is names r c are there =
 -- ---- all rows
 
 -- the texts of a key are those of it alone
-texts_one : (t u : MethodTexts) (key : Key) → method_of t.name t.descriptor ≡ Some key → method_of u.name u.descriptor ≡ Some key → t ≡ u
+pub texts_one : (t u : MethodTexts) (key : Key) → method_of t.name t.descriptor ≡ Some key → method_of u.name u.descriptor ≡ Some key → t ≡ u
 texts_one t u key te ue =
     texts_same t u (sym (reads_methods.same t.name t.descriptor u.name u.descriptor key key te ue) ∙ (keys_are_told key key).1 refl)
 

@@ -1,9 +1,11 @@
+pub mod Chains
 pub mod Declarers
 pub mod Fewer
 pub mod Filters
 pub mod Inherited
 pub mod Listed
 pub mod Methods
+pub mod MethodsAbove
 pub mod Named
 pub mod Nearby
 pub mod Packages

@@ -49,7 +49,7 @@ pub(crate) type Declared = IndexMap<MethodTexts, Declarers, Seed>;
 
 impl MethodTexts {
     /// The texts of a method's key.
-    fn of(alloc: Global, key: &MethodKey) -> Result<MethodTexts, AllocError>
+    pub fn of(alloc: Global, key: &MethodKey) -> Result<MethodTexts, AllocError>
         ensures { IfOk result (λ t. method_of t.name t.descriptor ≡ Some key.now) }
     {
         Ok(MethodTexts {

@@ -9,16 +9,19 @@ ghost use Rattle.cl_hierarchy.specs.ClassesAt.{lined_at};
 ghost use Rattle.cl_hierarchy.specs.Imposed.{AreEnough, OfPreparation, needs_of};
 ghost use Rattle.cl_hierarchy.specs.Lineages.{IsRowIn, Lined, kin_at, kin_of, others_of, rows_in};
 ghost use Rattle.cl_preparation.specs.Fewer.{by_superinterfaces, fewer_constraints_of, fewer_inherited, loaders, others_after};
+ghost use Rattle.cl_preparation.specs.MethodsAbove.{AreTold};
 ghost use Rattle.cl_preparation.specs.Nearby.{AddAll, AreNear, near_declared, near_loaders};
 ghost use Rattle.cl_preparation.specs.Relatives.{bare};
 ghost use Rattle.cl_preparation.specs.Surveys.{Surveys};
 ghost use Rattle.cl_preparation.specs.Walks.{opens};
 
 use crate::away::Away;
+use crate::chained::Chained;
 use crate::inherited::Inheritance;
 use crate::key::MethodKey;
 use crate::listed::Listed;
 use crate::method::Method;
+use crate::methods_above::MethodsAbove;
 use crate::plain::{plain_needs, push_with};
 use crate::preparations::Preparations;
 use crate::quiet::{are_quiet, has_own_over};
@@ -161,13 +164,7 @@ impl<'a, 'b, T: Told> Nearby<'a, 'b, T> {
     }
 
     /// What the preparation of the class of this lineage imposes, each other loader once for a method.
-    fn needs(
-        &self,
-        alloc: Global,
-        survey: Option<&Survey>,
-        lineage: &Lineage<T>,
-    ) -> Result<Vec<Equality>, AllocError>
-        requires survey { IfSome survey (λ s. Surveys lineage.now s.now) }
+    fn needs(&self, alloc: Global, lineage: &Lineage<T>) -> Result<Vec<Equality>, AllocError>
         requires near { AreNear lineage.now self.now.own self.now.away
             self.now.over }
         requires class { is_interface (file_of self.now.own.file) ≡ false }
@@ -175,9 +172,6 @@ impl<'a, 'b, T: Told> Nearby<'a, 'b, T> {
             ≡ fewer_constraints_of (kin_of lineage.now)) }
     {
         let mut needs = self.declared(alloc)?;
-        if inherits_alike(survey, &self.own) {
-            return Ok(needs);
-        }
         self.push_over(alloc, &mut needs, lineage)?;
         Ok(needs)
     }
@@ -187,11 +181,9 @@ impl<'a, 'b, T: Told> Nearby<'a, 'b, T> {
 /// as add nothing.
 fn may_add<T: Told>(
     alloc: Global,
-    survey: Option<&Survey>,
     lineage: &Lineage<T>,
     away: &Away<'_, T>,
 ) -> Result<bool, AllocError>
-    requires survey { IfSome survey (λ s. Surveys lineage.now s.now) }
     requires classes { map (kin_at lineage.now) away.now
         ≡ others_of (Some (kin_of lineage.now).class.loader) (superclasses (kin_of lineage.now)) }
     requires rows { AllByRecursion (IsRowIn (rows_in lineage.now)) away.now }
@@ -201,34 +193,17 @@ fn may_add<T: Told>(
     if has_none_over(lineage) {
         return Ok(false);
     }
-    if has_no_mix(survey) {
-        return Ok(false);
-    }
     // mostly, where there are some, and a tour through all rows takes longer
     let are_quiet = are_quiet(alloc, lineage, away)?;
     Ok(!are_quiet)
 }
 
-/// Whether a survey tells that no method which a superinterface declares is one that a class of another loader declares.
-fn has_no_mix(survey: Option<&Survey>) -> bool
-    ensures { (l : Lined) → IfSome survey.entry (λ s. Surveys l s.now) → result ≡ true
-        → AddAll l [] }
+/// The same by a survey: superinterfaces add nothing where none declares a method that a class of another loader declares.
+fn may_add_by<T: Told>(survey: &Survey, lineage: &Lineage<T>) -> bool
+    requires survey { Surveys lineage.now survey.now }
+    ensures { result ≡ false → AddAll lineage.now [] }
 {
-    match survey {
-        Some(survey) => survey.has_no_mix(),
-        None => false,
-    }
-}
-
-/// Whether a survey tells that what a class does not declare itself is declared by superinterfaces of the loader of all that do.
-fn inherits_alike<T: Told>(survey: Option<&Survey>, own: &Relative<T>) -> bool
-    ensures { (l : Lined) → IfSome survey.entry (λ s. Surveys l s.now) → own.now ≡ l.own
-        → result ≡ true → [] ≡ by_superinterfaces fewer_inherited (kin_of l) }
-{
-    match survey {
-        Some(survey) => survey.is_mix_declared(own.row()),
-        None => false,
-    }
+    !has_none_over(lineage) && !survey.has_no_mix()
 }
 
 /// Looks for the superinterfaces of the class at a place, where they may add to the few.
@@ -281,18 +256,18 @@ fn near_needs<T: Told>(
         (kin_of lineage.now)) }
 {
     let away = away_of(alloc, lineage)?;
-    let may_add = may_add(alloc, whole.survey(), lineage, &away)?;
+    let may_add = may_add(alloc, lineage, &away)?;
     find_over(alloc, whole, place, may_add)?;
     let over = over_at(alloc, whole.lineages(), place, may_add)?;
     let own = Relative::of(alloc, lineage.own())?;
     let nearby = Nearby { own, away, over };
-    let needs = nearby.needs(alloc, whole.survey(), lineage);
+    let needs = nearby.needs(alloc, lineage);
     drop(nearby);
     needs
 }
 
-/// The few equalities that stand for all that the preparation of the class at a place imposes, which is no interface.
-fn class_needs<T: Told>(
+/// The same where the lineage was not surveyed.
+fn unsurveyed_needs<T: Told>(
     alloc: Global,
     whole: &mut Preparations<T>,
     place: usize,
@@ -313,6 +288,91 @@ fn class_needs<T: Told>(
         return plain_needs(alloc, lineage);
     }
     near_needs(alloc, whole, place, lineage)
+}
+
+/// The same by a survey, and what the superclasses declare.
+fn chained_needs<T: Told>(
+    alloc: Global,
+    whole: &mut Preparations<T>,
+    place: usize,
+    lineage: &Lineage<T>,
+    survey: &Survey,
+    above: &MethodsAbove,
+) -> Result<Vec<Equality>, AllocError>
+    requires lineage { lineage.now ≡ lined_at whole.old place }
+    requires within { place ≤ length whole.old.above }
+    requires class { is_interface (file_of lineage.now.own.file) ≡ false }
+    requires survey { Surveys lineage.now survey.now }
+    requires above { AreTold above.now (superclasses (kin_of lineage.now)) }
+    ensures same { whole.new ≡ whole.old }
+    ensures needs { IfOk result (λ v. needs_of v.items ≡ fewer_constraints_of
+        (kin_of lineage.now)) }
+{
+    let own = Relative::of(alloc, lineage.own())?;
+    if is_silent(alloc, survey, &own)? {
+        return Ok(Vec::new(alloc));
+    }
+    let may_add = may_add_by(survey, lineage);
+    find_over(alloc, whole, place, may_add)?;
+    let over = over_at(alloc, whole.lineages(), place, may_add)?;
+    let chained = Chained {
+        lineage,
+        own,
+        survey,
+        above,
+        over,
+    };
+    let needs = chained.needs(alloc);
+    drop(chained);
+    needs
+}
+
+/// The same by a survey, where what the class declares is kept for those below it.
+fn surveyed_needs<T: Told>(
+    alloc: Global,
+    whole: &mut Preparations<T>,
+    place: usize,
+    lineage: &Lineage<T>,
+    survey: &Survey,
+) -> Result<Vec<Equality>, AllocError>
+    requires lineage { lineage.now ≡ lined_at whole.old place }
+    requires within { place ≤ length whole.old.above }
+    requires class { is_interface (file_of lineage.now.own.file) ≡ false }
+    requires survey { Surveys lineage.now survey.now }
+    ensures same { whole.new ≡ whole.old }
+    ensures needs { IfOk result (λ v. needs_of v.items ≡ fewer_constraints_of
+        (kin_of lineage.now)) }
+{
+    let above = whole.take_above(alloc, place, lineage)?;
+    let needs = chained_needs(alloc, whole, place, lineage, survey, &above)?;
+    whole.keep(alloc, place, lineage, above)?;
+    Ok(needs)
+}
+
+/// The few equalities that stand for all that the preparation of the class at a place imposes, which is no interface.
+fn class_needs<T: Told>(
+    alloc: Global,
+    whole: &mut Preparations<T>,
+    place: usize,
+    lineage: &Lineage<T>,
+) -> Result<Vec<Equality>, AllocError>
+    requires lineage { lineage.now ≡ lined_at whole.old place }
+    requires within { place ≤ length whole.old.above }
+    requires class { is_interface (file_of lineage.now.own.file) ≡ false }
+    ensures same { whole.new ≡ whole.old }
+    ensures needs { IfOk result (λ v. needs_of v.items ≡ fewer_constraints_of
+        (kin_of lineage.now)) }
+{
+    // brings what the lineage keeps
+    let _ = whole.lineage();
+    match whole.take_survey() {
+        None => unsurveyed_needs(alloc, whole, place, lineage),
+        Some(survey) => {
+            let needs = surveyed_needs(alloc, whole, place, lineage, &survey);
+            whole.put_survey(survey);
+            needs
+        }
+    }
 }
 
 /// What the methods of an interface impose, over these superinterfaces.
@@ -366,14 +426,14 @@ fn needs_at<T: Told>(
 {
     whole.pass_superinterfaces(place);
     let own = Relative::of(alloc, class.own())?;
-    if is_known_silent(alloc, whole, place, &own)? {
-        return Ok(Vec::new(alloc));
-    }
     if !own.is_interface() {
         return match whole.lineages().lineage_at(alloc, place)? {
             None => unreachable!(),
             Some(lineage) => class_needs(alloc, whole, place, &lineage),
         };
+    }
+    if is_known_silent(alloc, whole, place, &own)? {
+        return Ok(Vec::new(alloc));
     }
     if takes_no_part(alloc, &own)? {
         return Ok(Vec::new(alloc));

@@ -41,7 +41,7 @@ impl<'a, T: Told> Model for Inheritance<'a, T> {
 }
 
 /// A loader, if it is another than this.
-fn other_than(of: LoaderId, loader: Option<LoaderId>) -> Option<LoaderId>
+pub(crate) fn other_than(of: LoaderId, loader: Option<LoaderId>) -> Option<LoaderId>
     ensures { result ≡ other_than of loader }
 {
     match loader {

@@ -3,14 +3,17 @@
 #![tactic(auto)]
 
 mod away;
+mod chained;
 mod declarers;
 mod described;
 mod fewer;
 mod filter;
 mod inherited;
+mod kept;
 mod key;
 mod listed;
 mod method;
+mod methods_above;
 mod overriding;
 mod packages;
 mod plain;

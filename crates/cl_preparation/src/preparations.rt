@@ -2,9 +2,13 @@
 
 ghost use Rattle.std.specs.Prelude.{◌≡◌, ◌≤◌, ℕ, length, IfOk, IfSome};
 ghost use Rattle.cl_hierarchy.specs.ClassesAt.{lined_at};
-ghost use Rattle.cl_hierarchy.specs.Lineages.{IsLined};
-ghost use Rattle.cl_preparation.specs.Surveys.{Surveys};
+ghost use Rattle.cl_hierarchy.specs.Lineages.{IsLined, kin_of, rows_in};
+ghost use Rattle.cl_model.specs.Lineages.{superclasses};
+ghost use Rattle.cl_preparation.specs.MethodsAbove.{AreTold};
+ghost use Rattle.cl_preparation.specs.Surveys.{IsSurvey, Surveys};
 
+use crate::kept::{Kept, told_above};
+use crate::methods_above::MethodsAbove;
 use crate::survey::Survey;
 use cl_hierarchy::{Lineage, Lineages};
 use cl_model::Told;
@@ -16,6 +20,8 @@ pub struct Preparations<T: Told> {
     lineages: Lineages<T>,
     /// What one look at all of them found, if it was worth it.
     survey: Option<Survey>,
+    /// What one of them and its superclasses declare, once that was asked.
+    kept: Option<Kept>,
 }
 
 impl<T: Told> Drop for Preparations<T> {
@@ -23,6 +29,7 @@ impl<T: Told> Drop for Preparations<T> {
         let Preparations {
             lineages: _,
             survey: _,
+            kept: _,
         } = self;
     }
 }
@@ -30,13 +37,14 @@ impl<T: Told> Drop for Preparations<T> {
 impl<T: Told> Model for Preparations<T> {
     ghost use Rattle.std.specs.Prelude.{IfSome};
     ghost use Rattle.cl_hierarchy.specs.Lineages.{Lined, rows_in};
+    ghost use Rattle.cl_preparation.specs.Chains.{IsKept};
     ghost use Rattle.cl_preparation.specs.Surveys.{IsSurvey};
 
     ghost Value = { Lined };
 
     ghost view = { λ p. p.lineages };
 
-    ghost invariant = { λ p. IfSome p.survey (IsSurvey (rows_in p.lineages)) };
+    ghost invariant = { λ p. IfSome p.survey (IsSurvey (rows_in p.lineages)) × IfSome p.kept (IsKept p.lineages) };
 }
 
 /// Whether a look at all classes of a lineage takes less than it may save, where so many of them are to be prepared: the
@@ -58,6 +66,7 @@ impl<T: Told> Preparations<T> {
         Preparations {
             lineages: Lineages::of(whole),
             survey: None,
+            kept: None,
         }
     }
 
@@ -76,6 +85,7 @@ impl<T: Told> Preparations<T> {
         let Preparations {
             lineages,
             survey: _,
+            kept: _,
         } = self;
         lineages.into_lineage()
     }
@@ -93,10 +103,12 @@ impl<T: Told> Preparations<T> {
         let Preparations {
             lineages,
             survey: _,
+            kept: _,
         } = self;
         Ok(Preparations {
             lineages,
             survey: Some(found),
+            kept: None,
         })
     }
 
@@ -115,6 +127,58 @@ impl<T: Told> Preparations<T> {
         // brings what the lineage keeps
         let _ = self.lineage();
         self.survey.as_ref()
+    }
+
+    /// The same, given away.
+    pub(crate) fn take_survey(&mut self) -> Option<Survey>
+        ensures same { self.new ≡ self.old }
+        ensures survey { IfSome result (IsSurvey (rows_in self.old)) }
+    {
+        self.survey.take()
+    }
+
+    /// Keeps it again.
+    pub(crate) fn put_survey(&mut self, survey: Survey)
+        requires survey { IsSurvey (rows_in self.old) survey }
+        ensures same { self.new ≡ self.old }
+    {
+        self.survey = Some(survey);
+    }
+
+    /// What the superclasses of the class at a place declare, which has this lineage: what is kept, if it is that, and nothing is
+    /// kept then.
+    pub(crate) fn take_above(
+        &mut self,
+        alloc: Global,
+        place: usize,
+        lineage: &Lineage<T>,
+    ) -> Result<MethodsAbove, AllocError>
+        requires lineage { lineage.now ≡ lined_at self.old place }
+        ensures same { self.new ≡ self.old }
+        ensures told { IfOk result (λ m. AreTold m (superclasses (kin_of lineage.now))) }
+    {
+        // brings what the lineage keeps
+        let _ = self.lineage();
+        told_above(alloc, self.kept.take(), lineage)
+    }
+
+    /// Keeps that with what the class itself declares.
+    pub(crate) fn keep(
+        &mut self,
+        alloc: Global,
+        place: usize,
+        lineage: &Lineage<T>,
+        methods: MethodsAbove,
+    ) -> Result<(), AllocError>
+        requires lineage { lineage.now ≡ lined_at self.old place }
+        requires told { AreTold methods (superclasses (kin_of lineage.now)) }
+        ensures same { self.new ≡ self.old }
+    {
+        // brings what the lineage keeps
+        let _ = self.lineage();
+        let kept = Kept::of(alloc, methods, lineage)?;
+        self.kept = Some(kept);
+        Ok(())
     }
 
     /// Looks for the direct supertypes of all classes, so that they are not looked for again.

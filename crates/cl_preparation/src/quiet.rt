@@ -83,7 +83,7 @@ fn has_heard<T: Told>(
 }
 
 /// Whether two classes are the same (JVMS SE 8, 5.3).
-fn is_same(one: &Class, other: &Class) -> bool
+pub(crate) fn is_same(one: &Class, other: &Class) -> bool
     ensures { result ≡ same_class one.now other.now }
 {
     one == other

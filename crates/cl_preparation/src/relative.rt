@@ -76,6 +76,18 @@ fn opening(is_special: bool, flags: u16) -> Option<bool>
     Some(is_wide(flags))
 }
 
+/// Of a method of these flags that is neither private nor static: whether it takes part in overriding and is public or protected
+/// (JVMS SE 8, 5.4.5).
+fn offering(is_special: bool, flags: u16) -> Option<bool>
+    ensures { result ≡ (if is_virtual flags then Some (not is_special && is_wide flags) else
+        None) }
+{
+    if !is_virtual(flags) {
+        return None;
+    }
+    Some(!is_special && is_wide(flags))
+}
+
 /// The flags of the method with this key, if a class declares one. A filter, where there is one, is of its methods' names.
 #[tactic(auto, using(crate::proofs::Declared::flags_keyed, crate::proofs::Filters::flags_free))]
 pub(crate) fn flags_with<T: Told>(
@@ -178,6 +190,19 @@ impl<T: Told> Relative<T> {
         match self.flags(key) {
             Some(flags) => is_virtual(flags),
             None => false,
+        }
+    }
+
+    /// Of its method with this key that is neither private nor static, if it declares one: whether that takes part in overriding
+    /// and is public or protected (JVMS SE 8, 5.4.5).
+    #[tactic(auto, using(crate::proofs::Declared::flags_offered))]
+    pub fn offered(&self, key: &MethodKey) -> Option<bool>
+        ensures { result ≡ (if is_offered key.now (bare self.now) then Some (opens key.now
+            (bare self.now)) else None) }
+    {
+        match self.flags(key) {
+            Some(flags) => offering(key.is_special(), flags),
+            None => None,
         }
     }
 

@@ -1,10 +1,9 @@
-use Rattle.std.proofs.Common.{ap, ◌∙◌}
-use Rattle.cl_hierarchy.specs.Imposed.{needs_of}
-use Rattle.cl_hierarchy.specs.Lineages.{kin_of}
-use Rattle.cl_preparation.proofs.Nearby.{none_fewer}
+use Rattle.std.proofs.Common.{subst, sym}
+use Rattle.cl_hierarchy.specs.Lineages.{Lined}
+use Rattle.cl_preparation.specs.Surveys.{Surveys}
+use Rattle.cl_preparation.proofs.Surveyed.{surveys_at}
 use Rattle.cl_preparation.proofs.fewer.class_needs.Goals as goal
 
-pub returns-then-branch-clause-needs : goal.returns-then-branch-clause-needs
-returns-then-branch-clause-needs g c =
-    ap needs_of c.new.ensures.items
-    ∙ none_fewer (kin_of c.args.lineage.now) (c.in_ok-imposes_nothing.ensures c.if-branch.true)
+pub surveyed_needs-needs-requires-clause-survey : goal.surveyed_needs-needs-requires-clause-survey
+surveyed_needs-needs-requires-clause-survey g c =
+    subst (λ (l : Lined). Surveys l c.in-Some.survey) (sym c.requires.lineage) (surveys_at c.args.whole.now c.args.place c.in-Some.survey c.lineage.ensures.kept.order c.requires.within c.in-Some.ensures.survey)

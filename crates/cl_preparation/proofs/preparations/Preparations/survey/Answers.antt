@@ -10,4 +10,4 @@ pub returns : goal.returns
 returns g c = λ place le.
     survey_lent (λ s. s.now) c.args.self.now place c.self.inside.survey c.as_ref.result c.as_ref.ensures.value
     c.lineage.ensures.kept.order le
-    (subst (λ (l : Lined). IfSome c.self.inside.survey (IsSurvey (rows_in l))) c.self.view_is c.self.invariant)
+    (subst (λ (l : Lined). IfSome c.self.inside.survey (IsSurvey (rows_in l))) c.self.view_is c.self.invariant.0)

@@ -1,0 +1,14 @@
+use Rattle.std.proofs.Common.{ap, subst}
+use Rattle.std.proofs.lemmas.Result.{IfOk-at_ok}
+use Rattle.cl_hierarchy.specs.Imposed.{needs_of}
+use Rattle.cl_hierarchy.specs.Lineages.{Lined}
+use Rattle.cl_preparation.specs.Chains.{IsChained}
+use Rattle.cl_preparation.proofs.Chains.{chained_all}
+use Rattle.cl_preparation.proofs.chained.Chained.needs.Goals as goal
+
+pub returns : goal.returns
+returns g c =
+    let is = subst (λ (l : Lined). IsChained l c.self.inside.own c.self.inside.survey.now c.self.inside.above.now c.self.inside.over) c.self.view_is c.self.invariant in
+    let l = c.args.self.now in
+    chained_all l c.self.inside.own c.self.inside.survey.now c.self.inside.above.now c.self.inside.over is c.in_ok-methods.methods.items c.as_slice.result.now (needs_of c.new-needs.result.items) (needs_of c.push_each_declared.new.needs.items) (needs_of c.push_over.new.needs.items)
+    c.in_ok-methods.ensures c.as_slice.ensures.value (ap needs_of c.new-needs.ensures.items) (IfOk-at_ok _ c.in_ok-push_each_declared.was c.push_each_declared.ensures) (IfOk-at_ok _ c.in_ok-push_over.was c.push_over.ensures)

@@ -1,0 +1,36 @@
+-- What is kept of a class and its superclasses while those below are prepared (JVMS SE 8, 5.4.2).
+use Rattle.std.specs.Prelude.{◌≡◌, false, List, ◌∷◌, Some}
+use Rattle.cl_classfile.specs.Files.{file_of, is_interface}
+use Rattle.cl_model.specs.declared.class.Class.{Class}
+use Rattle.cl_model.specs.Lineages.{Kin, first, superclasses}
+use Rattle.cl_hierarchy.specs.Lineages.{Lined, kin_of, rows_in}
+use Rattle.cl_hierarchy.specs.Rows.{Rowed}
+use Rattle.cl_hierarchy.specs.Trees.{kin_named, kins}
+use Rattle.cl_preparation.specs.declared.methods_above.Above.{Above}
+use Rattle.cl_preparation.specs.declared.declarers.MethodTexts.{MethodTexts}
+use Rattle.cl_preparation.specs.declared.survey.Survey.{Survey}
+use Rattle.cl_preparation.specs.declared.kept.Kept.{Kept}
+use Rattle.cl_preparation.specs.MethodsAbove.{AreTold}
+use Rattle.cl_preparation.specs.Nearby.{AddAll}
+use Rattle.cl_preparation.specs.Surveys.{Surveys}
+use Rattle.indexmap.specs.IndexMap.{IndexMap}
+
+-- what is kept tells of the methods of one class of a lineage and of its superclasses
+pub record IsKept (l : Lined) (u : Kept) : Type 0 where
+  pub kin : Kin
+  pub named : kin_named (kins (rows_in l)) u.last ≡ Some kin
+  pub told : AreTold u.methods (kin ∷ superclasses kin)
+
+-- this is the superclass of a class (4.1)
+abbrev pub IsUnder : Kin → Class → Type 0
+IsUnder k c = (s : Kin) × (Some s ≡ first (superclasses k)) × (s.class ≡ c)
+
+-- a class that is no interface, with what its methods are looked up in: a survey, what its
+-- superclasses declare, and superinterfaces that add what all do (5.4.2)
+pub record IsChained {S : Type 0} (l : Lined) (own : Rowed) (survey : Survey)
+    (above : IndexMap MethodTexts Above S) (over : List Rowed) : Type 0 where
+  pub own_is : own ≡ l.own
+  pub class : is_interface (file_of l.own.file) ≡ false
+  pub surveyed : Surveys l survey
+  pub above_are : AreTold above (superclasses (kin_of l))
+  pub over_are : AddAll l over

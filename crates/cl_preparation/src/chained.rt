@@ -1,0 +1,210 @@
+//! The few loading constraints of a class that is no interface, where what its superclasses declare is kept, and the lineage was
+//! surveyed: one look for each of its methods (JVMS SE 8, 5.3.4, 5.4.2).
+
+ghost use Rattle.std.specs.Prelude.{◌≡◌, ◌++◌, [], flat_map, true, IfOk, OnOk};
+ghost use Rattle.cl_hierarchy.specs.Imposed.{needs_of};
+ghost use Rattle.cl_hierarchy.specs.Lineages.{kin_of};
+ghost use Rattle.cl_model.specs.Preparation.{takes_part};
+ghost use Rattle.cl_preparation.specs.Fewer.{by_superinterfaces, fewer_constraints_of, fewer_declared, fewer_inherited, loaders_over, others_after};
+ghost use Rattle.cl_preparation.specs.Relatives.{bare};
+
+use crate::away::Away;
+use crate::described::{Described, push_equals};
+use crate::inherited::other_than;
+use crate::key::MethodKey;
+use crate::listed::Listed;
+use crate::method::Method;
+use crate::methods_above::{MethodsAbove, nearest_above, wide_above};
+use crate::plain::push_with;
+use crate::relative::Relative;
+use crate::survey::Survey;
+use cl_hierarchy::{ClassRow, Lineage};
+use cl_model::{Equality, Told};
+use std::alloc::{AllocError, Global};
+use std::marker::Model;
+use std::sync::Arc;
+
+/// A class with what its methods are looked up in.
+pub(crate) struct Chained<'a, 'b, 'c, 'd, T: Told> {
+    pub lineage: &'a Lineage<T>,
+    pub own: Relative<T>,
+    pub survey: &'b Survey,
+    pub above: &'c MethodsAbove,
+    /// Superinterfaces, in preorder, or none where these add nothing.
+    pub over: Away<'d, T>,
+}
+
+impl<'a, 'b, 'c, 'd, T: Told> Drop for Chained<'a, 'b, 'c, 'd, T> {
+    fn drop(self) {
+        let Chained {
+            lineage: _,
+            own: _,
+            survey: _,
+            above: _,
+            over: _,
+        } = self;
+    }
+}
+
+impl<'a, 'b, 'c, 'd, T: Told> Model for Chained<'a, 'b, 'c, 'd, T> {
+    ghost use Rattle.cl_hierarchy.specs.Lineages.{Lined};
+    ghost use Rattle.cl_preparation.specs.Chains.{IsChained};
+
+    ghost Value = { Lined };
+
+    ghost view = { λ x. x.lineage.now };
+
+    ghost invariant = { λ x. IsChained x.lineage.now x.own x.survey.now x.above.now x.over };
+}
+
+impl<'a, 'b, 'c, 'd, T: Told> Chained<'a, 'b, 'c, 'd, T> {
+    /// The other loaders of what a method with this key overrides, each once: those of superclasses, nearest first, then those
+    /// of superinterfaces (JVMS SE 8, 5.4.5).
+    fn loaders_over(&self, alloc: Global, key: &MethodKey) -> Result<Listed, AllocError>
+        requires { takes_part key.now (kin_of self.now) ≡ true }
+        ensures { IfOk result (λ v. v ≡ others_after self.now.own.class.loader []
+            (loaders_over (kin_of self.now) key.now)) }
+    {
+        let own = self.own.loader();
+        let mut listed = wide_above(alloc, self.above, own, key)?;
+        self.over.list_counted(&mut listed, own, key, false)?;
+        Ok(listed)
+    }
+
+    /// Adds what a method of the class imposes with what it overrides (JVMS SE 8, 5.4.2).
+    fn push_declared(
+        &self,
+        alloc: Global,
+        needs: &mut Vec<Equality>,
+        method: &Method,
+    ) -> Result<(), AllocError>
+        ensures { OnOk result (needs_of needs.new.items ≡ needs_of needs.old.items
+            ++ fewer_declared (kin_of self.now) method.now) }
+    {
+        let key = method.key();
+        if !self.own.takes_part(key) {
+            return Ok(());
+        }
+        // mostly: no class of another loader declares it
+        if self.survey.is_alone(alloc, key)? {
+            return Ok(());
+        }
+        let loaders = self.loaders_over(alloc, key)?;
+        push_with(alloc, needs, key, self.own.loader(), &loaders)
+    }
+
+    /// Adds what these methods of the class impose.
+    #[tactic(auto, using(crate::proofs::Constraints::pushed_more))]
+    fn push_each_declared(
+        &self,
+        alloc: Global,
+        needs: &mut Vec<Equality>,
+        methods: &[Method],
+    ) -> Result<(), AllocError>
+        ensures { OnOk result (needs_of needs.new.items ≡ needs_of needs.old.items ++ flat_map
+            (fewer_declared (kin_of self.now)) methods.now) }
+    {
+        for method in methods {
+            self.push_declared(alloc, needs, method)?;
+        }
+        Ok(())
+    }
+
+    /// Adds what a method of a superinterface imposes with the one that the class inherits (JVMS SE 8, 5.4.2).
+    fn push_method(
+        &self,
+        alloc: Global,
+        needs: &mut Vec<Equality>,
+        interface: &Relative<T>,
+        method: &Method,
+    ) -> Result<(), AllocError>
+        ensures { OnOk result (needs_of needs.new.items ≡ needs_of needs.old.items
+            ++ fewer_inherited (kin_of self.now) (bare interface.now) method.now) }
+    {
+        let key = method.key();
+        if !interface.takes_part(key) || self.own.has(key) {
+            return Ok(());
+        }
+        let nearest = nearest_above(alloc, self.above, key)?;
+        match other_than(interface.loader(), nearest) {
+            Some(loader) => {
+                let described = Described::of(alloc, key)?;
+                push_equals(alloc, needs, &described, loader, interface.loader())
+            }
+            None => Ok(()),
+        }
+    }
+
+    /// Adds what these methods of a superinterface impose.
+    #[tactic(auto, using(crate::proofs::Constraints::pushed_more))]
+    fn push_methods(
+        &self,
+        alloc: Global,
+        needs: &mut Vec<Equality>,
+        interface: &Relative<T>,
+        methods: &[Method],
+    ) -> Result<(), AllocError>
+        ensures { OnOk result (needs_of needs.new.items ≡ needs_of needs.old.items ++ flat_map
+            (fewer_inherited (kin_of self.now) (bare interface.now)) methods.now) }
+    {
+        for method in methods {
+            self.push_method(alloc, needs, interface, method)?;
+        }
+        Ok(())
+    }
+
+    /// Adds what the methods of the superinterface of a row impose.
+    fn push_row(
+        &self,
+        alloc: Global,
+        needs: &mut Vec<Equality>,
+        row: &Arc<ClassRow<T>>,
+    ) -> Result<(), AllocError>
+        ensures { OnOk result (needs_of needs.new.items ≡ needs_of needs.old.items ++ flat_map
+            (fewer_inherited (kin_of self.now) (bare row.now.value))
+            (bare row.now.value).file.methods) }
+    {
+        let interface = Relative::of(alloc, row)?;
+        let methods = interface.methods(alloc)?;
+        self.push_methods(alloc, needs, &interface, methods.as_slice())
+    }
+
+    /// Adds what the methods of the superinterfaces of these rows impose.
+    fn push_rows(
+        &self,
+        alloc: Global,
+        needs: &mut Vec<Equality>,
+        rows: &[&Arc<ClassRow<T>>],
+    ) -> Result<(), AllocError>
+        ensures { OnOk result (needs_of needs.new.items ≡ needs_of needs.old.items ++ flat_map
+            (λ r. flat_map (fewer_inherited (kin_of self.now) (bare r.now.value))
+            (bare r.now.value).file.methods) rows.now) }
+    {
+        for row in rows {
+            self.push_row(alloc, needs, row)?;
+        }
+        Ok(())
+    }
+
+    /// Adds what is inherited, where superinterfaces of other loaders than what the class inherits may declare it.
+    fn push_over(&self, alloc: Global, needs: &mut Vec<Equality>) -> Result<(), AllocError>
+        ensures { OnOk result (needs_of needs.new.items ≡ needs_of needs.old.items
+            ++ by_superinterfaces fewer_inherited (kin_of self.now)) }
+    {
+        if self.survey.is_mix_declared(self.own.row()) {
+            return Ok(());
+        }
+        self.push_rows(alloc, needs, self.over.as_slice())
+    }
+
+    /// The few equalities of the class.
+    pub fn needs(&self, alloc: Global) -> Result<Vec<Equality>, AllocError>
+        ensures { IfOk result (λ v. needs_of v.items ≡ fewer_constraints_of (kin_of self.now)) }
+    {
+        let mut needs = Vec::new(alloc);
+        let methods = self.own.methods(alloc)?;
+        self.push_each_declared(alloc, &mut needs, methods.as_slice())?;
+        self.push_over(alloc, &mut needs)?;
+        Ok(needs)
+    }
+}

@@ -1,0 +1,199 @@
+//! What a class and its superclasses declare, by methods, kept while classes below one another are prepared: each adds its own
+//! methods, and one look for each method of the next tells what all above it declare (JVMS SE 8, 5.4.2, 5.4.5).
+
+ghost use Rattle.std.specs.Prelude.{◌≡◌, ◌++◌, ◌∷◌, List, [], find, filter, if◌then◌else◌, option_map, IfOk, OnOk};
+ghost use Rattle.std.specs.Option.{option_map_or};
+ghost use Rattle.cl_model.specs.Lineages.{Kin, is_offered};
+ghost use Rattle.cl_preparation.specs.Fewer.{loaders, others_after};
+ghost use Rattle.cl_preparation.specs.MethodsAbove.{ArePut, AreTold, IsPut, added, without};
+ghost use Rattle.cl_preparation.specs.Relatives.{bare};
+ghost use Rattle.cl_preparation.specs.Walks.{opens};
+
+use crate::declarers::MethodTexts;
+use crate::key::MethodKey;
+use crate::listed::Listed;
+use crate::method::Method;
+use crate::relative::Relative;
+use cl_hierarchy::ClassRow;
+use cl_model::{LoaderId, Told};
+use cl_names::Seed;
+use indexmap::IndexMap;
+use std::alloc::{AllocError, Global};
+use std::sync::Arc;
+
+/// What is kept of a method.
+pub(crate) struct Above {
+    /// Which loaders defined the classes that declare it public or protected, nearest first, each once.
+    wide: Vec<LoaderId>,
+    /// Which loader defined the nearest class that declares it neither private nor static.
+    nearest: LoaderId,
+}
+
+impl Drop for Above {
+    fn drop(self) {
+        let Above {
+            wide: _,
+            nearest: _,
+        } = self;
+    }
+}
+
+/// Methods, with what is kept of each.
+pub(crate) type MethodsAbove = IndexMap<MethodTexts, Above, Seed>;
+
+/// This loader, and then those of others that are another.
+fn with_first(
+    alloc: Global,
+    loader: LoaderId,
+    others: &[LoaderId],
+) -> Result<Vec<LoaderId>, AllocError>
+    ensures { IfOk result (λ v. v.items ≡ loader ∷ without loader others.now) }
+{
+    let mut all = Vec::new(alloc);
+    all.push(loader)?;
+    for other in others {
+        if loader != *other {
+            all.push(*other)?;
+        }
+    }
+    Ok(all)
+}
+
+/// The same loaders.
+fn copied(alloc: Global, loaders: &[LoaderId]) -> Result<Vec<LoaderId>, AllocError>
+    ensures { IfOk result (λ v. v.items ≡ loaders.now) }
+{
+    let mut all = Vec::with_capacity(alloc, loaders.len())?;
+    for loader in loaders {
+        all.push(*loader)?;
+    }
+    Ok(all)
+}
+
+/// The loaders of the classes that declare a method public or protected, if it is known.
+fn wide_of(known: Option<&Above>) -> &[LoaderId]
+    ensures { result.now ≡ option_map_or (λ x. x.now.wide.items) known.entry [] }
+{
+    match known {
+        Some(above) => above.wide.as_slice(),
+        None => &[],
+    }
+}
+
+impl Above {
+    /// What is kept once a class below declares the method.
+    fn with(
+        alloc: Global,
+        known: Option<&Above>,
+        loader: LoaderId,
+        is_open: bool,
+    ) -> Result<Above, AllocError>
+        ensures nearest { IfOk result (λ a. a.nearest ≡ loader) }
+        ensures wide { IfOk result (λ a. a.wide.items ≡ added loader is_open
+            (option_map_or (λ x. x.now.wide.items) known.entry [])) }
+    {
+        let before = wide_of(known);
+        let wide = if is_open {
+            with_first(alloc, loader, before)?
+        } else {
+            copied(alloc, before)?
+        };
+        Ok(Above {
+            wide,
+            nearest: loader,
+        })
+    }
+}
+
+/// Puts a method of a class below, if it is neither private nor static.
+fn put<T: Told>(
+    alloc: Global,
+    methods: &mut MethodsAbove,
+    class: &Relative<T>,
+    key: &MethodKey,
+) -> Result<(), AllocError>
+    ensures { OnOk result (IsPut methods.old key.now (bare class.now) methods.new) }
+{
+    let Some(is_open) = class.offered(key) else {
+        return Ok(());
+    };
+    let texts = MethodTexts::of(alloc, key)?;
+    let above = Above::with(alloc, methods.get(&texts), class.loader(), is_open)?;
+    methods.insert(texts, above)?;
+    Ok(())
+}
+
+/// Puts these methods of a class below.
+fn put_each<T: Told>(
+    alloc: Global,
+    methods: &mut MethodsAbove,
+    class: &Relative<T>,
+    added: &[Method],
+) -> Result<(), AllocError>
+    ensures { OnOk result ((ks : List Kin) → AreTold methods.old ks
+        → ArePut methods.new (bare class.now) added.now ks) }
+{
+    for method in added {
+        put(alloc, methods, class, method.key())?;
+    }
+    Ok(())
+}
+
+/// Puts the methods of a class that stands below those whose methods these are.
+pub(crate) fn put_row<T: Told>(
+    alloc: Global,
+    methods: &mut MethodsAbove,
+    row: &Arc<ClassRow<T>>,
+) -> Result<(), AllocError>
+    ensures { OnOk result ((ks : List Kin) → AreTold methods.old ks
+        → AreTold methods.new (bare row.now.value ∷ ks)) }
+{
+    let class = Relative::of(alloc, row)?;
+    let added = class.methods(alloc)?;
+    put_each(alloc, methods, &class, added.as_slice())
+}
+
+/// Lists loaders but for the own one.
+fn list_but(listed: &mut Listed, own: LoaderId, loaders: &[LoaderId]) -> Result<(), AllocError>
+    ensures { OnOk result (listed.new ≡ listed.old ++ without own loaders.now) }
+{
+    for loader in loaders {
+        if own != *loader {
+            listed.push(*loader)?;
+        }
+    }
+    Ok(())
+}
+
+/// The other loaders than this of the classes that declare a public or protected method with this key which takes part, each once,
+/// nearest first (JVMS SE 8, 5.4.5).
+pub(crate) fn wide_above(
+    alloc: Global,
+    methods: &MethodsAbove,
+    own: LoaderId,
+    key: &MethodKey,
+) -> Result<Listed, AllocError>
+    ensures { (ks : List Kin) → AreTold methods.now ks → IfOk result (λ v. v ≡ others_after own []
+        (loaders (filter (opens key.now) ks))) }
+{
+    let texts = MethodTexts::of(alloc, key)?;
+    let mut listed = Listed::new(alloc);
+    list_but(&mut listed, own, wide_of(methods.get(&texts)))?;
+    Ok(listed)
+}
+
+/// The loader of the nearest class that declares a method with this key that is neither private nor static.
+pub(crate) fn nearest_above(
+    alloc: Global,
+    methods: &MethodsAbove,
+    key: &MethodKey,
+) -> Result<Option<LoaderId>, AllocError>
+    ensures { (ks : List Kin) → AreTold methods.now ks → IfOk result (λ o. o ≡ option_map
+        (λ k. k.class.loader) (find (is_offered key.now) ks)) }
+{
+    let texts = MethodTexts::of(alloc, key)?;
+    match methods.get(&texts) {
+        Some(above) => Ok(Some(above.nearest)),
+        None => Ok(None),
+    }
+}

@@ -1,16 +1,14 @@
 -- What is kept of a class and its superclasses tells what the class below imposes.
-use Rattle.std.proofs.Common.{◌≡◌, ◌∙◌, ◌&&◌, ◌++◌, ◌≤◌, ℕ, Bool, true, false, not, if◌then◌else◌, Option, Some, None, List, [], ◌∷◌, append-nil, append_assoc, ap, filter, length, map, refl, subst, sym}
-use Rattle.std.specs.Prelude.{◌==◌, IfSome, flat_map, is_some, option_map}
-use Rattle.std.specs.List.{AllByRecursion, list_all}
+use Rattle.std.proofs.Common.{◌≡◌, ◌∙◌, ◌&&◌, ◌++◌, ℕ, Bool, true, false, not, if◌then◌else◌, Option, Some, None, List, [], ◌∷◌, append-nil, ap, filter, map, refl, subst, sym}
+use Rattle.std.specs.Prelude.{flat_map, is_some, option_map}
+use Rattle.std.specs.List.{list_all}
 use Rattle.std.proofs.lemmas.Option.{same_Some}
 use Rattle.cl_classfile.specs.Files.{Key, Member, file_of, is_interface}
 use Rattle.cl_classfile.specs.Lookups.{method_named}
 use Rattle.cl_model.specs.declared.class.Class.{Class}
-use Rattle.cl_model.specs.Classes.{same_class}
-use Rattle.cl_model.specs.Lineages.{Bare, Kin, first, is_offered, method_of, superclasses, superinterfaces, upward}
+use Rattle.cl_model.specs.Lineages.{Bare, Kin, first, method_of, superclasses, superinterfaces, upward}
 use Rattle.cl_model.specs.Preparation.{equals_of, inherited_from, overridden, takes_part}
 use Rattle.cl_model.specs.States.{Need}
-use Rattle.cl_model.proofs.Complete.{is_class}
 use Rattle.cl_hierarchy.specs.ClassesAt.{lined_at, own_at}
 use Rattle.cl_hierarchy.specs.Lineages.{IsInOrder, Lined, kin_of, rows_in}
 use Rattle.cl_hierarchy.specs.Rows.{Rowed}
@@ -34,7 +32,7 @@ use Rattle.cl_preparation.specs.Relatives.{bare}
 use Rattle.cl_preparation.specs.Surveys.{IsAlone, IsSurvey}
 use Rattle.cl_preparation.specs.Walks.{opens}
 use Rattle.cl_preparation.proofs.MethodsAbove.{tree_told}
-use Rattle.cl_preparation.proofs.Nearby.{inherited_is, own_known, still_of}
+use Rattle.cl_preparation.proofs.Nearby.{inherited_is, own_known}
 use Rattle.cl_preparation.proofs.Reached.{overridden_is_walked}
 use Rattle.cl_preparation.proofs.Surveyed.{alone_none, none_inherited}
 use Rattle.cl_preparation.proofs.Thinned.{open_enough, others_both}

@@ -1,6 +1,6 @@
 -- Where superinterfaces add nothing to the few equalities.
 use Rattle.std.proofs.Common.{◌≡◌, ◌≤◌, ℕ, Bool, true, false, ◌&&◌, ◌||◌, not, if◌then◌else◌, Option, Some, None, List, [], ◌∷◌, ◌++◌, map, filter, length, refl, ap, sym, subst, ◌∙◌, drop, take, append-nil, append_assoc}
-use Rattle.std.specs.Prelude.{◌==◌, Contains, Err, IfOk, IfSome, Ok, Result, find, flat_map, is_some, option_map}
+use Rattle.std.specs.Prelude.{◌==◌, Contains, IfSome, find, flat_map, is_some, option_map}
 use Rattle.std.specs.List.{AllByRecursion, list_any}
 use Rattle.std.proofs.lemmas.Bool.{and_parts, eqb-true, eq-eqb, or_parts, or_right}
 use Rattle.std.proofs.lemmas.List.{map-append, take-append-drop}
@@ -30,7 +30,7 @@ use Rattle.cl_preparation.specs.Quiet.{is_heard, is_silent, names_other}
 use Rattle.cl_preparation.specs.Relatives.{bare}
 use Rattle.cl_preparation.proofs.Constraints.{flat_same}
 use Rattle.cl_preparation.proofs.Reached.{any_map}
-use Rattle.cl_preparation.proofs.Nearby.{all_added, away_rows, inherited_here, inherited_is, inherits, none_differs}
+use Rattle.cl_preparation.proofs.Nearby.{away_rows, inherited_here, inherited_is, inherits, none_differs}
 use Rattle.std.proofs.lemmas.Option.{same_Some}
 
 -- ---- tests

@@ -1,6 +1,6 @@
 -- What a survey tells of a class that imposes nothing, or whose superinterfaces add nothing.
-use Rattle.std.proofs.Common.{◌≡◌, ◌∙◌, ◌≤◌, ◌⊎◌, ◌&&◌, ◌++◌, inl, inr, length, ℕ, Bool, true, false, not, if◌then◌else◌, Option, Some, None, List, [], ◌∷◌, filter, append-nil, refl, ap, sym, subst}
-use Rattle.std.specs.Prelude.{◌==◌, Contains, IfSome, find, flat_map, is_some, option_map}
+use Rattle.std.proofs.Common.{◌≡◌, ◌∙◌, ◌≤◌, ◌⊎◌, ◌&&◌, ◌++◌, inl, inr, length, ℕ, Bool, true, false, not, if◌then◌else◌, Option, Some, None, List, [], ◌∷◌, filter, refl, ap, sym, subst}
+use Rattle.std.specs.Prelude.{Contains, IfSome, find, flat_map, is_some, option_map}
 use Rattle.std.specs.List.{AllByRecursion, list_all}
 use Rattle.std.proofs.lemmas.Bool.{and_parts, eq-eqb}
 use Rattle.std.proofs.lemmas.List.Elements.{All-contains_itself, recursion_from_All}
@@ -9,7 +9,7 @@ use Rattle.cl_classfile.specs.Files.{Key, Member, file_of, is_interface}
 use Rattle.cl_classfile.specs.Lookups.{method_named}
 use Rattle.cl_model.specs.declared.class.Class.{Class}
 use Rattle.cl_model.specs.Classes.{same_class}
-use Rattle.cl_model.specs.Lineages.{Forest, Bare, Kin, is_offered, method_of, superclasses, superinterfaces, upward}
+use Rattle.cl_model.specs.Lineages.{Kin, is_offered, method_of, superclasses, superinterfaces, upward}
 use Rattle.cl_model.specs.Preparation.{equals_of, inherited_from, is_special, overridden, takes_part}
 use Rattle.cl_model.specs.States.{Need}
 use Rattle.cl_model.proofs.Derivations.{all_map}
@@ -29,7 +29,7 @@ use Rattle.cl_preparation.specs.Walks.{is_overridden, opened_by, walked}
 use Rattle.cl_preparation.proofs.Nearby.{inherited_is}
 use Rattle.cl_preparation.proofs.Reached.{overridden_is_walked}
 use Rattle.cl_preparation.proofs.Silence.{IsFine, all_over, declares_none, found_in, none_new, second_each}
-use Rattle.cl_preparation.proofs.Unmixed.{none_mixed, offered_or}
+use Rattle.cl_preparation.proofs.Unmixed.{offered_or}
 
 -- ---- the superclasses of the tree
 

@@ -7,9 +7,8 @@ use Rattle.std.specs.Cmp.Lexicographic.{bytes_decides, pointwise}
 use Rattle.std.proofs.lemmas.Bool.{and_parts, eqb-true}
 use Rattle.std.proofs.lemmas.List.Folds.{list_any-append}
 use Rattle.std.specs.Map.{lookup}
-use Rattle.std.specs.List.{take-map}
-use Rattle.std.proofs.lemmas.List.{length-map, length_push, take-append-le, take_more}
-use Rattle.std.proofs.lemmas.List.Elements.{All-contains, All-from_recursion, All-take, recursion_from_All}
+use Rattle.std.proofs.lemmas.List.{take_more}
+use Rattle.std.proofs.lemmas.List.Elements.{All-contains, All-from_recursion}
 use Rattle.std.proofs.lemmas.Option.{same_Some, slice_get_within}
 use Rattle.std.proofs.Math.Seq.{take-length}
 use Rattle.cl_model.proofs.Derived.{all_both}
@@ -30,11 +29,11 @@ use Rattle.cl_model.specs.Lineages as lineages
 use Rattle.cl_model.proofs.Keys.{keys_are_told}
 use Rattle.cl_hierarchy.specs.Frames.{accepted_of}
 use Rattle.cl_hierarchy.specs.Rows.{Rowed}
-use Rattle.cl_hierarchy.specs.Trees.{interface_places, interfaces_in, kin_under}
+use Rattle.cl_hierarchy.specs.Trees.{interface_places, interfaces_in}
 use Rattle.cl_preparation.specs.declared.declarers.Declarers.{Declarers}
 use Rattle.cl_preparation.specs.declared.declarers.Declarers.TheVariants as declarers
 use Rattle.cl_preparation.specs.declared.declarers.MethodTexts.{MethodTexts}
-use Rattle.cl_preparation.specs.Declarers.{AreMixed, Has, IsNoted, IsRowNoted, IsTold, Joins, Keeps, NamesAre, is_known, is_mix, is_noted, is_plain, is_single, same_texts}
+use Rattle.cl_preparation.specs.Declarers.{Has, IsNoted, IsRowNoted, IsTold, Joins, Keeps, NamesAre, is_known, is_mix, is_noted, is_plain, is_single, same_texts}
 use Rattle.cl_model.proofs.Derivations.{all_map}
 use Rattle.cl_preparation.specs.declared.survey.Survey.{Survey}
 use Rattle.cl_preparation.specs.Relatives.{bare}

@@ -1,13 +1,10 @@
 -- What a class and its superclasses declare, by methods (JVMS SE 8, 5.3.4, 5.4.2, 5.4.5).
-use Rattle.std.specs.Prelude.{◌≡◌, ◌==◌, Bool, ℕ, not, if◌then◌else◌, List, [], ◌∷◌, Option, None, Some, find, filter, option_map}
+use Rattle.std.specs.Prelude.{◌≡◌, ◌==◌, Bool, ℕ, not, if◌then◌else◌, List, [], ◌∷◌, Option, Some, find, filter, option_map}
 use Rattle.std.specs.Option.{option_map_or}
 use Rattle.std.specs.List.{list_any}
 use Rattle.indexmap.specs.IndexMap.{IndexMap, get}
 use Rattle.cl_classfile.specs.Files.{Key, Member, method_of, same_key}
-use Rattle.cl_model.specs.Lineages.{Kin, is_offered, superclasses}
-use Rattle.cl_hierarchy.specs.Lineages.{IsRowIn, Lined, kin_at, rows_in}
-use Rattle.cl_hierarchy.specs.Rows.{Rowed}
-use Rattle.cl_hierarchy.specs.Trees.{kin_under, kins}
+use Rattle.cl_model.specs.Lineages.{Kin, is_offered}
 use Rattle.cl_preparation.specs.declared.declarers.MethodTexts.{MethodTexts}
 use Rattle.cl_preparation.specs.declared.methods_above.Above.{Above}
 use Rattle.cl_preparation.specs.Declarers.{same_texts}

@@ -126,7 +126,11 @@ fn row_at<T: Told>(whole: &Preparations<T>, place: usize) -> Option<&Arc<ClassRo
 }
 
 /// The class at a place of a lineage; the class itself stands last.
-fn class_at<T: Told>(alloc: Global, whole: &Preparations<T>, place: usize) -> Result<Class, AllocError>
+fn class_at<T: Told>(
+    alloc: Global,
+    whole: &Preparations<T>,
+    place: usize,
+) -> Result<Class, AllocError>
     ensures { IfOk result (λ c. c ≡ class_in whole.now place) }
 {
     match row_at(whole, place) {

@@ -1,4 +1,4 @@
-use Rattle.std.proofs.Common.{◌∙◌, None, Some, ap, not, refl, sym}
+use Rattle.std.proofs.Common.{◌∙◌, None, Some, refl, sym}
 use Rattle.cl_preparation.specs.Declarers.{is_single}
 use Rattle.cl_preparation.proofs.Unmixed.{told_by}
 use Rattle.cl_preparation.proofs.declarers.is_of_one.Goals as goal

@@ -1,4 +1,4 @@
-use Rattle.std.proofs.Common.{◌∙◌, subst, sym}
+use Rattle.std.proofs.Common.{subst, sym}
 use Rattle.cl_model.specs.Lineages.{superclasses}
 use Rattle.cl_hierarchy.specs.Lineages.{kin_of}
 use Rattle.cl_hierarchy.proofs.Stems.{if_some}

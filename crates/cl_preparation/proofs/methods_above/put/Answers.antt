@@ -1,4 +1,4 @@
-use Rattle.std.proofs.Common.{◌≡◌, ◌∙◌, ℕ, Bool, List, [], ap, true}
+use Rattle.std.proofs.Common.{◌∙◌, ℕ, Bool, List, [], ap}
 use Rattle.std.specs.Option.{option_map_or}
 use Rattle.indexmap.specs.IndexMap.{get}
 use Rattle.cl_model.specs.Lineages.{is_offered}

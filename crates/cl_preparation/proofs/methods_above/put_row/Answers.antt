@@ -1,6 +1,6 @@
-use Rattle.std.proofs.Common.{◌∙◌, ap, subst, sym}
+use Rattle.std.proofs.Common.{◌∙◌, subst}
 use Rattle.std.proofs.lemmas.Result.{on_ok_weaker}
-use Rattle.cl_classfile.specs.Files.{Member, file_of}
+use Rattle.cl_classfile.specs.Files.{file_of}
 use Rattle.cl_hierarchy.specs.Rows.{Rowed}
 use Rattle.cl_preparation.specs.MethodsAbove.{ArePut}
 use Rattle.cl_preparation.specs.Relatives.{bare}

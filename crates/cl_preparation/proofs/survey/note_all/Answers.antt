@@ -1,5 +1,4 @@
 use Rattle.std.proofs.Common.{◌≡◌, ◌∙◌, length, arith}
-use Rattle.std.proofs.lemmas.Result.{IfOk-at_ok}
 use Rattle.cl_preparation.proofs.Unmixed.{rows_more, rows_noted}
 use Rattle.cl_preparation.proofs.survey.note_all.Goals as goal
 

@@ -18,7 +18,7 @@ returns-clause-superinterfaces g c =
     IfOk-weaker c.rows_at.result _ _ (λ v is.
     subst (λ (x : Lined). map (λ r. kin_at x r.now.value) v.items ≡ superinterfaces (kin_of (lined_at x place))) c.self.view_is
     (over_told (λ r. r.now.value) l place ps v.items c.rows.ensures.kept.order are
-    (is  ∙ ap (λ (rs : List Rowed). rows_at rs c.args.places.now) c.rows.ensures.rows))) c.rows_at.ensures
+    (is ∙ ap (λ (rs : List Rowed). rows_at rs c.args.places.now) c.rows.ensures.rows))) c.rows_at.ensures
 
 pub returns-clause-rows : goal.returns-clause-rows
 returns-clause-rows g c =
@@ -29,4 +29,4 @@ returns-clause-rows g c =
     IfOk-weaker c.rows_at.result _ _ (λ v is.
     subst (λ (x : Lined). AllByRecursion (λ r. IsRowIn (rows_in x) r.now.value) v.items) c.self.view_is
     (over_rows (λ r. r.now.value) l place ps v.items c.rows.ensures.kept.order are
-    (is  ∙ ap (λ (rs : List Rowed). rows_at rs c.args.places.now) c.rows.ensures.rows))) c.rows_at.ensures
+    (is ∙ ap (λ (rs : List Rowed). rows_at rs c.args.places.now) c.rows.ensures.rows))) c.rows_at.ensures

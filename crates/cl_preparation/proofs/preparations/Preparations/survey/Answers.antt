@@ -1,8 +1,7 @@
-use Rattle.std.proofs.Common.{◌≡◌, ◌≤◌, length, subst, sym}
+use Rattle.std.proofs.Common.{subst}
 use Rattle.std.specs.Prelude.{IfSome}
-use Rattle.cl_hierarchy.specs.ClassesAt.{lined_at}
 use Rattle.cl_hierarchy.specs.Lineages.{Lined, rows_in}
-use Rattle.cl_preparation.specs.Surveys.{IsSurvey, Surveys}
+use Rattle.cl_preparation.specs.Surveys.{IsSurvey}
 use Rattle.cl_preparation.proofs.Surveyed.{survey_lent}
 use Rattle.cl_preparation.proofs.preparations.Preparations.survey.Goals as goal
 

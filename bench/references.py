@@ -11,6 +11,10 @@
   repeated      800 classes of app over one another and over 800 of boot, each with one method; the last is linked
   halves        the same, each with a method that no other has
   crowned       halves, the first class of which names an interface with a method that none of them has
+  paired        the same as halves, each method in one class of either half
+  against       800 classes of app over one whose method a superinterface of boot has too: each inherits it
+  offered       500 abstract classes of app under a superinterface of boot with 500 methods, none of which a class declares
+  crossed       500 classes of app over one another, each of which names a superinterface of boot and declares its method
   fans          1,000 classes of app over one another, the first of which names 1,000 interfaces of boot, all with the same method
   plain         5,000 classes over one another that declare nothing; the last is linked
   topped        the same, the first of which names a superinterface
@@ -28,7 +32,7 @@
   blocks        2,000 classes over one another, in blocks of 63 loaders, each with the same method; the last is linked
 
 and of overriding, plain, topped, distinct, many, inherited, naming, interfaces, beside, comb, fringe, twos, combs, blocks, repeated,
-halves, crowned and fans one more with so many classes that it has about a megabyte, as plain_mb.
+halves, crowned, paired, against, offered, crossed and fans one more with so many classes that it has about a megabyte, as plain_mb.
 
 Each is a bundle: classlink bundle < FILE.
 """

@@ -14,6 +14,8 @@
   paired        the same as halves, each method in one class of either half
   against       800 classes of app over one whose method a superinterface of boot has too: each inherits it
   inherits      1,000 classes of app over one that has 1,000 methods which a superinterface of boot has too: each inherits them
+  renamed       the same, each of which names the superinterface too
+  hiding        the same as inherits, each with a private method like one of these
   offered       500 abstract classes of app under a superinterface of boot with 500 methods, none of which a class declares
   crossed       500 classes of app over one another, each of which names a superinterface of boot and declares its method
   fans          1,000 classes of app over one another, the first of which names 1,000 interfaces of boot, all with the same method
@@ -33,7 +35,7 @@
   blocks        2,000 classes over one another, in blocks of 63 loaders, each with the same method; the last is linked
 
 and of overriding, plain, topped, distinct, many, inherited, naming, interfaces, beside, comb, fringe, twos, combs, blocks, repeated,
-halves, crowned, paired, against, inherits, offered, crossed and fans one more with so many classes that it has about a megabyte, as plain_mb.
+halves, crowned, paired, against, inherits, renamed, hiding, offered, crossed and fans one more with so many classes that it has about a megabyte, as plain_mb.
 
 Each is a bundle: classlink bundle < FILE.
 """
@@ -159,12 +161,24 @@ def against(path, count=800):
     bundle(path, TWO, [TOP, over, first, *below], [f"link app {names[-1]}\n"])
 
 
-def inherits(path, count=1000):
+def under_one(path, count, methods=lambda place: (), **how):
     """As many methods as classes, each of a superinterface of boot and of the first class of app: the others inherit them."""
     over = with_lines(section("boot", "p/I", flags="0601"), [f"method 0401 z{n} (Lp/T;)V" for n in range(count)])
     first = with_lines(section("app", "p/C", interfaces=["p/I"]), [f"method 0001 z{n} (Lp/T;)V" for n in range(count)])
     names = [f"p/C{n}" for n in range(count)]
-    bundle(path, TWO, [TOP, over, first, *over_one_another(names, top="p/C")], [f"link app {names[-1]}\n"])
+    bundle(path, TWO, [TOP, over, first, *over_one_another(names, methods, top="p/C", **how)], [f"link app {names[-1]}\n"])
+
+
+def inherits(path, count=1000):
+    under_one(path, count)
+
+
+def renamed(path, count=1000):
+    under_one(path, count, interfaces=["p/I"])
+
+
+def hiding(path, count=1000):
+    under_one(path, count, lambda _: ["method 0002 z0 (Lp/T;)V"])
 
 
 def offered(path, count=500):
@@ -311,12 +325,12 @@ def blocks(path, count=2000):
 def main(folder):
     os.makedirs(folder, exist_ok=True)
     references = methods, settled, constraints, refused
-    chains = overriding, repeated, halves, crowned, paired, against, inherits, offered, crossed, fans, plain, topped, wide, distinct, many, inherited, naming, interfaces, beside, comb, fringe, twos, combs, blocks
+    chains = overriding, repeated, halves, crowned, paired, against, inherits, renamed, hiding, offered, crossed, fans, plain, topped, wide, distinct, many, inherited, naming, interfaces, beside, comb, fringe, twos, combs, blocks
     for make in *references, ladder, links, *chains:
         make(f"{folder}/{make.__name__}")
     counts = {overriding: 15000, plain: 22000, topped: 22000, distinct: 15000, many: 1000, inherited: 14000, naming: 17000}
     for make, count in {**counts, interfaces: 14000, beside: 7000, comb: 6500, fringe: 6500, twos: 11000, combs: 5000, blocks: 14000, repeated: 7500, halves: 7000,
-        crowned: 7000, paired: 7000, against: 12000, inherits: 7000, offered: 10000, crossed: 11000, fans: 6700}.items():
+        crowned: 7000, paired: 7000, against: 12000, inherits: 7000, renamed: 7000, hiding: 7000, offered: 10000, crossed: 11000, fans: 6700}.items():
         make(f"{folder}/{make.__name__}_mb", count)
 
 

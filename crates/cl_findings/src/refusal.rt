@@ -23,7 +23,7 @@ pub fn bring_lineages<T: Told>(equalities: &Equalities<T>)
             let _ = d.class();
             let _ = c.class();
         }
-        Origin::Preparation { class } => {
+        Origin::Preparation { class, .. } => {
             let _ = class.class();
         }
     }

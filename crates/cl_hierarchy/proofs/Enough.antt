@@ -6,12 +6,12 @@ use Rattle.cl_model.specs.States.{AllMet, Met, Need, State}
 use Rattle.cl_hierarchy.specs.Imposed.{AreEnough}
 
 -- a list stands for itself
-pub enough_itself : (ns : List Need) → AreEnough ns ns
-enough_itself ns = record {
+pub enough_itself : (known ns : List Need) → AreEnough known ns ns
+enough_itself known ns = record {
   no_more = omega arith;
   among = λ n h. h;
-  met = λ s h. h;
-  next = λ s n h. h;
+  met = λ s k h. h;
+  next = λ s n k h. h;
 }
 
 -- ---- what holds of all holds of some of them

@@ -9,6 +9,7 @@ pub mod Enough
 pub mod Frames
 pub mod Inside
 pub mod Ladders
+pub mod MetAbove
 pub mod Namings
 pub mod OversAt
 pub mod PartLineages

@@ -1,17 +1,15 @@
 -- The superinterfaces that are kept are those of the classes below that name none.
-use Rattle.std.proofs.Common.{◌≡◌, ◌∙◌, ◌≤◌, ℕ, Option, Some, None, List, [], ◌∷◌, ap, length, refl, subst, sym}
+use Rattle.std.proofs.Common.{◌≡◌, ◌∙◌, ◌≤◌, ℕ, Option, Some, None, List, [], ◌∷◌, ap, length, refl, sym}
 use Rattle.std.specs.Prelude.{IfSome, slice_get}
 use Rattle.cl_model.specs.declared.class.Class.{Class}
 use Rattle.cl_model.specs.Lineages.{Kin, first, superinterfaces, upward}
 use Rattle.cl_hierarchy.specs.ClassesAt.{lined_at, own_at}
 use Rattle.cl_hierarchy.specs.Lineages.{IsInOrder, Lined, kin_of, rows_in}
-use Rattle.cl_hierarchy.specs.OversAt.{IsOverAt}
 use Rattle.cl_hierarchy.specs.PlaceTours.{AreSuperinterfacesAt}
 use Rattle.cl_hierarchy.specs.Rows.{Rowed}
 use Rattle.cl_hierarchy.specs.Supers.{AreAllSupers, row_at}
 use Rattle.cl_hierarchy.specs.Tours.{first_row}
-use Rattle.cl_hierarchy.specs.Trees.{SupersBefore, forest, in_front, kin_named, kin_under, kins, superclass_in}
-use Rattle.cl_hierarchy.specs.declared.lineages.OverAt.{OverAt}
+use Rattle.cl_hierarchy.specs.Trees.{SupersBefore, forest, in_front, kin_under, kins, superclass_in}
 use Rattle.cl_hierarchy.specs.declared.supers.Supers.{Supers}
 use Rattle.cl_hierarchy.proofs.ClassesAt.{at_kin, at_lineage}
 use Rattle.cl_hierarchy.proofs.Inside.{whole}

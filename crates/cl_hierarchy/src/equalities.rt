@@ -2,7 +2,7 @@
 
 ghost use Rattle.std.specs.Prelude.{◌≡◌};
 ghost use Rattle.cl_model.specs.Preparation.{constraints_of};
-ghost use Rattle.cl_hierarchy.specs.Imposed.{AreEnough, AreOf, AreOfReference, OfPreparation, OfReference, equal_between, equal_need, needs_of, sprung};
+ghost use Rattle.cl_hierarchy.specs.Imposed.{AreEnough, AreOf, AreOfReference, OfPreparation, OfReference, equal_between, equal_need, known_by, needs_of, sprung};
 ghost use Rattle.cl_hierarchy.specs.Lineages.{kin_of};
 
 use crate::class_at::ClassAt;
@@ -26,6 +26,16 @@ pub fn equality(name: Name, one: LoaderId, other: LoaderId) -> Equality
     }
 }
 
+/// What is given where the equalities of a preparation are imposed.
+#[derive(Clone, Copy, Debug)]
+pub enum Given {
+    /// Nothing: they stand for all that the preparation imposes.
+    Nothing,
+    /// That the superclass is prepared, if there is one: they stand for what that one's preparation did not impose (JVMS SE 8,
+    /// 5.4.2).
+    Superclass,
+}
+
 /// What a list of equalities was made from.
 pub enum Origin<T: Told> {
     /// The member reference of `d` at this index of its constant pool, which names the class `c` (JVMS SE 8, 5.4.3).
@@ -37,6 +47,7 @@ pub enum Origin<T: Told> {
     /// The preparation of a class (JVMS SE 8, 5.4.2).
     Preparation {
         class: ClassAt<T>,
+        given: Given,
     },
 }
 
@@ -48,7 +59,7 @@ impl<T: Told> Drop for Origin<T> {
                 c: _,
                 index: _,
             } => {}
-            Origin::Preparation { class: _ } => {}
+            Origin::Preparation { class: _, given: _ } => {}
         }
     }
 }
@@ -96,12 +107,13 @@ impl<T: Told> Equalities<T> {
         Equalities { needs, origin }
     }
 
-    /// Those of the preparation of a class, or some that stand for all of them.
-    pub fn of_preparation(class: ClassAt<T>, needs: Vec<Equality>) -> Equalities<T>
-        requires { AreEnough (constraints_of (kin_of class)) (needs_of needs.items) }
-        ensures { result ≡ record { needs = needs.items; origin = OfPreparation class } }
+    /// Those of the preparation of a class, or some that stand for all of them where this is given.
+    pub fn of_preparation(class: ClassAt<T>, given: Given, needs: Vec<Equality>) -> Equalities<T>
+        requires { AreEnough (known_by given (kin_of class)) (constraints_of (kin_of class))
+            (needs_of needs.items) }
+        ensures { result ≡ record { needs = needs.items; origin = OfPreparation class given } }
     {
-        let origin = Origin::Preparation { class };
+        let origin = Origin::Preparation { class, given };
         Equalities { needs, origin }
     }
 

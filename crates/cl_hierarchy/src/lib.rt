@@ -33,7 +33,7 @@ pub use access::{class_accessible, same_package};
 pub use class_at::ClassAt;
 pub use climb::Climb;
 pub use draft::{Draft, DraftFault, DraftRefused, Unreadable};
-pub use equalities::{Equalities, Origin, equality};
+pub use equalities::{Equalities, Given, Origin, equality};
 pub use fit::misfit;
 pub use frame::Frame;
 pub use lineage::Lineage;

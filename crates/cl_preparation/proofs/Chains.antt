@@ -11,6 +11,7 @@ use Rattle.cl_model.specs.Preparation.{equals_of, inherited_from, overridden, ta
 use Rattle.cl_model.specs.States.{Need}
 use Rattle.cl_hierarchy.specs.ClassesAt.{lined_at, own_at}
 use Rattle.cl_hierarchy.specs.Lineages.{IsInOrder, Lined, kin_of, rows_in}
+use Rattle.cl_hierarchy.specs.declared.equalities.Given.{Given}
 use Rattle.cl_hierarchy.specs.Rows.{Rowed}
 use Rattle.cl_hierarchy.specs.Trees.{forest, in_front, kin_named, kin_under, kins, superclass_in}
 use Rattle.cl_hierarchy.proofs.Ancestry.{row_kin}
@@ -25,7 +26,7 @@ use Rattle.cl_preparation.specs.declared.survey.Survey.{Survey}
 use Rattle.indexmap.specs.IndexMap.{IndexMap, get}
 use Rattle.cl_preparation.specs.Declarers.{same_texts}
 use Rattle.cl_preparation.specs.Chains.{IsChained, IsKept, IsUnder}
-use Rattle.cl_preparation.specs.Fewer.{by_methods, by_superinterfaces, fewer_constraints_of, fewer_declared, fewer_inherited, loaders, loaders_over, others_after}
+use Rattle.cl_preparation.specs.Fewer.{AreFew, by_methods, by_superinterfaces, fewer_declared, fewer_inherited, loaders, loaders_over, others_after}
 use Rattle.cl_preparation.specs.Inherited.{equals_from, other_than}
 use Rattle.cl_preparation.specs.MethodsAbove.{AreTold, Tells}
 use Rattle.cl_preparation.specs.Relatives.{bare}
@@ -34,13 +35,14 @@ use Rattle.cl_preparation.specs.Walks.{opens}
 use Rattle.cl_preparation.proofs.MethodsAbove.{tree_told}
 use Rattle.cl_preparation.proofs.Nearby.{inherited_is, own_known}
 use Rattle.cl_preparation.proofs.Reached.{overridden_is_walked}
+use Rattle.cl_preparation.proofs.Standing.{few_given}
 use Rattle.cl_preparation.proofs.Surveyed.{alone_none, none_inherited}
 use Rattle.cl_preparation.proofs.Thinned.{open_enough, others_both}
 
 -- ---- what is kept
 
 -- the first of a class alone is that
-front_is : (o : Option Kin) (s : Kin) → Some s ≡ first (upward (in_front o Bare)) → o ≡ Some s
+pub front_is : (o : Option Kin) (s : Kin) → Some s ≡ first (upward (in_front o Bare)) → o ≡ Some s
 front_is None s e = absurd cc
 front_is (Some k) s e = sym e
 
@@ -188,11 +190,14 @@ module _ {S : Type 0} (l : Lined) (own : Rowed) (survey : Survey) (above : Index
 
   -- ---- all
 
-  pub chained_all : (ms xs : List Member) (none one all : List Need) → ms ≡ (bare own).file.methods → xs ≡ ms → none ≡ [] → one ≡ none ++ flat_map (fewer_declared (kin_of l)) xs → all ≡ one ++ by_superinterfaces fewer_inherited (kin_of l)
-      → all ≡ fewer_constraints_of (kin_of l)
-  chained_all ms xs none one all made same empty first second =
+  pub chained_first : (ms xs : List Member) (none one : List Need) → ms ≡ (bare own).file.methods → xs ≡ ms → none ≡ [] → one ≡ none ++ flat_map (fewer_declared (kin_of l)) xs → one ≡ flat_map (fewer_declared (kin_of l)) (kin_of l).file.methods
+  chained_first ms xs none one made same empty first =
       let c : Kin = kin_of l in
-      let one_is : one ≡ flat_map (fewer_declared c) c.file.methods =
-      first ∙ ap (λ (ns : List Need). ns ++ flat_map (fewer_declared c) xs) empty ∙ ap (flat_map (fewer_declared c)) (same ∙ made ∙ ap (λ (r : Rowed). (bare r).file.methods) is.own_is) in
-      second ∙ ap (λ (ns : List Need). ns ++ by_superinterfaces fewer_inherited c) one_is
-      ∙ sym (ap (λ (b : Bool). flat_map (fewer_declared c) c.file.methods ++ (if b then [] else by_superinterfaces fewer_inherited c)) is.class)
+      first ∙ ap (λ (ns : List Need). ns ++ flat_map (fewer_declared c) xs) empty ∙ ap (flat_map (fewer_declared c)) (same ∙ made ∙ ap (λ (r : Rowed). (bare r).file.methods) is.own_is)
+
+  pub chained_all : (given : Given) (one all : List Need) → one ≡ flat_map (fewer_declared (kin_of l)) (kin_of l).file.methods → all ≡ one ++ by_superinterfaces fewer_inherited (kin_of l) → AreFew given (kin_of l) all
+  chained_all given one all first second =
+      let c : Kin = kin_of l in
+      few_given given c all
+      (second ∙ ap (λ (ns : List Need). ns ++ by_superinterfaces fewer_inherited c) first
+      ∙ sym (ap (λ (b : Bool). flat_map (fewer_declared c) c.file.methods ++ (if b then [] else by_superinterfaces fewer_inherited c)) is.class))

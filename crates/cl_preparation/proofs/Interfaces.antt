@@ -18,7 +18,7 @@ none_named [] e = refl
 none_named (n ∷ ns) e = absurd cc
 
 -- a class that names none has none right above it
-none_over : (r : Rowed) → names_interfaces r ≡ false → interfaces_in r ≡ []
+pub none_over : (r : Rowed) → names_interfaces r ≡ false → interfaces_in r ≡ []
 none_over r off =
     ap (λ (ns : List Name). accepted_of (superinterfaces_of (record (file_of r.file) { interfaces = ns })) (interface_places r)) (none_named (file_of r.file).interfaces off)
 

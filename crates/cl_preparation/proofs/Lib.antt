@@ -1,6 +1,7 @@
 pub mod Beyond
 pub mod Chains
 pub mod Constraints
+pub mod Coverage
 pub mod Declared
 pub mod Filters
 pub mod Inheriting

@@ -9,7 +9,6 @@ use Rattle.cl_model.specs.declared.class.Class.{Class}
 use Rattle.cl_model.specs.Lineages.{Kin, is_offered, method_of, superclasses, superinterfaces}
 use Rattle.cl_model.specs.Preparation.{class_names, constraints_of, equals_of, inherited_from, overridden, takes_part, with_inherited}
 use Rattle.cl_model.specs.States.{Equal, Need}
-use Rattle.cl_hierarchy.specs.Imposed.{AreEnough}
 use Rattle.cl_hierarchy.specs.Rows.{Rowed}
 use Rattle.cl_hierarchy.specs.Lineages.{IsRowIn, Lined, is_of_other, kin_at, kin_of, others_of, row_of, rows_in}
 use Rattle.cl_hierarchy.specs.Trees.{kin_under, kins}
@@ -318,11 +317,7 @@ none_of_none (n ∷ ns) h = absurd (omega arith)
 -- where nothing is imposed, there are no few
 pub none_fewer : (k : Kin) → [] ≡ constraints_of k → [] ≡ fewer_constraints_of k
 none_fewer k none =
-    none_of_none (fewer_constraints_of k) (subst (λ (ns : List Need). length (fewer_constraints_of k) ≤ length ns) (sym none) (fewer_stand k).no_more)
-
--- what the few are, and that they stand for all
-pub enough_given : (k : Kin) (few : List Need) → few ≡ fewer_constraints_of k → AreEnough (constraints_of k) few
-enough_given k few e = subst (λ (ns : List Need). AreEnough (constraints_of k) ns) (sym e) (fewer_stand k)
+    none_of_none (fewer_constraints_of k) (subst (λ (ns : List Need). length (fewer_constraints_of k) ≤ length ns) (sym none) (fewer_stand [] k).no_more)
 
 -- the loaders of superclasses are listed, then those of superinterfaces
 pub near_listed : (own : Rowed) (away over xs : List Rowed) (key : Key) (loader : ℕ) (empty up all : List ℕ) → xs ≡ over → empty ≡ [] → loader ≡ own.class.loader

@@ -1,5 +1,5 @@
 -- The few equalities of a preparation stand for all of them.
-use Rattle.std.proofs.Common.{◌≡◌, inl, inr, ◌≤◌, ℕ, Bool, true, false, ◌&&◌, ◌||◌, not, if◌then◌else◌, List, [], ◌∷◌, ◌++◌, map, filter, length, refl, ap, sym, subst, ◌∙◌, arith, length-append}
+use Rattle.std.proofs.Common.{◌≡◌, inl, inr, ◌≤◌, ℕ, Bool, true, false, ◌&&◌, ◌||◌, not, if◌then◌else◌, List, [], ◌∷◌, ◌++◌, map, filter, length, refl, ap, sym, subst, ◌∙◌, arith, append-nil, length-append}
 use Rattle.std.specs.Prelude.{◌==◌, flat_map, nat_le}
 use Rattle.std.specs.List.{Contains, list_any}
 use Rattle.std.proofs.lemmas.Bool.{eqb-true}
@@ -14,8 +14,10 @@ use Rattle.cl_model.proofs.Aims.{next_left, next_right}
 use Rattle.cl_model.proofs.Closed.{met_both}
 use Rattle.cl_model.proofs.Progress.{met_split, next_split}
 use Rattle.cl_model.proofs.Runs.{joined_self}
-use Rattle.cl_hierarchy.specs.Imposed.{AreEnough}
-use Rattle.cl_preparation.specs.Fewer.{by_superinterfaces, fewer_constraints_of, fewer_declared, fewer_inherited, is_between, is_new, loaders, loaders_over, others_after}
+use Rattle.cl_hierarchy.specs.Imposed.{AreEnough, constraints_above, known_by}
+use Rattle.cl_hierarchy.specs.declared.equalities.Given.{Given}
+use Rattle.cl_hierarchy.specs.declared.equalities.Given.TheVariants as givens
+use Rattle.cl_preparation.specs.Fewer.{AreFew, IsCovered, by_superinterfaces, fewer_constraints_of, fewer_declared, fewer_inherited, is_between, is_new, loaders, loaders_over, others_after}
 
 -- ---- few that stand for all where this holds
 
@@ -199,16 +201,59 @@ second_stand c false =
 
 -- ---- the whole list
 
--- the few stand for all
-pub fewer_stand : (c : Kin) → AreEnough (constraints_of c) (fewer_constraints_of c)
-fewer_stand c =
-    let st : Stand Any (constraints_of c) (fewer_constraints_of c) =
+every_stand : (c : Kin) → Stand Any (constraints_of c) (fewer_constraints_of c)
+every_stand c =
     stand_next (flat_map (for_declared c) c.file.methods) (if is_interface c.file then [] else by_superinterfaces for_inherited c)
     (flat_map (fewer_declared c) c.file.methods) (if is_interface c.file then [] else by_superinterfaces fewer_inherited c)
-    (stand_each (for_declared c) (fewer_declared c) c.file.methods (declared_stand c)) (second_stand c (is_interface c.file)) in
+    (stand_each (for_declared c) (fewer_declared c) c.file.methods (declared_stand c)) (second_stand c (is_interface c.file))
+
+-- the few stand for all, whatever is known
+pub fewer_stand : (known : List Need) (c : Kin) → AreEnough known (constraints_of c) (fewer_constraints_of c)
+fewer_stand known c =
+    let st : Stand Any (constraints_of c) (fewer_constraints_of c) = every_stand c in
     record {
       no_more = st.no_more;
       among = st.among;
-      met = λ s h. st.met s tt h;
-      next = λ s n h. st.next s n tt h;
+      met = λ s k h. st.met s tt h;
+      next = λ s n k h. st.next s n tt h;
+    }
+
+pub few_given : (given : Given) (c : Kin) (needs : List Need) → needs ≡ fewer_constraints_of c → AreFew given c needs
+few_given given c needs e = record {
+  enough = subst (λ (ns : List Need). AreEnough (known_by given c) (constraints_of c) ns) (sym e) (fewer_stand (known_by given c) c);
+  exactly = λ none. e;
+}
+
+-- ---- what the superclass imposes
+
+second_met : (c : Kin) (b : Bool) (s : State) → AllMet s (by_superinterfaces fewer_inherited c) → AllMet s (if b then [] else by_superinterfaces for_inherited c)
+second_met c true s h = tt
+second_met c false s h = (second_stand c false).met s tt h
+
+-- those of the methods that the class declares stand for all, where the others are met
+first_stand : (c : Kin) → IsCovered c → Stand (λ s. AllMet s (constraints_above c)) (constraints_of c) (flat_map (fewer_declared c) c.file.methods ++ [])
+first_stand c covered =
+    let known : State → Type 0 = λ s. AllMet s (constraints_above c) in
+    let all : List Need = flat_map (for_declared c) c.file.methods in
+    let few : List Need = flat_map (fewer_declared c) c.file.methods in
+    let rest : List Need = if is_interface c.file then [] else by_superinterfaces for_inherited c in
+    stand_both known all rest few [] (stand_where Any known all few (λ s k. tt) (stand_each (for_declared c) (fewer_declared c) c.file.methods (declared_stand c)))
+    (stand_left (λ s. known s × AllMet s few) rest (λ s k. second_met c (is_interface c.file) s (covered s k.0)))
+
+not_nothing : givens.Superclass ≡ givens.Nothing → ⊥
+not_nothing e = cc
+
+pub few_covered : (c : Kin) (needs : List Need) → IsCovered c → needs ≡ flat_map (fewer_declared c) c.file.methods → AreFew givens.Superclass c needs
+few_covered c needs covered e =
+    let known : State → Type 0 = λ s. AllMet s (constraints_above c) in
+    let few : List Need = flat_map (fewer_declared c) c.file.methods in
+    let st : Stand known (constraints_of c) needs = subst (λ (ns : List Need). Stand known (constraints_of c) ns) (append-nil few ∙ sym e) (first_stand c covered) in
+    record {
+      enough = record {
+        no_more = st.no_more;
+        among = st.among;
+        met = λ s k h. st.met s k h;
+        next = λ s n k h. st.next s n k h;
+      };
+      exactly = λ none. absurd (not_nothing none);
     }

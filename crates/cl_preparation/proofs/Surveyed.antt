@@ -176,25 +176,45 @@ module _ (l : Lined) (rows : List Rowed) (part : IsPart rows l) where
   abbrev AreAlike : Type 0
   AreAlike = (j : Rowed) (key : Key) → Contains rows j → is_offered key (bare j) ≡ true → (is_some (method_of (kin_of l) key) ≡ true) ⊎ IsUnmixed rows key
 
-  one_alike : AreAlike → (r : Rowed) (ks : List Kin) → Contains rows r → IsNamed rows r.class → (m : Member) → fewer_inherited (kin_of l) (kin_under ks r) m ≡ []
-  one_alike are r ks at over m = inherited_is (kin_of l) (kin_under ks r) m ∙ by (takes_part m.key (kin_under ks r)) (is_some (method_of (kin_of l) m.key)) refl refl
+  -- what a method of a superinterface imposes that is of the loader of all that declare it
+  one_unmixed : (r : Rowed) (ks : List Kin) → Contains rows r → IsNamed rows r.class → (m : Member) → IsUnmixed rows m.key → fewer_inherited (kin_of l) (kin_under ks r) m ≡ []
+  one_unmixed r ks at over m unmixed = inherited_is (kin_of l) (kin_under ks r) m ∙ by (takes_part m.key (kin_under ks r)) (is_some (method_of (kin_of l) m.key)) refl
     where
       found : Option ℕ
       found = option_map (λ (k : Kin). k.class.loader) (inherited_from (kin_of l) m.key)
 
-      none : IsUnmixed rows m.key → is_offered m.key (bare r) ≡ true → other_than r.class.loader found ≡ None
-      none unmixed on =
+      none : is_offered m.key (bare r) ≡ true → other_than r.class.loader found ≡ None
+      none on =
           first_of r.class.loader (is_offered m.key) (superclasses (kin_of l))
           (rows_up (λ k. is_offered m.key k ≡ true → k.class.loader ≡ r.class.loader) (λ x xs x_in. λ there. sym (unmixed over.row r x over.within at x_in over.names on there)))
 
-      at_last : takes_part m.key (kin_under ks r) ≡ true → is_some (method_of (kin_of l) m.key) ≡ false → (is_some (method_of (kin_of l) m.key) ≡ true) ⊎ IsUnmixed rows m.key → equals_from m.key r.class.loader (other_than r.class.loader found) ≡ []
-      at_last tp off (inl on) = absurd (let no : true ≡ false = sym on ∙ off in cc)
-      at_last tp off (inr unmixed) = ap (equals_from m.key r.class.loader) (none unmixed (and_parts (not (is_special m.key.name)) (is_offered m.key (bare r)) tp).1)
+      by : (part has : Bool) → takes_part m.key (kin_under ks r) ≡ part → (if part && not has then equals_from m.key r.class.loader (other_than r.class.loader found) else []) ≡ []
+      by false has tp = refl
+      by true true tp = refl
+      by true false tp = ap (equals_from m.key r.class.loader) (none (and_parts (not (is_special m.key.name)) (is_offered m.key (bare r)) tp).1)
 
-      by : (part has : Bool) → takes_part m.key (kin_under ks r) ≡ part → is_some (method_of (kin_of l) m.key) ≡ has → (if part && not has then equals_from m.key r.class.loader (other_than r.class.loader found) else []) ≡ []
-      by false has tp e = refl
-      by true true tp e = refl
-      by true false tp e = at_last tp e (are r m.key at (and_parts (not (is_special m.key.name)) (is_offered m.key (bare r)) tp).1)
+  -- and so of all superinterfaces
+  pub over_unmixed : AllByRecursion (λ (j : Kin). (m : Member) → IsUnmixed rows m.key → fewer_inherited (kin_of l) j m ≡ []) (superinterfaces (kin_of l))
+  over_unmixed = named_over (λ j. (m : Member) → IsUnmixed rows m.key → fewer_inherited (kin_of l) j m ≡ []) (λ r ks at over. λ m unmixed. one_unmixed r ks at over m unmixed)
+
+  one_alike : AreAlike → (r : Rowed) (ks : List Kin) → Contains rows r → IsNamed rows r.class → (m : Member) → fewer_inherited (kin_of l) (kin_under ks r) m ≡ []
+  one_alike are r ks at over m = by (takes_part m.key (kin_under ks r)) (is_some (method_of (kin_of l) m.key)) refl refl
+    where
+      given : List Need
+      given = equals_from m.key r.class.loader (other_than r.class.loader (option_map (λ (k : Kin). k.class.loader) (inherited_from (kin_of l) m.key)))
+
+      is : (part has : Bool) → takes_part m.key (kin_under ks r) ≡ part → is_some (method_of (kin_of l) m.key) ≡ has → fewer_inherited (kin_of l) (kin_under ks r) m ≡ (if part && not has then given else [])
+      is part has tp e =
+          inherited_is (kin_of l) (kin_under ks r) m ∙ ap (λ (b : Bool). if b && not (is_some (method_of (kin_of l) m.key)) then given else []) tp ∙ ap (λ (b : Bool). if part && not b then given else []) e
+
+      at_last : is_some (method_of (kin_of l) m.key) ≡ false → (is_some (method_of (kin_of l) m.key) ≡ true) ⊎ IsUnmixed rows m.key → fewer_inherited (kin_of l) (kin_under ks r) m ≡ []
+      at_last off (inl on) = absurd (let no : true ≡ false = sym on ∙ off in cc)
+      at_last off (inr unmixed) = one_unmixed r ks at over m unmixed
+
+      by : (part has : Bool) → takes_part m.key (kin_under ks r) ≡ part → is_some (method_of (kin_of l) m.key) ≡ has → fewer_inherited (kin_of l) (kin_under ks r) m ≡ []
+      by false has tp e = is false has tp e
+      by true true tp e = is true true tp e
+      by true false tp e = at_last e (are r m.key at (and_parts (not (is_special m.key.name)) (is_offered m.key (bare r)) tp).1)
 
   methods_alike : AreAlike → (r : Rowed) (ks : List Kin) → Contains rows r → IsNamed rows r.class → (ms : List Member) → flat_map (fewer_inherited (kin_of l) (kin_under ks r)) ms ≡ []
   methods_alike are r ks at over [] = refl

@@ -1,10 +1,13 @@
 -- The few equalities of a preparation that stand for all of them (JVMS SE 8, 5.3.4, 5.4.2).
-use Rattle.std.specs.Prelude.{◌==◌, ℕ, Bool, true, ◌&&◌, not, if◌then◌else◌, List, [], ◌∷◌, ◌++◌, map, filter, flat_map}
+use Rattle.std.specs.Prelude.{◌≡◌, ◌==◌, ℕ, Bool, true, ◌&&◌, not, if◌then◌else◌, List, [], ◌∷◌, ◌++◌, map, filter, flat_map}
 use Rattle.std.specs.List.{list_any}
 use Rattle.cl_classfile.specs.Files.{Key, Member, is_interface}
 use Rattle.cl_model.specs.Lineages.{Kin, superinterfaces}
-use Rattle.cl_model.specs.Preparation.{equals_of, for_inherited, overridden, takes_part}
-use Rattle.cl_model.specs.States.{Entry, Equal, Need}
+use Rattle.cl_model.specs.Preparation.{constraints_of, equals_of, for_inherited, overridden, takes_part}
+use Rattle.cl_model.specs.States.{AllMet, Entry, Equal, Need, State}
+use Rattle.cl_hierarchy.specs.Imposed.{AreEnough, constraints_above, known_by}
+use Rattle.cl_hierarchy.specs.declared.equalities.Given.{Given}
+use Rattle.cl_hierarchy.specs.declared.equalities.Given.TheVariants as givens
 
 -- a loader is another than the own one, and none of these (5.3.4)
 abbrev pub is_new : ℕ → List ℕ → ℕ → Bool
@@ -63,3 +66,13 @@ abbrev pub fewer_constraints_of : Kin → List Need
 fewer_constraints_of c =
     flat_map (fewer_declared c) c.file.methods
     ++ (if is_interface c.file then [] else by_superinterfaces fewer_inherited c)
+
+-- what is imposed with what a class inherits is met where all is that its superclass imposes (5.4.2)
+abbrev pub IsCovered : Kin → Type 0
+IsCovered c =
+    (s : State) → AllMet s (constraints_above c) → AllMet s (by_superinterfaces fewer_inherited c)
+
+-- these stand for all, where this is given; where nothing is, they are just the few (5.4.2)
+pub record AreFew (given : Given) (c : Kin) (needs : List Need) : Type 0 where
+  pub enough : AreEnough (known_by given c) (constraints_of c) needs
+  pub exactly : given ≡ givens.Nothing → needs ≡ fewer_constraints_of c

@@ -4,11 +4,13 @@
 ghost use Rattle.std.specs.Prelude.{◌≡◌, ◌++◌, [], flat_map, true, IfOk, OnOk};
 ghost use Rattle.cl_hierarchy.specs.Imposed.{needs_of};
 ghost use Rattle.cl_hierarchy.specs.Lineages.{kin_of};
+ghost use Rattle.cl_hierarchy.specs.declared.equalities.Given.TheVariants as givens;
 ghost use Rattle.cl_model.specs.Preparation.{takes_part};
-ghost use Rattle.cl_preparation.specs.Fewer.{by_superinterfaces, fewer_constraints_of, fewer_declared, fewer_inherited, loaders_over, others_after};
+ghost use Rattle.cl_preparation.specs.Fewer.{AreFew, IsCovered, by_superinterfaces, fewer_declared, fewer_inherited, loaders_over, others_after};
 ghost use Rattle.cl_preparation.specs.Relatives.{bare};
 
 use crate::away::Away;
+use crate::covered::is_covered;
 use crate::described::{Described, push_equals};
 use crate::inherited::other_than;
 use crate::key::MethodKey;
@@ -18,7 +20,7 @@ use crate::methods_above::{MethodsAbove, nearest_above, wide_above};
 use crate::plain::push_with;
 use crate::relative::Relative;
 use crate::survey::Survey;
-use cl_hierarchy::{ClassRow, Lineage};
+use cl_hierarchy::{ClassRow, Given, Lineage};
 use cl_model::{Equality, Told};
 use std::alloc::{AllocError, Global};
 use std::marker::Model;
@@ -197,13 +199,29 @@ impl<'a, 'b, 'c, 'd, T: Told> Chained<'a, 'b, 'c, 'd, T> {
         self.push_rows(alloc, needs, self.over.as_slice())
     }
 
-    /// The few equalities of the class.
-    pub fn needs(&self, alloc: Global) -> Result<Vec<Equality>, AllocError>
-        ensures { IfOk result (λ v. needs_of v.items ≡ fewer_constraints_of (kin_of self.now)) }
+    /// Whether nothing is to be imposed with what is inherited, where this is given: superinterfaces add nothing, or the
+    /// superclass has imposed it.
+    fn is_covered(&self, alloc: Global, given: Given) -> Result<bool, AllocError>
+        ensures { IfOk result (λ b. b ≡ true → (given ≡ givens.Superclass)
+            × IsCovered (kin_of self.now)) }
+    {
+        match given {
+            Given::Nothing => Ok(false),
+            Given::Superclass if self.over.is_empty() => Ok(false),
+            Given::Superclass => is_covered(alloc, self.survey, self.lineage),
+        }
+    }
+
+    /// The few equalities of the class, where this is given.
+    pub fn needs(&self, alloc: Global, given: Given) -> Result<Vec<Equality>, AllocError>
+        ensures { IfOk result (λ v. AreFew given (kin_of self.now) (needs_of v.items)) }
     {
         let mut needs = Vec::new(alloc);
         let methods = self.own.methods(alloc)?;
         self.push_each_declared(alloc, &mut needs, methods.as_slice())?;
+        if self.is_covered(alloc, given)? {
+            return Ok(needs);
+        }
         self.push_over(alloc, &mut needs)?;
         Ok(needs)
     }

@@ -6,9 +6,10 @@ ghost use Rattle.cl_classfile.specs.Files.{file_of, is_interface};
 ghost use Rattle.cl_model.specs.Lineages.{superclasses};
 ghost use Rattle.cl_model.specs.Preparation.{constraints_of};
 ghost use Rattle.cl_hierarchy.specs.ClassesAt.{lined_at};
-ghost use Rattle.cl_hierarchy.specs.Imposed.{AreEnough, OfPreparation, needs_of};
+ghost use Rattle.cl_hierarchy.specs.Imposed.{AreEnough, OfPreparation, known_by, needs_of};
+ghost use Rattle.cl_hierarchy.specs.declared.equalities.Given.TheVariants as givens;
 ghost use Rattle.cl_hierarchy.specs.Lineages.{IsRowIn, Lined, kin_at, kin_of, others_of, rows_in};
-ghost use Rattle.cl_preparation.specs.Fewer.{by_superinterfaces, fewer_constraints_of, fewer_inherited, loaders, others_after};
+ghost use Rattle.cl_preparation.specs.Fewer.{AreFew, by_superinterfaces, fewer_constraints_of, fewer_inherited, loaders, others_after};
 ghost use Rattle.cl_preparation.specs.MethodsAbove.{AreTold};
 ghost use Rattle.cl_preparation.specs.Nearby.{AddAll, AreNear, near_declared, near_loaders};
 ghost use Rattle.cl_preparation.specs.Relatives.{bare};
@@ -29,7 +30,7 @@ use crate::relative::Relative;
 use crate::relatives::{all_of, has_none_over, imposes_nothing, takes_no_part};
 use crate::silent::is_silent;
 use crate::survey::Survey;
-use cl_hierarchy::{ClassAt, ClassRow, Equalities, Lineage, Lineages};
+use cl_hierarchy::{ClassAt, ClassRow, Equalities, Given, Lineage, Lineages};
 use cl_model::{Equality, Told};
 use std::alloc::{AllocError, Global};
 use std::sync::Arc;
@@ -290,7 +291,7 @@ fn unsurveyed_needs<T: Told>(
     near_needs(alloc, whole, place, lineage)
 }
 
-/// The same by a survey, and what the superclasses declare.
+/// Those that are few where this is given, by a survey, and what the superclasses declare.
 fn chained_needs<T: Told>(
     alloc: Global,
     whole: &mut Preparations<T>,
@@ -298,6 +299,7 @@ fn chained_needs<T: Told>(
     lineage: &Lineage<T>,
     survey: &Survey,
     above: &MethodsAbove,
+    given: Given,
 ) -> Result<Vec<Equality>, AllocError>
     requires lineage { lineage.now ≡ lined_at whole.old place }
     requires within { place ≤ length whole.old.above }
@@ -305,8 +307,8 @@ fn chained_needs<T: Told>(
     requires survey { Surveys lineage.now survey.now }
     requires above { AreTold above.now (superclasses (kin_of lineage.now)) }
     ensures same { whole.new ≡ whole.old }
-    ensures needs { IfOk result (λ v. needs_of v.items ≡ fewer_constraints_of
-        (kin_of lineage.now)) }
+    ensures needs { IfOk result (λ v. AreFew given (kin_of lineage.now)
+        (needs_of v.items)) }
 {
     let own = Relative::of(alloc, lineage.own())?;
     if is_silent(alloc, survey, &own)? {
@@ -322,7 +324,7 @@ fn chained_needs<T: Told>(
         above,
         over,
     };
-    let needs = chained.needs(alloc);
+    let needs = chained.needs(alloc, given);
     drop(chained);
     needs
 }
@@ -334,41 +336,43 @@ fn surveyed_needs<T: Told>(
     place: usize,
     lineage: &Lineage<T>,
     survey: &Survey,
+    given: Given,
 ) -> Result<Vec<Equality>, AllocError>
     requires lineage { lineage.now ≡ lined_at whole.old place }
     requires within { place ≤ length whole.old.above }
     requires class { is_interface (file_of lineage.now.own.file) ≡ false }
     requires survey { Surveys lineage.now survey.now }
     ensures same { whole.new ≡ whole.old }
-    ensures needs { IfOk result (λ v. needs_of v.items ≡ fewer_constraints_of
-        (kin_of lineage.now)) }
+    ensures needs { IfOk result (λ v. AreFew given (kin_of lineage.now)
+        (needs_of v.items)) }
 {
     let above = whole.take_above(alloc, place, lineage)?;
-    let needs = chained_needs(alloc, whole, place, lineage, survey, &above)?;
+    let needs = chained_needs(alloc, whole, place, lineage, survey, &above, given)?;
     whole.keep(alloc, place, lineage, above)?;
     Ok(needs)
 }
 
-/// The few equalities that stand for all that the preparation of the class at a place imposes, which is no interface.
+/// The equalities of the class at a place, which is no interface, that are few where this is given.
 fn class_needs<T: Told>(
     alloc: Global,
     whole: &mut Preparations<T>,
     place: usize,
     lineage: &Lineage<T>,
+    given: Given,
 ) -> Result<Vec<Equality>, AllocError>
     requires lineage { lineage.now ≡ lined_at whole.old place }
     requires within { place ≤ length whole.old.above }
     requires class { is_interface (file_of lineage.now.own.file) ≡ false }
     ensures same { whole.new ≡ whole.old }
-    ensures needs { IfOk result (λ v. needs_of v.items ≡ fewer_constraints_of
-        (kin_of lineage.now)) }
+    ensures needs { IfOk result (λ v. AreFew given (kin_of lineage.now)
+        (needs_of v.items)) }
 {
     // brings what the lineage keeps
     let _ = whole.lineage();
     match whole.take_survey() {
         None => unsurveyed_needs(alloc, whole, place, lineage),
         Some(survey) => {
-            let needs = surveyed_needs(alloc, whole, place, lineage, &survey);
+            let needs = surveyed_needs(alloc, whole, place, lineage, &survey, given);
             whole.put_survey(survey);
             needs
         }
@@ -418,18 +422,19 @@ fn needs_at<T: Told>(
     whole: &mut Preparations<T>,
     place: usize,
     class: &ClassAt<T>,
+    given: Given,
 ) -> Result<Vec<Equality>, AllocError>
     requires class { class.now ≡ lined_at whole.old place }
     requires within { place ≤ length whole.old.above }
     ensures same { whole.new ≡ whole.old }
-    ensures needs { IfOk result (λ v. needs_of v.items ≡ fewer_constraints_of (kin_of class.now)) }
+    ensures needs { IfOk result (λ v. AreFew given (kin_of class.now) (needs_of v.items)) }
 {
     whole.pass_superinterfaces(place);
     let own = Relative::of(alloc, class.own())?;
     if !own.is_interface() {
         return match whole.lineages().lineage_at(alloc, place)? {
             None => unreachable!(),
-            Some(lineage) => class_needs(alloc, whole, place, &lineage),
+            Some(lineage) => class_needs(alloc, whole, place, &lineage, given),
         };
     }
     if is_known_silent(alloc, whole, place, &own)? {
@@ -448,22 +453,26 @@ fn needs_at<T: Told>(
 
 /// The loading constraints that the preparation of the class at a place of a lineage imposes, in order, but for such as always
 /// stand where those before them do: those of a loader with itself, and those of a method of the class with a loader that a
-/// step before named for that method. Where the next of the few has to stand, it is the next of `constraints_of` that does not
-/// yet; and all of these stand where the few do. Only memory refuses it (JVMS SE 8, 5.3.4, 5.4.2).
+/// step before named for that method. Where it is given that the superclass is prepared, those with what the class inherits may be
+/// left out too, which that one's preparation imposed. Where the next of the few has to stand, it is the next of `constraints_of`
+/// that does not yet; and all of these stand where the few do. Only memory refuses it (JVMS SE 8, 5.3.4, 5.4.2).
 pub fn fewer_constraints_of<T: Told>(
     alloc: Global,
     whole: &mut Preparations<T>,
     place: usize,
+    given: Given,
 ) -> Result<Equalities<T>, AllocError>
     requires within { place ≤ length whole.old.above }
     ensures same { whole.new ≡ whole.old }
     ensures few { IfOk result (λ e. AreEnough
+        (known_by given (kin_of (lined_at whole.old place)))
         (constraints_of (kin_of (lined_at whole.old place))) (needs_of e.needs)) }
-    ensures exactly { IfOk result (λ e. needs_of e.needs
+    ensures exactly { IfOk result (λ e. given ≡ givens.Nothing → needs_of e.needs
         ≡ fewer_constraints_of (kin_of (lined_at whole.old place))) }
-    ensures origin { IfOk result (λ e. e.origin ≡ OfPreparation (lined_at whole.old place)) }
+    ensures origin { IfOk result (λ e. e.origin
+        ≡ OfPreparation (lined_at whole.old place) given) }
 {
     let class = ClassAt::of(whole.lineage(), place)?;
-    let needs = needs_at(alloc, whole, place, &class)?;
-    Ok(Equalities::of_preparation(class, needs))
+    let needs = needs_at(alloc, whole, place, &class, given)?;
+    Ok(Equalities::of_preparation(class, given, needs))
 }

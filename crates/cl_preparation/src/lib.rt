@@ -4,6 +4,7 @@
 
 mod away;
 mod chained;
+mod covered;
 mod declarers;
 mod described;
 mod fewer;

@@ -6,6 +6,7 @@ ghost use Rattle.cl_classfile.specs.Files.{is_interface};
 ghost use Rattle.cl_model.specs.Lineages.{superclasses, superinterfaces};
 ghost use Rattle.cl_model.specs.Preparation.{constraints_of, for_declared, for_inherited, takes_part};
 ghost use Rattle.cl_hierarchy.specs.Imposed.{OfPreparation, needs_of};
+ghost use Rattle.cl_hierarchy.specs.declared.equalities.Given.TheVariants as givens;
 ghost use Rattle.cl_hierarchy.specs.Lineages.{kin_at, kin_of};
 ghost use Rattle.cl_preparation.specs.Fewer.{by_superinterfaces};
 ghost use Rattle.cl_preparation.specs.Relatives.{bare};
@@ -16,7 +17,7 @@ use crate::key::MethodKey;
 use crate::method::Method;
 use crate::relative::{Relative, names_interfaces};
 use crate::walk::{push_above, push_taking};
-use cl_hierarchy::{ClassAt, ClassRow, Equalities, Lineage, Overs};
+use cl_hierarchy::{ClassAt, ClassRow, Equalities, Given, Lineage, Overs};
 use cl_model::{Equality, Told};
 use std::alloc::{AllocError, Global};
 use std::marker::Model;
@@ -289,8 +290,8 @@ pub fn constraints_of<T: Told>(
 ) -> Result<Equalities<T>, AllocError>
     ensures needs { IfOk result (λ e. needs_of e.needs
         ≡ constraints_of (kin_of lineage.now)) }
-    ensures origin { IfOk result (λ e. e.origin ≡ OfPreparation lineage.now) }
+    ensures origin { IfOk result (λ e. e.origin ≡ OfPreparation lineage.now givens.Nothing) }
 {
     let needs = needs_over(alloc, lineage)?;
-    Ok(Equalities::of_preparation(ClassAt::last(lineage)?, needs))
+    Ok(Equalities::of_preparation(ClassAt::last(lineage)?, Given::Nothing, needs))
 }

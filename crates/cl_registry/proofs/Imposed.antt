@@ -45,9 +45,9 @@ within_rows x l config h = subst (λ (c : Configured). AllByRecursion (IsWithin 
 
 -- the equalities of what stands in the tables name loaders that there are
 names_by : (told : Option Content) (x : Shown) (o : Sprung) (ns : List Need) → AreLineages told o → AreOf o ns → StandsFor x o → AllByRecursion (Names (λ l. l < length x.config.loaders)) ns
-names_by told x (OfPreparation l) ns is are stands =
+names_by told x (OfPreparation l given) ns is are stands =
     let P : ℕ → Type 0 = λ n. n < length x.config.loaders in
-    all_among (Names P) (constraints_of (kin_of l)) ns are.among (constraints P (kin_of l) (lined P l (within_rows x l stands.config is.within)))
+    all_among (Names P) (constraints_of (kin_of l)) ns are.among (constraints P (kin_of l) (lined P l (within_rows x l stands.0.config is.within)))
 names_by told x (OfReference d c index) ns is are stands =
     let P : ℕ → Type 0 = λ n. n < length x.config.loaders in
     subst (AllByRecursion (Names P)) (sym are.needs_are)

@@ -2,18 +2,17 @@
 
 ghost use Rattle.std.specs.Prelude.{◌≡◌, ◌<◌, ◌++◌, ◌∷◌, [], Contains, IfErr, IfSome, OnErr, OnOk, length, slice_get};
 ghost use Rattle.std.specs.Vec.{VecUnchanged};
-ghost use Rattle.std.specs.List.{AllByRecursion};
 ghost use Rattle.cl_classfile.specs.Files.{file_of};
 ghost use Rattle.cl_constraints.specs.Books.{Adds};
 ghost use Rattle.cl_findings.specs.Findings.{Decides};
 ghost use Rattle.cl_hierarchy.specs.Imposed.{equal_need, needs_of, sprung};
 ghost use Rattle.cl_hierarchy.specs.Lineages.{Lined};
-ghost use Rattle.cl_model.specs.Classes.{supers};
+ghost use Rattle.cl_model.specs.Classes.{superclass_of, supers};
 ghost use Rattle.cl_model.specs.declared.event.Event.TheVariants as events;
 ghost use Rattle.cl_model.specs.declared.need.Need.TheVariants as needs;
 ghost use Rattle.cl_model.specs.States.{IsRecorded, Met, Refused};
 ghost use Rattle.cl_model.specs.Texts.{EqualityNames};
-ghost use Rattle.cl_registry.specs.Imposing.{IsPreparedAbove, IsPreparedBy, IsReached, IsReady, IsStanding, IsUnmetIn, Marks, MayConstrainAs, MayImpose, MayMark, MayPrepareAs, StandsFor, with_constrain, with_prepare};
+ghost use Rattle.cl_registry.specs.Imposing.{ArePreparedAbove, HoldsFor, IsPreparedAbove, IsPreparedBy, IsReached, IsReady, IsStanding, IsUnmetIn, Marks, MayConstrainAs, MayImpose, MayMark, MayPrepareAs, StandsFor, with_constrain, with_prepare};
 ghost use Rattle.cl_registry.specs.Parts.{AddsEvent, HasRoom};
 ghost use Rattle.cl_registry.specs.declared.registry.RegistryFault.TheVariants.{Memory};
 ghost use Rattle.cl_registry.specs.Refusals.{AddRefusedFor, BlamesIn, ImposeSays, MarkRefusedFor, fault_of};
@@ -26,7 +25,7 @@ use crate::tables::has;
 use cl_config::Config;
 use cl_constraints::{BookFault, ConstraintBook, GroupedBook, Refusal};
 use cl_findings::bring_lineages;
-use cl_hierarchy::{ClassAt, ClassRow, Equalities, Lineage, Origin, class_accessible};
+use cl_hierarchy::{ClassAt, ClassRow, Equalities, Given, Lineage, Origin, class_accessible};
 use cl_model::{Class, Equality, Event, Need, Told};
 use cl_names::{Name, Seed};
 use indexmap::IndexSet;
@@ -188,7 +187,7 @@ impl<T: Told> Registry<T> {
         // brings what the registry keeps
         let _ = &self.config;
         bring_lineages(list);
-        let Origin::Preparation { class } = list.origin() else {
+        let Origin::Preparation { class, given: _ } = list.origin() else {
             return Err(RegistryFault::Stray);
         };
         if !self.is_ready(class, list.needs()) {
@@ -230,7 +229,33 @@ impl<T: Told> Registry<T> {
                 }
                 self.reaches(d, c)
             }
-            Origin::Preparation { class } => self.has_class(class.config(), class.class()),
+            Origin::Preparation { class, given } => self.has_given(class, *given),
+        }
+    }
+
+    /// Whether the class of a preparation stands in the tables, and what is given for its list holds.
+    fn has_given(&self, class: &ClassAt<T>, given: Given) -> bool
+        ensures stands { Decides result (IsStanding self.now class.now
+            × HoldsFor self.now class.now given) }
+        ensures kept { IsKept T.told self.now }
+    {
+        if !self.has_class(class.config(), class.class()) {
+            return false;
+        }
+        match given {
+            Given::Nothing => true,
+            Given::Superclass => self.superclass_prepared(class.own()),
+        }
+    }
+
+    /// Whether the superclass of a class, if it has one, is prepared, as its loader has recorded it.
+    fn superclass_prepared(&self, row: &ClassRow<T>) -> bool
+        ensures { Decides result (ArePreparedAbove self.now row.now.class
+            (superclass_of (file_of row.now.file))) }
+    {
+        match row.file().super_name() {
+            None => true,
+            Some(_) => self.super_prepared(row, 0),
         }
     }
 
@@ -278,7 +303,7 @@ impl<T: Told> Registry<T> {
 
     /// Whether the direct supertypes of a class are prepared, as its loader has recorded them.
     fn supers_prepared(&self, row: &ClassRow<T>) -> bool
-        ensures { Decides result (AllByRecursion (IsPreparedAbove self.now row.now.class)
+        ensures { Decides result (ArePreparedAbove self.now row.now.class
             (supers (file_of row.now.file))) }
     {
         for at in 0..row.places().len() {

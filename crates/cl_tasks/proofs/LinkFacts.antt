@@ -10,6 +10,7 @@ use Rattle.cl_model.specs.States.{AllMet, recorded, IsRecorded, Met}
 use Rattle.cl_model.specs.Tables.{IsConsistent}
 use Rattle.cl_model.proofs.Bind.{some_same}
 use Rattle.cl_hierarchy.specs.Imposed.{Listed, OfPreparation, Sprung, needs_of, equal_need}
+use Rattle.cl_hierarchy.specs.declared.equalities.Given.{Given}
 use Rattle.cl_hierarchy.specs.Lineages.{Lined, rows_in}
 use Rattle.cl_hierarchy.specs.Rows.{Rowed}
 use Rattle.cl_hierarchy.proofs.Ends.{at_length}
@@ -134,13 +135,13 @@ pub list_imposed : {A : Type 0} (x : Shown) (k : Chain A) (e : Listed) (place : 
 list_imposed x k e place h =
     stand_met x (take place (needs_of e.needs)) (so_second x (traced_facts e) (imposed_facts e place) (so_second x (chain_facts k) (traced_facts e ++ imposed_facts e place) h))
 
-pub list_traced : {A : Type 0} (x : Shown) (k : Chain A) (e : Listed) (place : ℕ) (at : Lined) → e.origin ≡ OfPreparation at → AreSo x (list_facts k e place) → IsTraced x at.own.class at
-list_traced x k e place at is h =
-    let here : AreSo x (sprung_facts (OfPreparation at)) = subst (λ (from : Sprung). AreSo x (sprung_facts from)) is (so_first x (traced_facts e) (imposed_facts e place) (so_second x (chain_facts k) (traced_facts e ++ imposed_facts e place) h)) in
+pub list_traced : {A : Type 0} (x : Shown) (k : Chain A) (e : Listed) (place : ℕ) (at : Lined) (given : Given) → e.origin ≡ OfPreparation at given → AreSo x (list_facts k e place) → IsTraced x at.own.class at
+list_traced x k e place at given is h =
+    let here : AreSo x (sprung_facts (OfPreparation at given)) = subst (λ (from : Sprung). AreSo x (sprung_facts from)) is (so_first x (traced_facts e) (imposed_facts e place) (so_second x (chain_facts k) (traced_facts e ++ imposed_facts e place) h)) in
     here.0
 
-pub list_of : {A : Type 0} (x : Shown) (k : Chain A) (e : Listed) (place : ℕ) (at : Lined) → e.origin ≡ OfPreparation at → AreSo x (chain_facts k) → IsTraced x at.own.class at → AllMet (state_of x) (take place (needs_of e.needs))
+pub list_of : {A : Type 0} (x : Shown) (k : Chain A) (e : Listed) (place : ℕ) (at : Lined) (given : Given) → e.origin ≡ OfPreparation at given → AreSo x (chain_facts k) → IsTraced x at.own.class at → AllMet (state_of x) (take place (needs_of e.needs))
     → AreSo x (list_facts k e place)
-list_of x k e place at is chain traced met =
+list_of x k e place at given is chain traced met =
     so_both x (chain_facts k) (traced_facts e ++ imposed_facts e place) chain
     (so_both x (traced_facts e) (imposed_facts e place) (subst (λ (from : Sprung). AreSo x (sprung_facts from)) (sym is) (traced, tt)) (met_stand x (take place (needs_of e.needs)) met))

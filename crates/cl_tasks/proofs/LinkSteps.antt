@@ -110,7 +110,7 @@ imposed_told k e i x None at lt place h one = absurd (past e.needs i at lt)
     past : (ys : List Equality) (j : ℕ) → slice_get ys j ≡ None → j < length ys → ⊥
     past ys j f g = let s = some_at ys j g in none-some s.0 (sym f ∙ s.1)
 imposed_told k e i x (Some y) at lt place h one =
-    list_of x k e (i + 1) place.at place.prepares (list_chain x k e i h) (list_traced x k e i place.at place.prepares h) (met_more x e i y at (list_imposed x k e i h) one)
+    list_of x k e (i + 1) place.at place.given place.prepares (list_chain x k e i h) (list_traced x k e i place.at place.given place.prepares h) (met_more x e i y at (list_imposed x k e i h) one)
 
 next_less : (a m p : ℕ) → p < m → a + ((m - (p + 1)) + 1) + 1 ≤ a + ((m - p) + 1)
 next_less a m p lt = omega (arith, lt)

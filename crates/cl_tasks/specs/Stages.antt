@@ -180,7 +180,7 @@ behind c = length (rows_in c.whole) - c.place
 -- the lineages that a list was made from (5.4.2, 5.4.3)
 abbrev pub sprung_facts : Sprung → List Fact
 sprung_facts (OfReference d c index) = HasLineage d ∷ HasLineage c ∷ []
-sprung_facts (OfPreparation l) = HasLineage l ∷ []
+sprung_facts (OfPreparation l given) = HasLineage l ∷ []
 
 -- the same of a list
 abbrev pub traced_facts : Listed → List Fact

@@ -5,6 +5,7 @@ ghost use Rattle.std.specs.Option.{option_map};
 ghost use Rattle.std.specs.Prelude.{◌≡◌, ◌≤◌, Some, IfOk, length, slice_get, true};
 ghost use Rattle.cl_hierarchy.specs.ClassesAt.{lined_at};
 ghost use Rattle.cl_hierarchy.specs.Imposed.{OfPreparation};
+ghost use Rattle.cl_hierarchy.specs.declared.equalities.Given.TheVariants as givens;
 ghost use Rattle.cl_hierarchy.specs.Lineages.{rows_in};
 ghost use Rattle.cl_model.specs.Views.{need_of};
 ghost use Rattle.cl_model.specs.declared.answer.Answer.TheVariants as answers;
@@ -22,7 +23,7 @@ use crate::stage::{Chain, Goal, Link, Next, Stage};
 use crate::turn::Turn;
 use cl_config::Config;
 use cl_findings::{Finding, bring_lineages};
-use cl_hierarchy::{ClassRow, Equalities, Lineage};
+use cl_hierarchy::{ClassRow, Equalities, Given, Lineage};
 use cl_model::{Class, Need, Told};
 use cl_preparation::{Preparations, fewer_constraints_of};
 use std::alloc::{AllocError, Global};
@@ -266,7 +267,7 @@ fn trace<T: Told>(alloc: Global, config: &Arc<Config>, chain: Chain<T>) -> Next<
     }
 }
 
-/// Loading constraints of the class at a place that stand for all of them, to be shared.
+/// Loading constraints of the class at a place that stand for all of them, since its superclass is prepared, to be shared.
 fn list_at<T: Told>(
     alloc: Global,
     whole: &mut Preparations<T>,
@@ -275,9 +276,9 @@ fn list_at<T: Told>(
     requires { place ≤ length whole.old.above }
     ensures same { whole.new ≡ whole.old }
     ensures origin { IfOk result (λ e. e.value.origin ≡ OfPreparation
-        (lined_at whole.old place)) }
+        (lined_at whole.old place) givens.Superclass) }
 {
-    let list = fewer_constraints_of(alloc, whole, place)?;
+    let list = fewer_constraints_of(alloc, whole, place, Given::Superclass)?;
     Arc::new(alloc, list).map_err(|_| AllocError)
 }
 
@@ -289,7 +290,8 @@ fn take_listed<T: Told>(
     list: Arc<Equalities<T>>,
 ) -> Next<T>
     requires chain { IsChain config.now.value chain }
-    requires list { list.value.origin ≡ OfPreparation (lined_at chain.whole chain.place) }
+    requires list { list.value.origin ≡ OfPreparation (lined_at chain.whole chain.place)
+        givens.Superclass }
     ensures leads { LeadsBy T.told config.now.value chain.goal.q chain.goal.request
         (listed_room chain) (LineageTold chain (lined_at chain.whole chain.place)) result }
     ensures plain { IsPlain result.turn }

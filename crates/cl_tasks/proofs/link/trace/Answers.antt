@@ -1,6 +1,7 @@
 use Rattle.std.proofs.Common.{◌∙◌, ap, subst, sym}
 use Rattle.cl_hierarchy.specs.ClassesAt.{lined_at}
 use Rattle.cl_hierarchy.specs.Imposed.{OfPreparation}
+use Rattle.cl_hierarchy.specs.declared.equalities.Given.TheVariants as givens
 use Rattle.cl_hierarchy.specs.Lineages.{IsInOrder, Lined}
 use Rattle.cl_tasks.proofs.LinkFront.{at_leads, surveyed_chain, surveyed_leads, within_above}
 use Rattle.cl_tasks.proofs.link.trace.Goals as goal
@@ -13,7 +14,7 @@ take_listed-requires g c =
     let same = c.in-Ok.ensures.same in
     record {
       chain = surveyed_chain c.args.config.now.value c.args.chain c.list_at.new.whole same c.requires.chain;
-      list = c.in-Ok.ensures.origin ∙ ap (λ (l : Lined). OfPreparation (lined_at l c.args.chain.place)) (sym same);
+      list = c.in-Ok.ensures.origin ∙ ap (λ (l : Lined). OfPreparation (lined_at l c.args.chain.place) givens.Superclass) (sym same);
     }
 
 pub returns-in-Ok-clause-leads : goal.returns-in-Ok-clause-leads

@@ -13,6 +13,4 @@ returns-else-not-has_class-clause-stands g c =
     (both_stand c.args.self.now c.in-Reference.d c.in-Reference.c c.reaches.result (c.if-not-has_class.ensures.stands c.in-Reference.d (sym (c.deref.ensures ∙ c.config.ensures.config)) (sym c.class.ensures.class)) c.reaches.ensures.reached)
 
 pub returns-in-Preparation-clause-stands : goal.returns-in-Preparation-clause-stands
-returns-in-Preparation-clause-stands g c =
-    rw c.in-Preparation.is
-    (c.has_class-in-Preparation.ensures.stands c.in-Preparation.class (sym (c.deref-in-Preparation.ensures ∙ c.config-in-Preparation.ensures.config)) (sym c.class-in-Preparation.ensures.class))
+returns-in-Preparation-clause-stands g c = rw c.in-Preparation.is c.has_given.ensures.stands

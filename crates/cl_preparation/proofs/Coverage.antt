@@ -1,0 +1,201 @@
+-- What a class inherits is imposed where its superclass is prepared, if that one has all its superinterfaces.
+use Rattle.std.proofs.Common.{◌≡◌, ◌∙◌, ◌⊎◌, ◌&&◌, ◌++◌, inl, inr, Bool, true, false, not, if◌then◌else◌, Option, Some, None, List, [], ◌∷◌, filter, append-nil, refl, ap, sym, subst}
+use Rattle.std.specs.Prelude.{Contains, find, flat_map, is_some}
+use Rattle.std.specs.List.{AllByRecursion}
+use Rattle.std.specs.Option.{option_map_or}
+use Rattle.std.proofs.lemmas.Bool.{and_parts}
+use Rattle.std.proofs.lemmas.List.Elements.{All-contains, All-contains_itself, All-from_recursion, recursion_from_All}
+use Rattle.cl_classfile.specs.Files.{Key, Member, file_of, is_interface, member, same_key}
+use Rattle.cl_model.specs.declared.class.Class.{Class}
+use Rattle.cl_model.specs.Lineages.{Bare, Forest, Kin, alone, first, if_declared, is_offered, is_virtual, method_of, once, preorder, superclasses, superinterfaces, upward}
+use Rattle.cl_model.specs.Preparation.{constraints_of, equals_of, equals_with, for_declared, for_inherited, inherited_from, is_special, overridden, takes_part, with_inherited}
+use Rattle.cl_model.specs.States.{AllMet, Need, State}
+use Rattle.cl_model.proofs.Closed.{met_both}
+use Rattle.cl_model.proofs.Keys.{keys_are_told}
+use Rattle.cl_model.proofs.Progress.{met_split}
+use Rattle.cl_hierarchy.specs.Lineages.{Lined, kin_at, kin_of}
+use Rattle.cl_hierarchy.specs.Rows.{Rowed}
+use Rattle.cl_hierarchy.specs.Trees.{forest, in_front, kin_named, kins}
+use Rattle.cl_hierarchy.proofs.Ways.{up_class}
+use Rattle.cl_preparation.specs.Fewer.{IsCovered, fewer_inherited, is_between}
+use Rattle.cl_preparation.specs.Relatives.{bare, names_interfaces}
+use Rattle.cl_preparation.specs.Surveys.{IsPart, IsUnmixed}
+use Rattle.cl_preparation.proofs.Chains.{front_is}
+use Rattle.cl_preparation.proofs.Interfaces.{none_over}
+use Rattle.cl_preparation.proofs.Surveyed.{over_unmixed}
+
+-- ---- lists of which all are met
+
+met_filter : (s : State) (p : Need → Bool) (ns : List Need) → AllMet s ns → AllMet s (filter p ns)
+met_filter s p [] h = tt
+met_filter s p (n ∷ ns) h = by (p n) (met_filter s p ns h.1)
+  where
+    by : (b : Bool) → AllMet s (filter p ns) → AllMet s (if b then n ∷ filter p ns else filter p ns)
+    by true more = (h.0, more)
+    by false more = more
+
+-- of a list by items, that of one item that passes a test
+met_at : {A : Type 0} (s : State) (f : A → List Need) (p : A → Bool) (xs : List A) → AllMet s (flat_map f (filter p xs)) → AllByRecursion (λ (x : A). p x ≡ true → AllMet s (f x)) xs
+met_at s f p [] h = tt
+met_at {A} s f p (x ∷ xs) h = by (p x) refl (λ rest. met_at s f p xs rest) h
+  where
+    by : (b : Bool) → p x ≡ b → (AllMet s (flat_map f (filter p xs)) → AllByRecursion (λ (y : A). p y ≡ true → AllMet s (f y)) xs) → AllMet s (flat_map f (if b then x ∷ filter p xs else filter p xs))
+        → AllByRecursion (λ (y : A). p y ≡ true → AllMet s (f y)) (x ∷ xs)
+    by true e more h =
+        let both = met_split s (f x) (flat_map f (filter p xs)) h in
+        (λ on. both.0, more both.1)
+    by false e more h = (λ on. absurd (let no : false ≡ true = sym e ∙ on in cc), more h)
+
+-- the method that a class declares with a key is among its methods
+found_met : (s : State) (f : Member → List Need) (ms : List Member) (key : Key) (m : Member) → member ms key ≡ Some m → AllMet s (flat_map f ms) → AllMet s (f m) × (m.key ≡ key)
+found_met s f [] key m e h = absurd cc
+found_met s f (x ∷ xs) key m e h = by (same_key x.key key) refl (λ rest. found_met s f xs key m rest both.1) e
+  where
+    both : AllMet s (f x) × AllMet s (flat_map f xs)
+    both = met_split s (f x) (flat_map f xs) h
+
+    by : (b : Bool) → same_key x.key key ≡ b → (member xs key ≡ Some m → AllMet s (f m) × (m.key ≡ key)) → (if b then Some x else member xs key) ≡ Some m → AllMet s (f m) × (m.key ≡ key)
+    by true same more e =
+        let one : x ≡ m = cc in
+        subst (λ (y : Member). AllMet s (f y) × (y.key ≡ key)) one (both.0, (keys_are_told x.key key).0 same)
+    by false same more e = more e
+
+found_has : (P : Member → Type 0) (ms : List Member) (key : Key) (m : Member) → member ms key ≡ Some m → AllByRecursion P ms → P m × (m.key ≡ key)
+found_has P [] key m e h = absurd cc
+found_has P (x ∷ xs) key m e h = by (same_key x.key key) refl (λ rest. found_has P xs key m rest h.1) e
+  where
+    by : (b : Bool) → same_key x.key key ≡ b → (member xs key ≡ Some m → P m × (m.key ≡ key)) → (if b then Some x else member xs key) ≡ Some m → P m × (m.key ≡ key)
+    by true same more e =
+        let one : x ≡ m = cc in
+        subst (λ (y : Member). P y × (y.key ≡ key)) one (h.0, (keys_are_told x.key key).0 same)
+    by false same more e = more e
+
+-- ---- a class that names no superinterface
+
+-- it has those of its superclass
+over_same : (k s : Kin) → k.superclass ≡ alone s → k.interfaces ≡ Bare → superinterfaces k ≡ superinterfaces s
+over_same k s up none =
+    ap (λ (f : Forest). once (preorder f true ++ preorder k.superclass false)) none ∙ ap (λ (f : Forest). once (preorder f false)) up
+    ∙ ap (λ (ks : List Kin). once ks) (append-nil (preorder s.interfaces true ++ preorder s.superclass false))
+
+-- it inherits of its superclass what that one offers, and else what that one inherits
+inherits : (k s : Kin) (key : Key) → k.superclass ≡ alone s → inherited_from k key ≡ (if is_offered key s then Some s else inherited_from s key)
+inherits k s key up = ap (λ (f : Forest). find (is_offered key) (upward f)) up
+
+-- ---- each method of each of these superinterfaces
+
+module _ (U : Key → Type 0) (k s : Kin) (st : State) (up : k.superclass ≡ alone s) (fine : AllByRecursion (λ (m : Member). (takes_part m.key s ≡ true) ⊎ U m.key) s.file.methods)
+    (firsts : AllMet st (flat_map (for_declared s) s.file.methods)) where
+  abbrev over : Key → List Kin
+  over key = filter (takes_part key) (superinterfaces s)
+
+  abbrev above : Key → List Need
+  above key = if is_interface s.file then [] else equals_with key s.class.loader (overridden key s)
+
+  declared_met : (key : Key) → AllMet st (for_declared s (record { flags = 0; key = key })) → takes_part key s ≡ true → AllMet st (equals_with key s.class.loader (over key))
+  declared_met key h part =
+      let list : AllMet st (above key ++ equals_with key s.class.loader (over key)) = subst (λ (b : Bool). AllMet st (if b then above key ++ equals_with key s.class.loader (over key) else [])) part h in
+      (met_split st (above key) (equals_with key s.class.loader (over key)) list).1
+
+  -- the superclass offers the method
+  offered_met : (j : Kin) (key : Key) → Contains (superinterfaces s) j → takes_part key j ≡ true → is_offered key s ≡ true → AllMet st (equals_of key s.class.loader j.class.loader)
+  offered_met j key there part on = by (method_of s key) refl on
+    where
+      takes : takes_part key s ≡ true
+      takes =
+          let ordinary = (and_parts (not (is_special key.name)) (is_offered key j) part).0 in
+          rw ordinary (rw on refl)
+
+      by : (o : Option Member) → method_of s key ≡ o → if_declared o is_virtual ≡ true → AllMet st (equals_of key s.class.loader j.class.loader)
+      by None e on = absurd cc
+      by (Some m) e on =
+          let found = found_met st (for_declared s) s.file.methods key m e firsts in
+          let of_key : AllMet st (for_declared s (record { flags = 0; key = key })) = subst (λ (x : Key). AllMet st (for_declared s (record { flags = 0; key = x }))) found.1 found.0 in
+          let each = met_at st (λ (x : Kin). equals_of key s.class.loader x.class.loader) (takes_part key) (superinterfaces s) (declared_met key of_key takes) in
+          All-contains (λ (x : Kin). takes_part key x ≡ true → AllMet st (equals_of key s.class.loader x.class.loader)) (superinterfaces s) j
+          (All-from_recursion (λ (x : Kin). takes_part key x ≡ true → AllMet st (equals_of key s.class.loader x.class.loader)) (superinterfaces s) each) there part
+
+  -- it does not: it declares none, and inherits what the class inherits, or the method is of one loader
+  hidden_met : (j : Kin) (m : Member) → (U m.key → fewer_inherited k j m ≡ []) → is_offered m.key s ≡ false → takes_part m.key j ≡ true → AllMet st (for_inherited s j m) → inherited_from k m.key ≡ inherited_from s m.key
+      → AllMet st (with_inherited m.key j (inherited_from k m.key)) ⊎ (fewer_inherited k j m ≡ [])
+  hidden_met j m unmixed off part h same = by (method_of s m.key) refl
+    where
+      by : (o : Option Member) → method_of s m.key ≡ o → AllMet st (with_inherited m.key j (inherited_from k m.key)) ⊎ (fewer_inherited k j m ≡ [])
+      by None e =
+          let list : AllMet st (with_inherited m.key j (inherited_from s m.key)) =
+          subst (λ (o : Option Member). AllMet st (if true && not (is_some o) then with_inherited m.key j (inherited_from s m.key) else [])) e
+          (subst (λ (b : Bool). AllMet st (if b && not (is_some (method_of s m.key)) then with_inherited m.key j (inherited_from s m.key) else [])) part h) in
+          inl (subst (λ (o : Option Kin). AllMet st (with_inherited m.key j o)) (sym same) list)
+      by (Some x) e =
+          let found = found_has (λ (y : Member). (takes_part y.key s ≡ true) ⊎ U y.key) s.file.methods m.key x e fine in
+          elim (subst (λ (y : Key). (takes_part y s ≡ true) ⊎ U y) found.1 found.0) [
+            | inl takes ↦ absurd (let on = (and_parts (not (is_special m.key.name)) (is_offered m.key s) takes).1 in let no : false ≡ true = sym off ∙ on in cc)
+            | inr one ↦ inr (unmixed one)
+          ]
+
+  method_met : (j : Kin) (m : Member) → Contains (superinterfaces s) j → (U m.key → fewer_inherited k j m ≡ []) → AllMet st (for_inherited s j m) → AllMet st (fewer_inherited k j m)
+  method_met j m there unmixed h = by (takes_part m.key j) (is_some (method_of k m.key)) (is_offered m.key s) refl refl refl
+    where
+      all : List Need
+      all = with_inherited m.key j (inherited_from k m.key)
+
+      of : (part has : Bool) → takes_part m.key j ≡ part → is_some (method_of k m.key) ≡ has → fewer_inherited k j m ≡ filter is_between (if part && not has then all else [])
+      of part has pe he = rw pe (rw he refl)
+
+      by : (part has on : Bool) → takes_part m.key j ≡ part → is_some (method_of k m.key) ≡ has → is_offered m.key s ≡ on → AllMet st (fewer_inherited k j m)
+      by false has on pe he oe = subst (AllMet st) (sym (of false has pe he)) tt
+      by true true on pe he oe = subst (AllMet st) (sym (of true true pe he)) tt
+      by true false true pe he oe =
+          let same : inherited_from k m.key ≡ Some s = inherits k s m.key up ∙ ap (λ (b : Bool). if b then Some s else inherited_from s m.key) oe in
+          subst (AllMet st) (sym (of true false pe he))
+          (met_filter st is_between all (subst (λ (o : Option Kin). AllMet st (with_inherited m.key j o)) (sym same) (offered_met j m.key there pe oe)))
+      by true false false pe he oe =
+          let same : inherited_from k m.key ≡ inherited_from s m.key = inherits k s m.key up ∙ ap (λ (b : Bool). if b then Some s else inherited_from s m.key) oe in
+          elim (hidden_met j m unmixed oe pe h same) [
+            | inl met ↦ subst (AllMet st) (sym (of true false pe he)) (met_filter st is_between all met)
+            | inr none ↦ subst (AllMet st) (sym none) tt
+          ]
+
+  methods_met : (j : Kin) (ms : List Member) → Contains (superinterfaces s) j → ((m : Member) → U m.key → fewer_inherited k j m ≡ []) → AllMet st (flat_map (for_inherited s j) ms) → AllMet st (flat_map (fewer_inherited k j) ms)
+  methods_met j [] there unmixed h = tt
+  methods_met j (m ∷ ms) there unmixed h =
+      let both = met_split st (for_inherited s j m) (flat_map (for_inherited s j) ms) h in
+      met_both st (fewer_inherited k j m) (flat_map (fewer_inherited k j) ms) (method_met j m there (unmixed m) both.0) (methods_met j ms there unmixed both.1)
+
+  all_met : (js : List Kin) → AllByRecursion (Contains (superinterfaces s)) js → AllByRecursion (λ (j : Kin). (m : Member) → U m.key → fewer_inherited k j m ≡ []) js
+      → AllMet st (flat_map (λ (j : Kin). flat_map (for_inherited s j) j.file.methods) js) → AllMet st (flat_map (λ (j : Kin). flat_map (fewer_inherited k j) j.file.methods) js)
+  all_met [] there unmixed h = tt
+  all_met (j ∷ js) there unmixed h =
+      let both = met_split st (flat_map (for_inherited s j) j.file.methods) (flat_map (λ (x : Kin). flat_map (for_inherited s x) x.file.methods) js) h in
+      met_both st (flat_map (fewer_inherited k j) j.file.methods) (flat_map (λ (x : Kin). flat_map (fewer_inherited k x) x.file.methods) js)
+      (methods_met j j.file.methods there.0 unmixed.0 both.0) (all_met js there.1 unmixed.1 both.1)
+
+-- ---- the whole
+
+-- a class that names no superinterface, and whose superclass is no interface: each method that this one declares takes part in
+-- overriding, or nothing follows from one like it
+pub covered : (U : Key → Type 0) (k s : Kin) → k.superclass ≡ alone s → k.interfaces ≡ Bare → is_interface s.file ≡ false
+    → AllByRecursion (λ (m : Member). (takes_part m.key s ≡ true) ⊎ U m.key) s.file.methods
+    → AllByRecursion (λ (j : Kin). (m : Member) → U m.key → fewer_inherited k j m ≡ []) (superinterfaces k) → IsCovered k
+covered U k s up none class fine unmixed = λ st h.
+    let mine : AllMet st (constraints_of s) = subst (λ (f : Forest). AllMet st (option_map_or constraints_of (first (upward f)) [])) up h in
+    let over : List Kin = superinterfaces s in
+    let firsts : List Need = flat_map (for_declared s) s.file.methods in
+    let second : List Need = flat_map (λ (j : Kin). flat_map (for_inherited s j) j.file.methods) over in
+    let both = met_split st firsts (if is_interface s.file then [] else second) mine in
+    let seconds : AllMet st second = subst (λ (b : Bool). AllMet st (if b then [] else second)) class both.1 in
+    let same : superinterfaces k ≡ over = over_same k s up none in
+    let apart = subst (λ (ks : List Kin). AllByRecursion (λ (j : Kin). (m : Member) → U m.key → fewer_inherited k j m ≡ []) ks) same unmixed in
+    let met = all_met U k s st up fine both.0 over (recursion_from_All (Contains over) over (All-contains_itself over)) apart seconds in
+    subst (λ (ks : List Kin). AllMet st (flat_map (λ (j : Kin). flat_map (fewer_inherited k j) j.file.methods) ks)) (sym same) met
+
+-- and so the class of a lineage, as rows tell it
+pub covered_at : (l : Lined) (own up : Rowed) (rows : List Rowed) → IsPart rows l → (ms : List Member) → own ≡ l.own → names_interfaces own ≡ false → Some (kin_at l up) ≡ first (superclasses (kin_of l)) → is_interface (file_of up.file) ≡ false
+    → ms ≡ (file_of up.file).methods → AllByRecursion (λ (m : Member). (takes_part m.key (bare up) ≡ true) ⊎ IsUnmixed rows m.key) ms → IsCovered (kin_of l)
+covered_at l own up rows part ms same none above class made seen =
+    let known : List Kin = kins l.above in
+    let s : Kin = kin_at l up in
+    let front : kin_named known s.class ≡ Some s = front_is (kin_named known s.class) s (above ∙ ap (λ (cs : List Class). first (upward (forest known cs))) (up_class known l.own s above)) in
+    let one : (kin_of l).superclass ≡ alone s = ap (λ (cs : List Class). forest known cs) (up_class known l.own s above) ∙ ap (λ (o : Option Kin). in_front o Bare) front in
+    let over : (kin_of l).interfaces ≡ Bare = ap (λ (cs : List Class). forest known cs) (none_over l.own (ap names_interfaces (sym same) ∙ none)) in
+    covered (IsUnmixed rows) (kin_of l) s one over class (subst (λ (xs : List Member). AllByRecursion (λ (m : Member). (takes_part m.key (bare up) ≡ true) ⊎ IsUnmixed rows m.key) xs) made seen) (over_unmixed l rows part)

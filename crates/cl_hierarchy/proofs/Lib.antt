@@ -9,10 +9,12 @@ pub mod Enough
 pub mod Frames
 pub mod Inside
 pub mod Ladders
+pub mod Marking
 pub mod MetAbove
 pub mod Namings
 pub mod OversAt
 pub mod PartLineages
+pub mod Passing
 pub mod Paths
 pub mod PlaceTours
 pub mod Placed

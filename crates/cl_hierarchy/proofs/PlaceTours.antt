@@ -1,31 +1,33 @@
 -- A tour by places is the tour by the rows there, in the order of superinterfaces.
-use Rattle.std.proofs.Common.{◌≡◌, ◌∙◌, ◌<◌, ◌+◌, ◌⊎◌, inl, inr, ℕ, zero, suc, Bool, true, false, ◌||◌, if◌then◌else◌, arith, List, [], ◌∷◌, ◌++◌, Option, Some, None, Result, Ok, Err, append_assoc, append-nil, get_or, length, map, take, refl, sym, ap, subst}
+use Rattle.std.proofs.Common.{◌≡◌, ◌∙◌, ◌<◌, ◌≤◌, ◌+◌, ◌⊎◌, inl, inr, ℕ, zero, suc, Bool, true, false, ◌||◌, if◌then◌else◌, arith, List, [], ◌∷◌, ◌++◌, Option, Some, None, Result, Ok, Err, append_assoc, append-nil, get_or, length, map, take, refl, sym, ap, subst}
 use Rattle.std.specs.Prelude.{IfSome, OnOk, option_to_list, replicate, set, slice_get}
 use Rattle.std.specs.List.{AllByRecursion, cons_option}
 use Rattle.std.proofs.lemmas.List.Elements.{filter_map-append}
-use Rattle.std.proofs.lemmas.List.{map_push}
+use Rattle.std.proofs.lemmas.List.{map_push, take_more}
 use Rattle.std.proofs.lemmas.Option.{slice_get_within, same_Some}
 use Rattle.cl_model.specs.declared.class.Class.{Class}
 use Rattle.cl_model.specs.Classes.{is_among, same_class}
 use Rattle.cl_model.specs.Lineages.{Kin, alone, once}
 use Rattle.cl_model.proofs.Ancestors.{same_self}
 use Rattle.cl_model.proofs.Complete.{is_class}
+use Rattle.cl_hierarchy.specs.declared.place_tour.OverAt.{OverAt}
 use Rattle.cl_hierarchy.specs.declared.place_tour.Spot.{Spot}
 use Rattle.cl_hierarchy.specs.declared.supers.Supers.{Supers}
 use Rattle.cl_hierarchy.specs.declared.tour.Order.TheVariants as orders
 use Rattle.cl_hierarchy.specs.declared.tour.Task.{Task}
 use Rattle.cl_hierarchy.specs.declared.tour.Task.TheVariants as tasks
 use Rattle.cl_hierarchy.specs.Lineages.{IsRowIn}
-use Rattle.cl_hierarchy.specs.PlaceTours.{AreMarked, AreSuperinterfacesAt, IsOpened, IsPlaced, IsPushed, IsTold, IsTour, Placed, Steps, classes_at, mark_at, marks_at, rows_at, toured_at}
+use Rattle.cl_hierarchy.specs.PlaceTours.{AreKnown, AreMarked, AreSuperinterfacesAt, AreTold, IsOpened, IsPlaced, IsPushed, IsTold, IsTour, Moves, Passes, Placed, Steps, classes_at, mark_at, marks_at, rows_at, toured_at}
 use Rattle.cl_hierarchy.specs.Rows.{Rowed}
 use Rattle.cl_hierarchy.specs.Supers.{AreAllSupers, HasRow, IsRowAt, place_in, row_at}
-use Rattle.cl_hierarchy.specs.Tours.{Marked, Toured, first_row, interface_row, opened, over_from, step, steps_left, stops, telling, told_at, upwards_of}
+use Rattle.cl_hierarchy.specs.Tours.{Marked, Toured, first_row, interface_row, opened, over_from, passing, step, steps_left, stops, telling, telling_all, told_at, upwards_of}
 use Rattle.cl_hierarchy.specs.Trees.{SupersBefore, kin_named, kin_under, kins, superclass_in}
 use Rattle.cl_hierarchy.proofs.Ancestry.{keeps, named_first, same_back}
 use Rattle.cl_hierarchy.proofs.Climbs.{placed_row}
 use Rattle.cl_hierarchy.proofs.Ends.{all_pop, all_push}
 use Rattle.cl_hierarchy.proofs.Rungs.{place_of, take_with}
-use Rattle.cl_hierarchy.proofs.Stages.{IsStage, ended_by, first_stage, preserved_by, smaller_by}
+use Rattle.cl_hierarchy.proofs.Passing.{passed, passed_less, telling_all_left}
+use Rattle.cl_hierarchy.proofs.Stages.{IsStage, ended_by, first_stage, preserved_by, rows_before, smaller_by, steps_both, told_before}
 use Rattle.cl_hierarchy.proofs.SuperTables.{supers_at}
 use Rattle.cl_hierarchy.proofs.Tours.{superinterfaces_told}
 
@@ -332,6 +334,51 @@ left_now table old new p b h e told is_told is_left stack = λ rows left r order
       toured = toured_is rows more old new t.stack told (ap (λ (ss : List Spot). marks_at rows ss) stack);
     })
 
+-- ---- a class is passed
+
+telling_behind : (t : Toured) (xs : List Rowed) (r : Rowed) → telling_all t (xs ++ r ∷ []) ≡ telling true (telling_all t xs) r
+telling_behind t [] r = refl
+telling_behind t (x ∷ xs) r = telling_behind (telling true t x) xs r
+
+pub none_told : (table : List Supers) (old : Placed) → AreTold table old [] old
+none_told table old = λ rows left ordered are within placed. record { placed = placed; toured = refl }
+
+-- one place more
+pub told_more : (table : List Supers) (old mid new : Placed) (places : List ℕ) (p : ℕ) → AreTold table old places mid → IsTold table mid p true new → AreTold table old (places ++ p ∷ []) new
+told_more table old mid new places p first last = λ rows left ordered are within placed.
+    let parts = all_pop (HasRow rows) places p within in
+    let row : Rowed = parts.1.0 in
+    let so_far : Toured = telling_all (toured_at rows left old) (rows_at rows places) in
+    let one : IsTour rows so_far mid = first rows left ordered are parts.0 placed in
+    let same : so_far.left ≡ left = telling_all_left (toured_at rows left old) (rows_at rows places) in
+    let here : IsPlaced rows left mid = subst (λ (cs : List Class). IsPlaced rows cs mid) same one.placed in
+    let two_ : IsTour rows (telling true (toured_at rows left mid) row) new = last rows left row ordered are parts.1.1 here in
+    let is : toured_at rows left mid ≡ so_far = ap (λ (cs : List Class). toured_at rows cs mid) (sym same) ∙ one.toured in
+    let all : telling true (toured_at rows left mid) row ≡ telling_all (toured_at rows left old) (rows_at rows (places ++ p ∷ [])) =
+    ap (λ (x : Toured). telling true x row) is ∙ sym (telling_behind (toured_at rows left old) (rows_at rows places) row)
+    ∙ ap (λ (rs : List Rowed). telling_all (toured_at rows left old) rs) (sym (rows_push rows places p row parts.1.1)) in
+    subst (λ (x : Toured). IsTour rows x new) all two_
+
+pub told_next : (table : List Supers) (old mid new : Placed) (places : List ℕ) (i : ℕ) → i < length places → AreTold table old (take i places) mid → IsTold table mid (get_or places i 0) true new → AreTold table old (take (i + 1) places) new
+told_next table old mid new places i lt first last =
+    subst (λ (ps : List ℕ). AreTold table old ps new) (sym (take_more places i 0 lt)) (told_more table old mid new (take i places) (get_or places i 0) first last)
+
+pub took_all : (places : List ℕ) (i : ℕ) → length places ≤ i → take i places ≡ places
+took_all [] zero h = refl
+took_all [] (suc i) h = refl
+took_all (p ∷ places) zero h = absurd (omega (arith, h))
+took_all (p ∷ places) (suc i) h = ap (λ (ps : List ℕ). p ∷ ps) (took_all places i (omega (arith, h)))
+
+pub passes_by : (table : List Supers) (old first mid new : Placed) (p : ℕ) (wanted : Bool) (over : List ℕ) → IsTold table old p wanted first → AreTold table first over mid → Steps table mid p tasks.Leave new → Passes table old p wanted over new
+passes_by table old first mid new p wanted over one two_ three = λ rows left r ordered are within at placed.
+    let start : Toured = telling wanted (toured_at rows left old) r in
+    let a : IsTour rows start first = one rows left r ordered are at placed in
+    let b : IsTour rows (telling_all (toured_at rows start.left first) (rows_at rows over)) mid = two_ rows start.left ordered are within a.placed in
+    let told : Toured = telling_all start (rows_at rows over) in
+    let b_is : IsTour rows told mid = subst (λ (x : Toured). IsTour rows (telling_all x (rows_at rows over)) mid) a.toured b in
+    let c : IsTour rows (step orders.Superinterfaces rows (toured_at rows told.left mid) r tasks.Leave) new = three rows told.left r ordered are at b_is.placed in
+    subst (λ (x : Toured). IsTour rows (step orders.Superinterfaces rows x r tasks.Leave) new) b_is.toured c
+
 -- what goes well
 pub on_ok : {A E : Type 0} (P Q : Type 0) (r : Result A E) → (P → Q) → OnOk r P → OnOk r Q
 on_ok P Q (Ok a) f h = f h
@@ -377,8 +424,25 @@ touring rows p r t new told left ordered at none bits marks each all empty put =
           (first.marks ∙ ap (λ (ss : List Spot). marks_at rows ss ++ record { row = r; task = tasks.Come false } ∷ []) empty);
     }
 
+-- the rows at places are their classes'
+rows_all : (rows : List Rowed) → SupersBefore [] rows → (places : List ℕ) → AllByRecursion (HasRow rows) places → AllByRecursion (IsRowIn rows) (rows_at rows places)
+rows_all rows ordered [] h = tt
+rows_all rows ordered (p ∷ places) h =
+    let row : Rowed = h.0.0 in
+    let is : rows_at rows (p ∷ places) ≡ row ∷ rows_at rows places = ap (λ (o : Option Rowed). cons_option o (rows_at rows places)) h.0.1 in
+    subst (λ (rs : List Rowed). AllByRecursion (IsRowIn rows) rs) (sym is) (row_in rows p row ordered h.0.1, rows_all rows ordered places h.1)
+
+-- these are the places of the superinterfaces of the class at one
+abbrev pub IsKnown : List Rowed → ℕ → List ℕ → Type 0
+IsKnown rows place over = (r : Rowed) → slice_get rows place ≡ Some r → AreSuperinterfacesAt rows r over
+
+known_at : (rows : List Rowed) (known : Option OverAt) (place : ℕ) (o : OverAt) → known ≡ Some o → o.of ≡ place → AreKnown rows known → IsKnown rows place o.places.items
+known_at rows known place o some at are =
+    let here : IsKnown rows o.of o.places.items = subst (λ (x : Option OverAt). IfSome x (λ y. IsKnown rows y.of y.places.items)) some are in
+    subst (λ (p : ℕ). IsKnown rows p o.places.items) at here
+
 module _ (rows : List Rowed) (table : List Supers) (start : Rowed) (t rest new : Placed) (next : Spot) (ordered : SupersBefore [] rows) (are : AreAllSupers rows rows table) (told : rest.told ≡ t.told) (is_told : rest.is_told ≡ t.is_told)
-    (is_left : rest.is_left ≡ t.is_left) (popped : t.stack ≡ rest.stack ++ next ∷ []) (steps : Steps table rest next.place next.task new) (h : IsTouring rows start t) where
+    (is_left : rest.is_left ≡ t.is_left) (popped : t.stack ≡ rest.stack ++ next ∷ []) (h : IsTouring rows start t) where
   spots : AllByRecursion (λ (s : Spot). HasRow rows s.place) rest.stack × HasRow rows next.place
   spots =
       all_pop (λ (s : Spot). HasRow rows s.place) rest.stack next
@@ -400,29 +464,77 @@ module _ (rows : List Rowed) (table : List Supers) (start : Rowed) (t rest new :
   marks : marks_at rows t.stack ≡ marks_at rows rest.stack ++ record { row = row; task = next.task } ∷ []
   marks = ap (λ (ss : List Spot). marks_at rows ss) popped ∙ marks_push rows rest.stack next row spots.1.1
 
-  abbrev gone : Toured
-  gone = step orders.Superinterfaces rows (toured_at rows h.left rest) row next.task
-
-  went : IsTour rows gone new
-  went = steps rows h.left row ordered are spots.1.1 rest_placed
-
   before : IsStage orders.Superinterfaces rows (goal rows start) (record { told = rows_at rows rest.told; seen = classes_at rows rest.told; left = h.left; stack = marks_at rows t.stack })
   before =
       subst (λ (ps : List ℕ). IsStage orders.Superinterfaces rows (goal rows start) (record { told = rows_at rows ps; seen = classes_at rows ps; left = h.left; stack = marks_at rows t.stack })) (sym told) h.stage
 
-  pub toured_on : IsTouring rows start new
-  toured_on = record {
-    left = gone.left;
-    placed = went.placed;
-    stage =
-        preserved_by rows ordered orders.Superinterfaces (goal rows start) (rows_at rows rest.told) (classes_at rows rest.told) h.left (marks_at rows t.stack) (marks_at rows rest.stack) (record { row = row; task = next.task }) marks
-        (toured_at rows gone.left new) before went.toured;
-  }
+  -- one step
+  stepped_on : Steps table rest next.place next.task new → IsTouring rows start new
+  stepped_on steps =
+      let gone : Toured = step orders.Superinterfaces rows (toured_at rows h.left rest) row next.task in
+      let went : IsTour rows gone new = steps rows h.left row ordered are spots.1.1 rest_placed in
+      record {
+        left = gone.left;
+        placed = went.placed;
+        stage =
+            preserved_by rows ordered orders.Superinterfaces (goal rows start) (rows_at rows rest.told) (classes_at rows rest.told) h.left (marks_at rows t.stack) (marks_at rows rest.stack) (record { row = row; task = next.task }) marks
+            (toured_at rows gone.left new) before went.toured;
+      }
 
-  pub toured_less : steps_left (kins rows) (marks_at rows new.stack) < steps_left (kins rows) (marks_at rows t.stack)
-  toured_less =
+  stepped_less : Steps table rest next.place next.task new → steps_left (kins rows) (marks_at rows new.stack) < steps_left (kins rows) (marks_at rows t.stack)
+  stepped_less steps =
+      let gone : Toured = step orders.Superinterfaces rows (toured_at rows h.left rest) row next.task in
+      let went : IsTour rows gone new = steps rows h.left row ordered are spots.1.1 rest_placed in
       smaller_by rows ordered orders.Superinterfaces (goal rows start) (rows_at rows rest.told) (classes_at rows rest.told) h.left (marks_at rows t.stack) (marks_at rows rest.stack) (record { row = row; task = next.task }) marks
       (toured_at rows gone.left new) before went.toured
+
+  -- a class is passed
+  module _ (wanted : Bool) (over : List ℕ) (task_is : next.task ≡ tasks.Come wanted) (known : AreSuperinterfacesAt rows row over) (passes : Passes table rest next.place wanted over new) where
+    abbrev old : Toured
+    old = toured_at rows h.left rest
+
+    abbrev gone : Toured
+    gone = passing orders.Superinterfaces rows old row wanted (rows_at rows over)
+
+    went : IsTour rows gone new
+    went = passes rows h.left row ordered are known.within spots.1.1 rest_placed
+
+    came : marks_at rows t.stack ≡ marks_at rows rest.stack ++ record { row = row; task = tasks.Come wanted } ∷ []
+    came = marks ∙ ap (λ (k : Task). marks_at rows rest.stack ++ record { row = row; task = k } ∷ []) task_is
+
+    here : IsRowIn rows row
+    here = row_in rows next.place row ordered spots.1.1
+
+    passed_on : IsTouring rows start new
+    passed_on = record {
+      left = gone.left;
+      placed = went.placed;
+      stage =
+          subst (λ (x : Toured). IsStage orders.Superinterfaces rows (goal rows start) x) (sym went.toured)
+          (passed rows ordered (goal rows start) row here old wanted (rows_at rows over) known.order (rows_all rows ordered over known.within)
+          (told_before rows ordered orders.Superinterfaces (goal rows start) old.told old.seen h.left (marks_at rows t.stack) old.stack (record { row = row; task = tasks.Come wanted }) came before)
+          (rows_before rows ordered orders.Superinterfaces (goal rows start) old.told old.seen h.left (marks_at rows t.stack) old.stack (record { row = row; task = tasks.Come wanted }) came before));
+    }
+
+    passed_off : steps_left (kins rows) (marks_at rows new.stack) < steps_left (kins rows) (marks_at rows t.stack)
+    passed_off =
+        let less = passed_less rows ordered (goal rows start) row here old wanted (rows_at rows over) in
+        let is : steps_left (kins rows) (marks_at rows new.stack) ≡ steps_left (kins rows) gone.stack = ap (λ (x : Toured). steps_left (kins rows) x.stack) went.toured in
+        let all : steps_left (kins rows) (marks_at rows t.stack) ≡ steps_left (kins rows) (old.stack ++ record { row = row; task = tasks.Come wanted } ∷ []) = ap (λ (ms : List Marked). steps_left (kins rows) ms) came in
+        let both = steps_both (kins rows) old.stack (record { row = row; task = tasks.Come wanted } ∷ []) in
+        omega arith
+
+  -- the row at the place has the superinterfaces that are known of it
+  known_row : (over : List ℕ) → IsKnown rows next.place over → AreSuperinterfacesAt rows row over
+  known_row over known = known row spots.1.1
+
+  pub toured_on : (known : Option OverAt) → AreKnown rows known → Moves table rest next known new → IsTouring rows start new
+  toured_on known are_known (inl steps) = stepped_on steps
+  toured_on known are_known (inr (o, some, place, moved)) = passed_on moved.0 o.places.items moved.1 (known_row o.places.items (known_at rows known next.place o some place are_known)) moved.2
+
+  pub toured_less : (known : Option OverAt) → AreKnown rows known → Moves table rest next known new → steps_left (kins rows) (marks_at rows new.stack) < steps_left (kins rows) (marks_at rows t.stack)
+  toured_less known are_known (inl steps) = stepped_less steps
+  toured_less known are_known (inr (o, some, place, moved)) = passed_off moved.0 o.places.items moved.1 (known_row o.places.items (known_at rows known next.place o some place are_known)) moved.2
 
 -- nothing is left to do: what was told are the superinterfaces
 pub toured_all : (rows : List Rowed) (start : Rowed) (t : Placed) → t.stack ≡ [] → IsTouring rows start t → AreSuperinterfacesAt rows start t.told

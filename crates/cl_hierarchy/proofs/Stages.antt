@@ -178,9 +178,9 @@ pub record IsStage (o : Order) (rows : List Rowed) (goal : List Kin) (t : Toured
   pub stack_is : AreRowsOf rows t.stack
 
 -- the same of what was told, before any other stops
-record IsTold (o : Order) (rows : List Rowed) (goal : List Kin) (t : Toured) (rest : List Stop) : Type 0 where
-  goes : Goes o (kins rows) goal t.told t.seen t.left rest
-  told_are : AllByRecursion (IsRowIn rows) t.told
+pub record IsTold (o : Order) (rows : List Rowed) (goal : List Kin) (t : Toured) (rest : List Stop) : Type 0 where
+  pub goes : Goes o (kins rows) goal t.told t.seen t.left rest
+  pub told_are : AllByRecursion (IsRowIn rows) t.told
 
 row_joins : (rows : List Rowed) (seen : List Class) (told : List Rowed) (r : Rowed) → AllByRecursion (IsRowIn rows) told → IsRowIn rows r → AllByRecursion (IsRowIn rows) (with_row seen told r)
 row_joins rows seen told r h i = at (is_among seen r.class)
@@ -190,7 +190,7 @@ row_joins rows seen told r h i = at (is_among seen r.class)
     at false = all_push (IsRowIn rows) told r h i
 
 module _ (o : Order) (rows : List Rowed) (goal : List Kin) (r : Rowed) (is_row : IsRowIn rows r) where
-  telling_on : (t : Toured) (s : Stop) (b : Bool) (rest : List Stop) → tells o s ≡ (if b then kin_under (kins rows) r ∷ [] else []) → IsTold o rows goal t (s ∷ (rest ++ stops_left o (kins rows) t.stack))
+  pub telling_on : (t : Toured) (s : Stop) (b : Bool) (rest : List Stop) → tells o s ≡ (if b then kin_under (kins rows) r ∷ [] else []) → IsTold o rows goal t (s ∷ (rest ++ stops_left o (kins rows) t.stack))
       → IsTold o rows goal (telling b t r) (rest ++ stops_left o (kins rows) (telling b t r).stack)
   telling_on t s true rest e h = record {
     goes = goes_tell o (kins rows) goal t.told t.seen t.left r s (rest ++ stops_left o (kins rows) t.stack) e h.goes;
@@ -198,7 +198,7 @@ module _ (o : Order) (rows : List Rowed) (goal : List Kin) (r : Rowed) (is_row :
   }
   telling_on t s false rest e h = record { goes = goes_on o (kins rows) goal t.told t.seen t.left s (rest ++ stops_left o (kins rows) t.stack) e h.goes; told_are = h.told_are }
 
-telling_stack : (t : Toured) (b : Bool) (r : Rowed) → (telling b t r).stack ≡ t.stack
+pub telling_stack : (t : Toured) (b : Bool) (r : Rowed) → (telling b t r).stack ≡ t.stack
 telling_stack t true r = refl
 telling_stack t false r = refl
 
@@ -269,7 +269,7 @@ module _ (rows : List Rowed) (ordered : SupersBefore [] rows) (o : Order) (goal 
     stack_is = h.stack_is;
   }
 
-  went : (t : Toured) → IsTold o rows goal t (Leaves (kin_under (kins rows) r) ∷ stops_left o (kins rows) t.stack) → AreRowsOf rows t.stack → IsStage o rows goal (step o rows t r tasks.Leave)
+  pub went : (t : Toured) → IsTold o rows goal t (Leaves (kin_under (kins rows) r) ∷ stops_left o (kins rows) t.stack) → AreRowsOf rows t.stack → IsStage o rows goal (step o rows t r tasks.Leave)
   went t h a =
       let k = kin_under (kins rows) r in
       let b = tells_after o in
@@ -317,17 +317,21 @@ module _ (rows : List Rowed) (ordered : SupersBefore [] rows) (o : Order) (goal 
   all_rows : AreRowsOf rows stack → AreRowsOf rows (rest ++ next ∷ [])
   all_rows all = subst (λ (ms : List Marked). AreRowsOf rows ms) popped all
 
+  -- what was told before that, with what it has left to do
+  pub told_before : IsStage o rows goal (record { told = told; seen = seen; left = left; stack = stack }) → IsTold o rows goal before (stops_of o (kins rows) next.row next.task ++ stops_left o (kins rows) rest)
+  told_before h = record {
+    goes = subst (λ (ss : List Stop). Goes o (kins rows) goal told seen left ss) (ap (λ (ms : List Marked). stops_left o (kins rows) ms) popped ∙ left_both o (kins rows) rest (next ∷ [])) h.goes;
+    told_are = h.told_are;
+  }
+
+  pub rows_before : IsStage o rows goal (record { told = told; seen = seen; left = left; stack = stack }) → AreRowsOf rows rest
+  rows_before h = all_left (IsRowOf rows) rest (next ∷ []) (all_rows h.stack_is)
+
   pub preserved_by : (new : Toured) → IsStage o rows goal (record { told = told; seen = seen; left = left; stack = stack }) → new ≡ step o rows before next.row next.task → IsStage o rows goal new
   preserved_by new h e =
       let all = all_rows h.stack_is in
-      subst (λ (t : Toured). IsStage o rows goal t) (sym e) (
-      stepped rows ordered o goal before next.row next.task (all_right (IsRowOf rows) rest (next ∷ []) all).0
-      (record {
-        goes = subst (λ (ss : List Stop). Goes o (kins rows) goal told seen left ss) (ap (λ (ms : List Marked). stops_left o (kins rows) ms) popped ∙ left_both o (kins rows) rest (next ∷ [])) h.goes;
-        told_are = h.told_are;
-      })
-      (all_left (IsRowOf rows) rest (next ∷ []) all)
-      )
+      subst (λ (t : Toured). IsStage o rows goal t) (sym e)
+      (stepped rows ordered o goal before next.row next.task (all_right (IsRowOf rows) rest (next ∷ []) all).0 (told_before h) (rows_before h))
 
   pub smaller_by : (new : Toured) → IsStage o rows goal (record { told = told; seen = seen; left = left; stack = stack }) → new ≡ step o rows before next.row next.task → steps_left (kins rows) new.stack < steps_left (kins rows) stack
   smaller_by new h e =

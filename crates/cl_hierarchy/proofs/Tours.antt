@@ -68,7 +68,7 @@ field_order_told k = ap (λ (x : List Kin). once x) (fields_told (alone k))
 
 -- ---- classes among others
 
-among_both : (xs ys : List Class) (c : Class) → is_among (xs ++ ys) c ≡ (is_among xs c || is_among ys c)
+pub among_both : (xs ys : List Class) (c : Class) → is_among (xs ++ ys) c ≡ (is_among xs c || is_among ys c)
 among_both [] ys c = refl
 among_both (x ∷ xs) ys c = at (among_both xs ys c) (same_class c x)
   where
@@ -205,7 +205,7 @@ told_back o s xs seen =
     (within_join a seen ((a ++ b) ++ seen) (λ c e. within_left (a ++ b) seen c (within_left a b c e)) (within_right (a ++ b) seen))
     )
 
-closed_both : (o : Order) (seen : List Class) (xs ys : List Stop) → Closed o seen xs → Closed o (classes (told_at o xs) ++ seen) ys → Closed o seen (xs ++ ys)
+pub closed_both : (o : Order) (seen : List Class) (xs ys : List Stop) → Closed o seen xs → Closed o (classes (told_at o xs) ++ seen) ys → Closed o seen (xs ++ ys)
 closed_both o seen [] ys h g = g
 closed_both o seen (s ∷ xs) ys h g =
     (h.0, closed_both o (classes (tells o s) ++ seen) xs ys h.1 (closed_more o (classes (told_at o (s ∷ xs)) ++ seen) (classes (told_at o xs) ++ (classes (tells o s) ++ seen)) ys (told_then o s xs seen) g))

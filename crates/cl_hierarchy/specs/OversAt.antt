@@ -1,11 +1,33 @@
 -- Where the superinterfaces of one class of a lineage stand, as they are kept (JVMS SE 8, 5.4.3.3).
-use Rattle.std.specs.Prelude.{◌≤◌, length}
+use Rattle.std.specs.Prelude.{◌≡◌, ◌≤◌, ℕ, true, Bool, Contains, List, Some, length, slice_get}
+use Rattle.cl_model.specs.Lineages.{Kin, first, superclasses, superinterfaces}
 use Rattle.cl_hierarchy.specs.ClassesAt.{own_at}
 use Rattle.cl_hierarchy.specs.Lineages.{Lined, rows_in}
 use Rattle.cl_hierarchy.specs.PlaceTours.{AreSuperinterfacesAt}
-use Rattle.cl_hierarchy.specs.declared.lineages.OverAt.{OverAt}
+use Rattle.cl_hierarchy.specs.Rows.{Rowed}
+use Rattle.cl_hierarchy.specs.Trees.{kin_under, kins}
+use Rattle.cl_hierarchy.specs.declared.place_tour.OverAt.{OverAt}
 
--- these places are those of the superinterfaces of the class at that
+-- a class is one of the superinterfaces of the superclass of another
+pub record IsOverAbove (k j : Kin) : Type 0 where
+  pub above : Kin
+  pub up : Some above ≡ first (superclasses k)
+  pub over : Contains (superinterfaces above) j
+
+-- of these superinterfaces of a class, those that are marked are its superclass's too
+abbrev pub AreShared : Kin → List Kin → List Bool → Type 0
+AreShared k js marks =
+    (i : ℕ) (j : Kin) → slice_get marks i ≡ Some true → slice_get js i ≡ Some j → IsOverAbove k j
+
+-- the same of the rows at places
+abbrev pub AreSharedAt : List Rowed → Rowed → List ℕ → List Bool → Type 0
+AreSharedAt rows start places marks =
+    (i place : ℕ) (r : Rowed) → slice_get marks i ≡ Some true → slice_get places i ≡ Some place
+    → slice_get rows place ≡ Some r
+    → IsOverAbove (kin_under (kins rows) start) (kin_under (kins rows) r)
+
+-- these places are those of the superinterfaces of the class at that, with their marks
 pub record IsOverAt (l : Lined) (o : OverAt) : Type 0 where
   pub within : o.of ≤ length l.above
   pub are : AreSuperinterfacesAt (rows_in l) (own_at l o.of) o.places.items
+  pub shared_are : AreSharedAt (rows_in l) (own_at l o.of) o.places.items o.shared.items

@@ -1,15 +1,17 @@
 -- Tours through superinterfaces by the places of their rows (JVMS SE 8, 5.4.3.3).
-use Rattle.std.specs.Prelude.{◌≡◌, ℕ, Bool, List, [], ◌∷◌, ◌++◌, Option, Some, filter_map, map, option_map, slice_get}
+use Rattle.std.specs.Prelude.{◌≡◌, ◌⊎◌, ℕ, Bool, IfSome, List, [], ◌∷◌, ◌++◌, Option, Some, filter_map, map, option_map, slice_get}
 use Rattle.std.specs.List.{AllByRecursion}
 use Rattle.cl_model.specs.declared.class.Class.{Class}
 use Rattle.cl_model.specs.Classes.{is_among}
 use Rattle.cl_model.specs.Lineages.{superinterfaces}
+use Rattle.cl_hierarchy.specs.declared.place_tour.OverAt.{OverAt}
 use Rattle.cl_hierarchy.specs.declared.place_tour.Spot.{Spot}
 use Rattle.cl_hierarchy.specs.declared.tour.Order.TheVariants as orders
 use Rattle.cl_hierarchy.specs.declared.tour.Task.{Task}
+use Rattle.cl_hierarchy.specs.declared.tour.Task.TheVariants as tasks
 use Rattle.cl_hierarchy.specs.Rows.{Rowed}
 use Rattle.cl_hierarchy.specs.Supers.{AreAllSupers, HasRow}
-use Rattle.cl_hierarchy.specs.Tours.{Marked, Toured, opened, step, telling}
+use Rattle.cl_hierarchy.specs.Tours.{Marked, Toured, opened, passing, step, telling, telling_all}
 use Rattle.cl_hierarchy.specs.Trees.{SupersBefore, kin_under, kins}
 use Rattle.cl_hierarchy.specs.declared.supers.Supers.{Supers}
 
@@ -104,3 +106,35 @@ pub record AreSuperinterfacesAt (rows : List Rowed) (start : Rowed) (places : Li
   pub order :
       map (kin_under (kins rows)) (rows_at rows places)
       ≡ superinterfaces (kin_under (kins rows) start)
+
+-- ---- a class of which the superinterfaces are known
+
+-- the classes at these places are told, one after another
+abbrev pub AreTold : List Supers → Placed → List ℕ → Placed → Type 0
+AreTold table old places new =
+    (rows : List Rowed) (left : List Class) → SupersBefore [] rows → AreAllSupers rows rows table
+    → AllByRecursion (HasRow rows) places → IsPlaced rows left old
+    → IsTour rows (telling_all (toured_at rows left old) (rows_at rows places)) new
+
+-- the class at a place is told, where that is wanted, then those at these places, and it is left
+abbrev pub Passes : List Supers → Placed → ℕ → Bool → List ℕ → Placed → Type 0
+Passes table old place wanted over new =
+    (rows : List Rowed) (left : List Class) (r : Rowed) → SupersBefore [] rows
+    → AreAllSupers rows rows table → AllByRecursion (HasRow rows) over
+    → slice_get rows place ≡ Some r → IsPlaced rows left old
+    → IsTour rows
+    (passing orders.Superinterfaces rows (toured_at rows left old) r wanted (rows_at rows over)) new
+
+-- one step, or the class is passed of which these are known
+abbrev pub Moves : List Supers → Placed → Spot → Option OverAt → Placed → Type 0
+Moves table old next known new =
+    Steps table old next.place next.task new
+    ⊎ ((o : OverAt) × (known ≡ Some o) × (o.of ≡ next.place)
+    × ((wanted : Bool) × (next.task ≡ tasks.Come wanted)
+    × Passes table old next.place wanted o.places.items new))
+
+-- the places that are known are those of the superinterfaces of the class there
+abbrev pub AreKnown : List Rowed → Option OverAt → Type 0
+AreKnown rows known =
+    IfSome known
+    (λ o. (r : Rowed) → slice_get rows o.of ≡ Some r → AreSuperinterfacesAt rows r o.places.items)

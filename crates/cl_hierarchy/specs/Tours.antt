@@ -182,6 +182,11 @@ abbrev pub telling : Bool → Toured → Rowed → Toured
 telling false t r = t
 telling true t r = record t { told = with_row t.seen t.told r; seen = with_class t.seen r.class }
 
+-- these rows are told, one after another
+abbrev pub telling_all : Toured → List Rowed → Toured
+telling_all t [] = t
+telling_all t (r ∷ rs) = telling_all (telling true t r) rs
+
 -- what is left to do, once the tour came to a class that it left before, or not
 abbrev pub opening : Order → List Rowed → Toured → Rowed → Toured
 opening o rows t r =
@@ -194,3 +199,9 @@ step o rows t r (tasks.Over place) =
     record t { stack = t.stack ++ over_from r place (interface_row rows r place) }
 step o rows t r tasks.Leave =
     let x = telling (tells_after o) t r in record x { left = with_class x.left r.class }
+
+-- a class is told, where that is wanted, then these rows, which are of all that stands above it, and it
+-- is left
+abbrev pub passing : Order → List Rowed → Toured → Rowed → Bool → List Rowed → Toured
+passing o rows t r wanted over =
+    step o rows (telling_all (telling wanted t r) over) r tasks.Leave

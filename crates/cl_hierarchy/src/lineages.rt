@@ -1,43 +1,24 @@
 //! What is asked of each class of a lineage (JVMS SE 8, 5.3.5).
 
-ghost use Rattle.std.specs.Prelude.{◌≡◌, ◌≤◌, length, is_some, map, true, IfOk, IfSome};
+ghost use Rattle.std.specs.Prelude.{◌≡◌, ◌≤◌, Some, length, is_some, map, true, IfOk, IfSome};
 ghost use Rattle.std.specs.List.{AllByRecursion};
 ghost use Rattle.cl_hierarchy.specs.ClassesAt.{lined_at, own_at};
 ghost use Rattle.cl_hierarchy.specs.Lineages.{IsLined, IsRowIn, kin_at, kin_of, rows_in};
+ghost use Rattle.cl_hierarchy.specs.OversAt.{AreShared, AreSharedAt, IsOverAt};
 ghost use Rattle.cl_hierarchy.specs.PlaceTours.{AreSuperinterfacesAt};
 ghost use Rattle.cl_hierarchy.specs.Supers.{AreAllSupers};
-ghost use Rattle.cl_model.specs.Lineages.{superinterfaces};
+ghost use Rattle.cl_hierarchy.specs.Trees.{kin_under, kins};
+ghost use Rattle.cl_model.specs.Lineages.{first, superclasses, superinterfaces};
 
 use crate::lineage::Lineage;
-use crate::place_tour::{rows_at, superinterface_places, up_at};
+use crate::place_tour::{OverAt, rows_at, superinterface_places, up_at};
 use crate::row::ClassRow;
+use crate::shared::are_among;
 use crate::supers::{Supers, supers_of_all};
 use cl_model::Told;
 use std::alloc::{AllocError, Global};
 use std::marker::Model;
 use std::sync::Arc;
-
-/// Where the superinterfaces of the class at a place stand.
-struct OverAt {
-    of: usize,
-    places: Vec<usize>,
-}
-
-impl Drop for OverAt {
-    fn drop(self) {
-        let OverAt { of: _, places: _ } = self;
-    }
-}
-
-impl OverAt {
-    /// The places.
-    fn into_places(self) -> Vec<usize>
-        ensures { result.items ≡ self.places.items }
-    {
-        let OverAt { of: _, places } = self;
-        places
-    }
-}
 
 /// A lineage whose classes are asked about, one after another.
 pub struct Lineages<T: Told> {
@@ -149,11 +130,13 @@ impl<T: Told> Lineages<T> {
         ensures { IfOk result (λ v. AreSuperinterfacesAt (rows_in self.now) (own_at self.now place)
             v.items) }
     {
+        let rows = self.whole.rows();
+        let known = self.over.as_ref();
         match &self.table {
-            Some(table) => superinterface_places(alloc, self.whole.rows(), table.as_slice(), place),
+            Some(table) => superinterface_places(alloc, rows, table.as_slice(), place, known),
             None => {
                 let table = self.make_table(alloc)?;
-                superinterface_places(alloc, self.whole.rows(), table.as_slice(), place)
+                superinterface_places(alloc, rows, table.as_slice(), place, known)
             }
         }
     }
@@ -191,21 +174,28 @@ impl<T: Told> Lineages<T> {
         }
     }
 
-    /// The places of the superinterfaces that are kept, if they are those of the class at a place.
-    fn take_over(&mut self, place: usize) -> Option<Vec<usize>>
+    /// What is kept of superinterfaces, as that of the class at a place, if these are its own.
+    fn take_over(&mut self, place: usize) -> Option<OverAt>
         requires within { place ≤ length self.old.above }
         ensures same { self.new ≡ self.old }
-        ensures places { IfSome result (λ v. AreSuperinterfacesAt (rows_in self.old)
-            (own_at self.old place) v.items) }
+        ensures over { IfSome result (λ o. (o.of ≡ place) × IsOverAt self.old o) }
     {
         // brings what the lineage keeps
         let _ = self.lineage();
         let over = self.over.take()?;
+        if over.of == place {
+            return Some(over);
+        }
         if !self.shares_over(place, over.of) {
             self.over = Some(over);
             return None;
         }
-        Some(over.into_places())
+        let none = Vec::new(*over.places.allocator());
+        Some(OverAt {
+            of: place,
+            places: over.into_places(),
+            shared: none,
+        })
     }
 
     /// Keeps where the superinterfaces of the class at a place stand, if they are known to be those that are kept: it is so of a class
@@ -214,8 +204,8 @@ impl<T: Told> Lineages<T> {
         requires within { place ≤ length self.old.above }
         ensures same { self.new ≡ self.old }
     {
-        if let Some(places) = self.take_over(place) {
-            self.over = Some(OverAt { of: place, places });
+        if let Some(over) = self.take_over(place) {
+            self.over = Some(over);
         }
     }
 
@@ -226,12 +216,84 @@ impl<T: Told> Lineages<T> {
         ensures same { self.new ≡ self.old }
     {
         self.find_supers(alloc)?;
-        let places = match self.take_over(place) {
-            Some(places) => places,
-            None => self.places_at(alloc, place)?,
+        let over = match self.take_over(place) {
+            Some(over) => over,
+            None => self.look_over(alloc, place)?,
         };
-        self.over = Some(OverAt { of: place, places });
+        self.over = Some(over);
         Ok(())
+    }
+
+    /// Looks for the superinterfaces of the class at a place, and which of them are those of its superclass too.
+    fn look_over(&self, alloc: Global, place: usize) -> Result<OverAt, AllocError>
+        requires within { place ≤ length self.now.above }
+        ensures { IfOk result (λ o. (o.of ≡ place) × IsOverAt self.now o) }
+    {
+        let found = self.places_at(alloc, place)?;
+        let shared = self.shared_of(alloc, place, found.as_slice())?;
+        Ok(OverAt {
+            of: place,
+            places: found,
+            shared,
+        })
+    }
+
+    /// Which of the superinterfaces at these places its superclass has too, if those are kept.
+    fn shared_of(
+        &self,
+        alloc: Global,
+        place: usize,
+        places: &[usize],
+    ) -> Result<Vec<bool>, AllocError>
+        requires within { place ≤ length self.now.above }
+        ensures { IfOk result (λ v. AreSharedAt (rows_in self.now) (own_at self.now place)
+            places.now v.items) }
+    {
+        match self.kept_above(place) {
+            Some(over) => are_among(
+                alloc,
+                self.whole.rows().len(),
+                over.places.as_slice(),
+                places,
+            ),
+            None => Ok(Vec::new(alloc)),
+        }
+    }
+
+    /// What is kept of superinterfaces, if it is that of the superclass of the class at a place.
+    fn kept_above(&self, place: usize) -> Option<&OverAt>
+        requires within { place ≤ length self.now.above }
+        ensures { IfSome result (λ o. IsOverAt self.now o.now
+            × (Some (kin_under (kins (rows_in self.now)) (own_at self.now o.now.of))
+            ≡ first (superclasses (kin_under (kins (rows_in self.now))
+            (own_at self.now place))))) }
+    {
+        // brings what the lineage keeps
+        let _ = self.lineage();
+        let over = self.over.as_ref()?;
+        let table = self.table.as_ref()?;
+        match up_at(table.as_slice(), place) {
+            Some(up) if up == over.of => Some(over),
+            _ => None,
+        }
+    }
+
+    /// Of the superinterfaces of the class at a place, in the order of `superinterfaces_at`, which are known to be its superclass's
+    /// too, where `find_superinterfaces` looked for those of that one and then of this. Of those behind the last mark, and where there
+    /// is no answer, nothing is known. Constant time, no memory.
+    pub fn shared_at(&self, place: usize) -> Option<&[bool]>
+        requires within { place ≤ length self.now.above }
+        ensures { IfSome result (λ v. AreShared (kin_of (lined_at self.now place))
+            (superinterfaces (kin_of (lined_at self.now place))) v.now) }
+    {
+        // brings what the lineage keeps
+        let _ = self.lineage();
+        let over = self.over.as_ref()?;
+        if over.of == place {
+            Some(over.shared.as_slice())
+        } else {
+            None
+        }
     }
 
     /// The places of the superinterfaces of the class at a place, if they are kept.

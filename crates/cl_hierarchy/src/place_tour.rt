@@ -1,8 +1,8 @@
 //! Tours through the superinterfaces of a class by the places of their rows: no name is looked at, and none kept (JVMS SE 8,
 //! 5.4.3.3).
 
-ghost use Rattle.std.specs.Prelude.{◌≡◌, ◌<◌, List, [], ◌++◌, Some, false, length, map, option_to_list, slice_get, true, IfOk, IfSome, OnOk};
-ghost use Rattle.cl_hierarchy.specs.PlaceTours.{AreSuperinterfacesAt, IsOpened, IsPushed, IsTold, Steps, rows_at};
+ghost use Rattle.std.specs.Prelude.{◌≡◌, ◌<◌, List, [], ◌++◌, Some, false, length, map, option_map, option_to_list, slice_get, true, IfOk, IfSome, OnOk};
+ghost use Rattle.cl_hierarchy.specs.PlaceTours.{AreKnown, AreSuperinterfacesAt, AreTold, IsOpened, IsPushed, IsTold, Moves, Passes, Steps, rows_at};
 ghost use Rattle.cl_hierarchy.specs.Rows.{Rowed};
 ghost use Rattle.cl_hierarchy.specs.Supers.{AreAllSupers, place_in};
 ghost use Rattle.cl_hierarchy.specs.Trees.{SupersBefore};
@@ -16,6 +16,38 @@ use cl_model::Told;
 use std::alloc::{AllocError, Global};
 use std::marker::Model;
 use std::sync::Arc;
+
+/// Where the superinterfaces of the class at a place stand, and of each whether it is known to be one of its superclass too: of
+/// those behind the last mark it is not.
+pub(crate) struct OverAt {
+    pub of: usize,
+    pub places: Vec<usize>,
+    pub shared: Vec<bool>,
+}
+
+impl Drop for OverAt {
+    fn drop(self) {
+        let OverAt {
+            of: _,
+            places: _,
+            shared: _,
+        } = self;
+    }
+}
+
+impl OverAt {
+    /// The places.
+    pub fn into_places(self) -> Vec<usize>
+        ensures { result.items ≡ self.places.items }
+    {
+        let OverAt {
+            of: _,
+            places,
+            shared: _,
+        } = self;
+        places
+    }
+}
 
 /// What is left to do for the row at a place.
 #[derive(Clone, Copy, Debug)]
@@ -150,6 +182,48 @@ impl PlaceTour {
         }
     }
 
+    /// Tells the classes at these places, one after another, where they were not told.
+    fn tell_all(&mut self, places: &[usize]) -> Result<(), AllocError>
+        ensures { OnOk result ((table : List Supers) → AreTold table self.old places.now self.new) }
+    {
+        for place in places {
+            self.tell(*place, true)?;
+        }
+        Ok(())
+    }
+
+    /// Passes the class at a place, of which the superinterfaces stand at these: it is told, where that is wanted, and these, and it
+    /// is left.
+    fn pass(&mut self, place: usize, wanted: bool, over: &[usize]) -> Result<(), AllocError>
+        ensures { OnOk result ((table : List Supers) → Passes table self.old place wanted over.now
+            self.new) }
+    {
+        self.tell(place, wanted)?;
+        self.tell_all(over)?;
+        self.leave(place);
+        Ok(())
+    }
+
+    /// Takes one step, or passes the class of which the superinterfaces are known.
+    fn move_on(
+        &mut self,
+        table: &[Supers],
+        next: Spot,
+        known: Option<&OverAt>,
+    ) -> Result<(), AllocError>
+        ensures { OnOk result (Moves table.now self.old next
+            (option_map (λ o. o.now) known.entry) self.new) }
+    {
+        if let Task::Come(wanted) = next.task {
+            if let Some(over) = known {
+                if over.of == next.place {
+                    return self.pass(next.place, wanted, over.places.as_slice());
+                }
+            }
+        }
+        self.go(table, next)
+    }
+
     /// The places that were told.
     fn into_told(self) -> Vec<usize>
         ensures { result.items ≡ self.told }
@@ -180,17 +254,20 @@ fn over_at(table: &[Supers], place: usize, at: usize) -> Option<usize>
 }
 
 /// The places of the rows of all superinterfaces of the class at a place, each once at its first place, in time linear in its
-/// superclasses and these and in the supertypes that they name, besides two marks for each of all rows.
+/// superclasses and these and in the supertypes that they name, besides two marks for each of all rows. Nothing above a class of
+/// which they are known is looked at but for these.
 pub(crate) fn superinterface_places<T: Told>(
     alloc: Global,
     rows: &[Arc<ClassRow<T>>],
     table: &[Supers],
     start: usize,
+    known: Option<&OverAt>,
 ) -> Result<Vec<usize>, AllocError>
     requires ordered { SupersBefore [] (map (λ r. r.value) rows.now) }
     requires table { AreAllSupers (map (λ r. r.value) rows.now) (map (λ r. r.value) rows.now)
         table.now }
     requires within { start < length rows.now }
+    requires known { AreKnown (map (λ r. r.value) rows.now) (option_map (λ o. o.now) known) }
     ensures { (r : Rowed) → slice_get (map (λ r. r.value) rows.now) start ≡ Some r
         → IfOk result (λ v. AreSuperinterfacesAt (map (λ r. r.value) rows.now) r v.items) }
 {
@@ -202,7 +279,7 @@ pub(crate) fn superinterface_places<T: Told>(
     };
     tour.push(start, Task::Come(false))?;
     while let Some(next) = tour.stack.pop() {
-        tour.go(table, next)?;
+        tour.move_on(table, next, known)?;
     }
     Ok(tour.into_told())
 }

@@ -108,13 +108,13 @@ putting_end v l rows table none was =
     subst (λ (ks : List Kin). AreTold table ks) (sym (ap (λ ys. map (λ y. kin_under (kins l.above) (v y)) ys ++ was.done) none) ∙ was.split) was.told
 
 -- what the methods of rows impose, by where they are kept
-by_rows : {A : Type 0} (v : A → Rowed) (c : Kin) (xs : List A) → flat_map (λ x. flat_map (fewer_inherited c (bare (v x))) (bare (v x)).file.methods) xs ≡ by_methods bare (λ j. fewer_inherited c (bare j)) (map v xs)
+pub by_rows : {A : Type 0} (v : A → Rowed) (c : Kin) (xs : List A) → flat_map (λ x. flat_map (fewer_inherited c (bare (v x))) (bare (v x)).file.methods) xs ≡ by_methods bare (λ j. fewer_inherited c (bare j)) (map v xs)
 by_rows v c [] = refl
 by_rows v c (x ∷ xs) = ap (λ (ns : List Need). flat_map (fewer_inherited c (bare (v x))) (bare (v x)).file.methods ++ ns) (by_rows v c xs)
 
 -- ---- the first half
 
-module _ {S : Type 0} (l : Lined) (own : Rowed) (survey : Survey) (above : IndexMap MethodTexts Above S) (over : List Rowed) (is : IsChained l own survey above over) where
+module _ {S : Type 0} (l : Lined) (own : Rowed) (survey : Survey) (above : IndexMap MethodTexts Above S) (over : List Rowed) (shared : List Bool) (is : IsChained l own survey above over shared) where
   -- the loaders of superclasses, and then those of superinterfaces
   pub chained_over : (key : Key) (loader : ℕ) (up all : List ℕ) → takes_part key (kin_of l) ≡ true → loader ≡ own.class.loader → up ≡ others_after loader [] (loaders (filter (opens key) (superclasses (kin_of l))))
       → all ≡ up ++ others_after loader up (loaders (filter (takes_part key) (map bare over))) → all ≡ others_after l.own.class.loader [] (loaders_over (kin_of l) key)

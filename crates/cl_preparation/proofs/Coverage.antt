@@ -1,10 +1,13 @@
 -- What a class inherits is imposed where its superclass is prepared, if that one has all its superinterfaces.
-use Rattle.std.proofs.Common.{◌≡◌, ◌∙◌, ◌⊎◌, ◌&&◌, ◌++◌, inl, inr, Bool, true, false, not, if◌then◌else◌, Option, Some, None, List, [], ◌∷◌, filter, append-nil, refl, ap, sym, subst}
-use Rattle.std.specs.Prelude.{Contains, find, flat_map, is_some}
+use Rattle.std.proofs.Common.{◌≡◌, ◌∙◌, ◌⊎◌, ◌&&◌, ◌++◌, inl, inr, ℕ, Bool, true, false, not, if◌then◌else◌, Option, Some, None, List, [], ◌∷◌, ◌+◌, ◌<◌, ◌≤◌, zero, suc, filter, append-nil, arith, get_or, length, map, take, refl, ap, sym, subst}
+use Rattle.std.specs.Prelude.{Contains, find, flat_map, is_some, option_map, slice_get}
 use Rattle.std.specs.List.{AllByRecursion}
 use Rattle.std.specs.Option.{option_map_or}
 use Rattle.std.proofs.lemmas.Bool.{and_parts}
-use Rattle.std.proofs.lemmas.List.Elements.{All-contains, All-contains_itself, All-from_recursion, recursion_from_All}
+use Rattle.std.proofs.lemmas.Grind.{flat_map-append}
+use Rattle.std.proofs.lemmas.List.{take_more}
+use Rattle.std.proofs.lemmas.Option.{same_Some, slice_get-map}
+use Rattle.std.proofs.lemmas.List.Elements.{All-contains, All-contains_itself, All-from_recursion, Contains-append_left, Contains-append_right, recursion_from_All}
 use Rattle.cl_classfile.specs.Files.{Key, Member, file_of, is_interface, member, same_key}
 use Rattle.cl_model.specs.declared.class.Class.{Class}
 use Rattle.cl_model.specs.Lineages.{Bare, Forest, Kin, alone, first, if_declared, is_offered, is_virtual, method_of, once, preorder, superclasses, superinterfaces, upward}
@@ -13,15 +16,20 @@ use Rattle.cl_model.specs.States.{AllMet, Need, State}
 use Rattle.cl_model.proofs.Closed.{met_both}
 use Rattle.cl_model.proofs.Keys.{keys_are_told}
 use Rattle.cl_model.proofs.Progress.{met_split}
+use Rattle.cl_hierarchy.specs.Imposed.{constraints_above}
 use Rattle.cl_hierarchy.specs.Lineages.{Lined, kin_at, kin_of}
+use Rattle.cl_hierarchy.specs.OversAt.{AreShared, IsOverAbove}
 use Rattle.cl_hierarchy.specs.Rows.{Rowed}
 use Rattle.cl_hierarchy.specs.Trees.{forest, in_front, kin_named, kins}
 use Rattle.cl_hierarchy.proofs.Ways.{up_class}
-use Rattle.cl_preparation.specs.Fewer.{IsCovered, fewer_inherited, is_between}
+use Rattle.cl_preparation.specs.Chains.{AreOver, by_row}
+use Rattle.cl_preparation.specs.Nearby.{AddAll}
+use Rattle.cl_preparation.specs.Fewer.{AddsLeft, ImposesShared, IsCovered, by_methods, by_superinterfaces, fewer_inherited, is_between}
 use Rattle.cl_preparation.specs.Relatives.{bare, names_interfaces}
 use Rattle.cl_preparation.specs.Surveys.{IsPart, IsUnmixed}
-use Rattle.cl_preparation.proofs.Chains.{front_is}
+use Rattle.cl_preparation.proofs.Chains.{by_rows, front_is}
 use Rattle.cl_preparation.proofs.Interfaces.{none_over}
+use Rattle.cl_preparation.proofs.Standing.{left_more}
 use Rattle.cl_preparation.proofs.Surveyed.{over_unmixed}
 
 -- ---- lists of which all are met
@@ -162,40 +170,118 @@ module _ (U : Key → Type 0) (k s : Kin) (st : State) (up : k.superclass ≡ al
       let both = met_split st (for_inherited s j m) (flat_map (for_inherited s j) ms) h in
       met_both st (fewer_inherited k j m) (flat_map (fewer_inherited k j) ms) (method_met j m there (unmixed m) both.0) (methods_met j ms there unmixed both.1)
 
-  all_met : (js : List Kin) → AllByRecursion (Contains (superinterfaces s)) js → AllByRecursion (λ (j : Kin). (m : Member) → U m.key → fewer_inherited k j m ≡ []) js
-      → AllMet st (flat_map (λ (j : Kin). flat_map (for_inherited s j) j.file.methods) js) → AllMet st (flat_map (λ (j : Kin). flat_map (fewer_inherited k j) j.file.methods) js)
-  all_met [] there unmixed h = tt
-  all_met (j ∷ js) there unmixed h =
-      let both = met_split st (flat_map (for_inherited s j) j.file.methods) (flat_map (λ (x : Kin). flat_map (for_inherited s x) x.file.methods) js) h in
-      met_both st (flat_map (fewer_inherited k j) j.file.methods) (flat_map (λ (x : Kin). flat_map (fewer_inherited k x) x.file.methods) js)
-      (methods_met j j.file.methods there.0 unmixed.0 both.0) (all_met js there.1 unmixed.1 both.1)
+-- ---- a superinterface that the superclass has too
 
--- ---- the whole
+-- of a list by items, that of one item
+met_in : (s : State) (f : Kin → List Need) (xs : List Kin) (x : Kin) → AllMet s (flat_map f xs) → Contains xs x → AllMet s (f x)
+met_in s f xs x h there =
+    All-contains (λ (y : Kin). AllMet s (f y)) xs x (All-from_recursion (λ (y : Kin). AllMet s (f y)) xs (each xs h)) there
+  where
+    each : (ys : List Kin) → AllMet s (flat_map f ys) → AllByRecursion (λ (y : Kin). AllMet s (f y)) ys
+    each [] h = tt
+    each (y ∷ ys) h = let both = met_split s (f y) (flat_map f ys) h in (both.0, each ys both.1)
 
--- a class that names no superinterface, and whose superclass is no interface: each method that this one declares takes part in
--- overriding, or nothing follows from one like it
-pub covered : (U : Key → Type 0) (k s : Kin) → k.superclass ≡ alone s → k.interfaces ≡ Bare → is_interface s.file ≡ false
-    → AllByRecursion (λ (m : Member). (takes_part m.key s ≡ true) ⊎ U m.key) s.file.methods
-    → AllByRecursion (λ (j : Kin). (m : Member) → U m.key → fewer_inherited k j m ≡ []) (superinterfaces k) → IsCovered k
-covered U k s up none class fine unmixed = λ st h.
-    let mine : AllMet st (constraints_of s) = subst (λ (f : Forest). AllMet st (option_map_or constraints_of (first (upward f)) [])) up h in
-    let over : List Kin = superinterfaces s in
-    let firsts : List Need = flat_map (for_declared s) s.file.methods in
-    let second : List Need = flat_map (λ (j : Kin). flat_map (for_inherited s j) j.file.methods) over in
-    let both = met_split st firsts (if is_interface s.file then [] else second) mine in
-    let seconds : AllMet st second = subst (λ (b : Bool). AllMet st (if b then [] else second)) class both.1 in
-    let same : superinterfaces k ≡ over = over_same k s up none in
-    let apart = subst (λ (ks : List Kin). AllByRecursion (λ (j : Kin). (m : Member) → U m.key → fewer_inherited k j m ≡ []) ks) same unmixed in
-    let met = all_met U k s st up fine both.0 over (recursion_from_All (Contains over) over (All-contains_itself over)) apart seconds in
-    subst (λ (ks : List Kin). AllMet st (flat_map (λ (j : Kin). flat_map (fewer_inherited k j) j.file.methods) ks)) (sym same) met
+-- the superclass is no interface; each method that it declares takes part in overriding, or nothing follows from one like it
+imposes : (U : Key → Type 0) (k s : Kin) → k.superclass ≡ alone s → is_interface s.file ≡ false → AllByRecursion (λ (m : Member). (takes_part m.key s ≡ true) ⊎ U m.key) s.file.methods
+    → AllByRecursion (λ (j : Kin). (m : Member) → U m.key → fewer_inherited k j m ≡ []) (superinterfaces k) → ImposesShared k
+imposes U k s up class fine unmixed = record {
+  above = s;
+  up = up;
+  each = λ j over among st h.
+      let firsts : List Need = flat_map (for_declared s) s.file.methods in
+      let second : List Need = flat_map (λ (x : Kin). flat_map (for_inherited s x) x.file.methods) (superinterfaces s) in
+      let mine : AllMet st (constraints_of s) = subst (λ (f : Forest). AllMet st (option_map_or constraints_of (first (upward f)) [])) up h in
+      let both = met_split st firsts (if is_interface s.file then [] else second) mine in
+      let seconds : AllMet st second = subst (λ (b : Bool). AllMet st (if b then [] else second)) class both.1 in
+      let same : over.above ≡ s = same_Some over.above s (over.up ∙ ap (λ (f : Forest). first (upward f)) up) in
+      let there : Contains (superinterfaces s) j = subst (λ (x : Kin). Contains (superinterfaces x) j) same over.over in
+      let apart = All-contains (λ (x : Kin). (m : Member) → U m.key → fewer_inherited k x m ≡ []) (superinterfaces k) j (All-from_recursion (λ (x : Kin). (m : Member) → U m.key → fewer_inherited k x m ≡ []) (superinterfaces k) unmixed) among in
+      methods_met U k s st up fine both.0 j j.file.methods there apart (met_in st (λ (x : Kin). flat_map (for_inherited s x) x.file.methods) (superinterfaces s) j seconds there);
+}
 
--- and so the class of a lineage, as rows tell it
-pub covered_at : (l : Lined) (own up : Rowed) (rows : List Rowed) → IsPart rows l → (ms : List Member) → own ≡ l.own → names_interfaces own ≡ false → Some (kin_at l up) ≡ first (superclasses (kin_of l)) → is_interface (file_of up.file) ≡ false
-    → ms ≡ (file_of up.file).methods → AllByRecursion (λ (m : Member). (takes_part m.key (bare up) ≡ true) ⊎ IsUnmixed rows m.key) ms → IsCovered (kin_of l)
-covered_at l own up rows part ms same none above class made seen =
+-- a class that names no superinterface has no other
+pub covered_by : (k : Kin) → k.interfaces ≡ Bare → ImposesShared k → IsCovered k
+covered_by k none fit = λ st h. each (superinterfaces k) (recursion_from_All (Contains (superinterfaces k)) (superinterfaces k) (All-contains_itself (superinterfaces k))) st h
+  where
+    over : (j : Kin) → Contains (superinterfaces k) j → IsOverAbove k j
+    over j there = record {
+      above = fit.above;
+      up = sym (ap (λ (f : Forest). first (upward f)) fit.up);
+      over = subst (λ (ks : List Kin). Contains ks j) (over_same k fit.above fit.up none) there;
+    }
+
+    each : (js : List Kin) → AllByRecursion (Contains (superinterfaces k)) js → (st : State) → AllMet st (constraints_above k) → AllMet st (flat_map (λ (j : Kin). flat_map (fewer_inherited k j) j.file.methods) js)
+    each [] there st h = tt
+    each (j ∷ js) there st h =
+        met_both st (flat_map (fewer_inherited k j) j.file.methods) (flat_map (λ (x : Kin). flat_map (fewer_inherited k x) x.file.methods) js) (fit.each j (over j there.0) there.0 st h) (each js there.1 st h)
+
+-- ---- as rows tell it
+
+-- the superclass of the class of a lineage is fit for that
+pub fit_at : (l : Lined) (up : Rowed) (rows : List Rowed) → IsPart rows l → (ms : List Member) → Some (kin_at l up) ≡ first (superclasses (kin_of l)) → is_interface (file_of up.file) ≡ false
+    → ms ≡ (file_of up.file).methods → AllByRecursion (λ (m : Member). (takes_part m.key (bare up) ≡ true) ⊎ IsUnmixed rows m.key) ms → ImposesShared (kin_of l)
+fit_at l up rows part ms above class made seen =
     let known : List Kin = kins l.above in
     let s : Kin = kin_at l up in
     let front : kin_named known s.class ≡ Some s = front_is (kin_named known s.class) s (above ∙ ap (λ (cs : List Class). first (upward (forest known cs))) (up_class known l.own s above)) in
     let one : (kin_of l).superclass ≡ alone s = ap (λ (cs : List Class). forest known cs) (up_class known l.own s above) ∙ ap (λ (o : Option Kin). in_front o Bare) front in
-    let over : (kin_of l).interfaces ≡ Bare = ap (λ (cs : List Class). forest known cs) (none_over l.own (ap names_interfaces (sym same) ∙ none)) in
-    covered (IsUnmixed rows) (kin_of l) s one over class (subst (λ (xs : List Member). AllByRecursion (λ (m : Member). (takes_part m.key (bare up) ≡ true) ⊎ IsUnmixed rows m.key) xs) made seen) (over_unmixed l rows part)
+    imposes (IsUnmixed rows) (kin_of l) s one class (subst (λ (xs : List Member). AllByRecursion (λ (m : Member). (takes_part m.key (bare up) ≡ true) ⊎ IsUnmixed rows m.key) xs) made seen) (over_unmixed l rows part)
+
+-- and so is one that names no superinterface covered
+pub covered_at : (l : Lined) (own : Rowed) → own ≡ l.own → names_interfaces own ≡ false → ImposesShared (kin_of l) → IsCovered (kin_of l)
+covered_at l own same none fit =
+    covered_by (kin_of l) (ap (λ (cs : List Class). forest (kins l.above) cs) (none_over l.own (ap names_interfaces (sym same) ∙ none))) fit
+
+-- ---- rows that are marked
+
+found_there : (ks : List Kin) (i : ℕ) (k : Kin) → slice_get ks i ≡ Some k → Contains ks k
+found_there [] zero k e = absurd cc
+found_there [] (suc i) k e = absurd cc
+found_there (x ∷ ks) zero k e = Contains-append_left (x ∷ []) ks k (0, omega arith, same_Some x k e)
+found_there (x ∷ ks) (suc i) k e = Contains-append_right (x ∷ []) ks k (found_there ks i k e)
+
+-- the methods of a row that is marked impose what is met
+pub shared_met : (l : Lined) (over : List Rowed) (marks : List Bool) (i : ℕ) (r : Rowed) → ImposesShared (kin_of l) → AreOver l over → AreShared (kin_of l) (superinterfaces (kin_of l)) marks → slice_get marks i ≡ Some true → slice_get over i ≡ Some r
+    → (st : State) → AllMet st (constraints_above (kin_of l)) → AllMet st (flat_map (fewer_inherited (kin_of l) (bare r)) (bare r).file.methods)
+shared_met l over marks i r fit (inl none) shared marked at st h = absurd (no_row i (subst (λ (rs : List Rowed). slice_get rs i ≡ Some r) none at))
+  where
+    no_row : (n : ℕ) → slice_get [] n ≡ Some r → ⊥
+    no_row zero e = cc
+    no_row (suc n) e = cc
+shared_met l over marks i r fit (inr all) shared marked at st h =
+    let j : Kin = kin_at all.0 r in
+    let there : slice_get (superinterfaces (kin_of l)) i ≡ Some j = ap (λ (ks : List Kin). slice_get ks i) (sym all.1) ∙ slice_get-map (kin_at all.0) over i ∙ ap (λ (o : Option Rowed). option_map (kin_at all.0) o) at in
+    fit.each j (shared i j marked there) (found_there (superinterfaces (kin_of l)) i j there) st h
+
+-- the row that is read at a place stands there
+pub row_at : {A : Type 0} (rows : List A) (i : ℕ) (x : A) → i < length rows → x ≡ get_or rows i x → slice_get rows i ≡ Some x
+row_at [] i x lt e = absurd (omega (arith, lt))
+row_at (y ∷ rows) zero x lt e = ap (λ z. Some z) (sym e)
+row_at (y ∷ rows) (suc i) x lt e = row_at rows i x (omega (arith, lt)) e
+
+pub took_rows : {A : Type 0} (rows : List A) (i : ℕ) → length rows ≤ i → take i rows ≡ rows
+took_rows [] zero h = refl
+took_rows [] (suc i) h = refl
+took_rows (x ∷ rows) zero h = absurd (omega (arith, h))
+took_rows (x ∷ rows) (suc i) h = ap (λ ys. x ∷ ys) (took_rows rows i (omega (arith, h)))
+
+-- what was added for all rows is for all superinterfaces
+pub all_left_rows : {A : Type 0} (l : Lined) (own : Rowed) (over : List Rowed) → is_interface (file_of l.own.file) ≡ false → AddAll l over → (v : A → Rowed) (rows : List A) (old new : List Need) → map v rows ≡ over
+    → AddsLeft (kin_of l) old (flat_map (λ x. by_row (kin_of l) (v x)) rows) new → AddsLeft (kin_of l) old (by_superinterfaces fewer_inherited (kin_of l)) new
+all_left_rows l own over class add v rows old new same left =
+    subst (λ (ns : List Need). AddsLeft (kin_of l) old ns new)
+    (by_rows v (kin_of l) rows ∙ ap (by_methods bare (λ j. fewer_inherited (kin_of l) (bare j))) same ∙ add.second_are class) left
+
+-- what was added for the first so many of the rows
+abbrev pub AddsFor : {A : Type 0} → (A → Rowed) → Kin → List Need → List A → List Need → Type 0
+AddsFor v c old rows new = AddsLeft c old (flat_map (λ x. flat_map (fewer_inherited c (bare (v x))) (bare (v x)).file.methods) rows) new
+
+-- a row more
+pub row_left : {A : Type 0} (v : A → Rowed) (c : Kin) (old mid new : List Need) (rows : List A) (i : ℕ) (x : A) → i < length rows → x ≡ get_or rows i x → AddsFor v c old (take i rows) mid
+    → AddsLeft c mid (flat_map (fewer_inherited c (bare (v x))) (bare (v x)).file.methods) new → AddsFor v c old (take (i + 1) rows) new
+row_left v c old mid new rows i x lt at so_far one =
+    let f : _ → List Need = λ y. flat_map (fewer_inherited c (bare (v y))) (bare (v y)).file.methods in
+    let parts : take (i + 1) rows ≡ take i rows ++ x ∷ [] = take_more rows i x lt ∙ ap (λ y. take i rows ++ y ∷ []) (sym at) in
+    let all : flat_map f (take i rows) ++ f x ≡ flat_map f (take (i + 1) rows) =
+    ap (λ (ns : List Need). flat_map f (take i rows) ++ ns) (sym (append-nil (f x))) ∙ sym (flat_map-append f (take i rows) (x ∷ [])) ∙ ap (λ ys. flat_map f ys) (sym parts) in
+    subst (λ (ns : List Need). AddsLeft c old ns new) all (left_more c old mid new (flat_map f (take i rows)) (f x) so_far one)

@@ -1,5 +1,5 @@
 -- The few equalities of a preparation stand for all of them.
-use Rattle.std.proofs.Common.{◌≡◌, inl, inr, ◌≤◌, ℕ, Bool, true, false, ◌&&◌, ◌||◌, not, if◌then◌else◌, List, [], ◌∷◌, ◌++◌, map, filter, length, refl, ap, sym, subst, ◌∙◌, arith, append-nil, length-append}
+use Rattle.std.proofs.Common.{◌≡◌, inl, inr, ◌≤◌, ℕ, Bool, true, false, ◌&&◌, ◌||◌, not, if◌then◌else◌, List, [], ◌∷◌, ◌++◌, map, filter, length, refl, ap, sym, subst, ◌∙◌, arith, append-nil, append_assoc, length-append}
 use Rattle.std.specs.Prelude.{◌==◌, flat_map, nat_le}
 use Rattle.std.specs.List.{Contains, list_any}
 use Rattle.std.proofs.lemmas.Bool.{eqb-true}
@@ -17,7 +17,7 @@ use Rattle.cl_model.proofs.Runs.{joined_self}
 use Rattle.cl_hierarchy.specs.Imposed.{AreEnough, constraints_above, known_by}
 use Rattle.cl_hierarchy.specs.declared.equalities.Given.{Given}
 use Rattle.cl_hierarchy.specs.declared.equalities.Given.TheVariants as givens
-use Rattle.cl_preparation.specs.Fewer.{AreFew, IsCovered, by_superinterfaces, fewer_constraints_of, fewer_declared, fewer_inherited, is_between, is_new, loaders, loaders_over, others_after}
+use Rattle.cl_preparation.specs.Fewer.{AddsLeft, AreFew, IsCovered, by_superinterfaces, fewer_constraints_of, fewer_declared, fewer_inherited, is_between, is_new, loaders, loaders_over, others_after}
 
 -- ---- few that stand for all where this holds
 
@@ -226,6 +226,48 @@ few_given given c needs e = record {
 
 -- ---- what the superclass imposes
 
+-- some of the few, by way of these
+stand_through : (known : State → Type 0) (all mid few : List Need) → Stand Any all mid → Stand known mid few → Stand known all few
+stand_through known all mid few first second = record {
+  no_more = (let one = first.no_more in let two_ = second.no_more in omega arith);
+  among = λ n h. first.among n (second.among n h);
+  met = λ s k h. first.met s tt (second.met s k h);
+  next = λ s n k h. first.next s n tt (second.next s n k h);
+}
+
+enough_stand : (known all few : List Need) → AreEnough known all few → Stand (λ s. AllMet s known) all few
+enough_stand known all few are = record { no_more = are.no_more; among = are.among; met = are.met; next = are.next }
+
+stand_enough : (known all few : List Need) → Stand (λ s. AllMet s known) all few → AreEnough known all few
+stand_enough known all few st = record { no_more = st.no_more; among = st.among; met = st.met; next = st.next }
+
+-- ---- what is left, step by step
+
+pub left_none : (c : Kin) (old : List Need) → AddsLeft c old [] old
+left_none c old = record { added = []; more = sym (append-nil old); enough = stand_enough (constraints_above c) [] [] (stand_same (λ s. AllMet s (constraints_above c)) []) }
+
+-- all were added
+pub left_all : (c : Kin) (old all new : List Need) → new ≡ old ++ all → AddsLeft c old all new
+left_all c old all new e = record { added = all; more = e; enough = stand_enough (constraints_above c) all all (stand_same (λ s. AllMet s (constraints_above c)) all) }
+
+-- none was, since all are met
+pub left_out : (c : Kin) (old all : List Need) → ((s : State) → AllMet s (constraints_above c) → AllMet s all) → AddsLeft c old all old
+left_out c old all met = record { added = []; more = sym (append-nil old); enough = stand_enough (constraints_above c) all [] (stand_left (λ s. AllMet s (constraints_above c)) all met) }
+
+-- one list after another
+pub left_more : (c : Kin) (old mid new xs ys : List Need) → AddsLeft c old xs mid → AddsLeft c mid ys new → AddsLeft c old (xs ++ ys) new
+left_more c old mid new xs ys first second =
+    let known : State → Type 0 = λ s. AllMet s (constraints_above c) in
+    let a = enough_stand (constraints_above c) xs first.added first.enough in
+    let b = enough_stand (constraints_above c) ys second.added second.enough in
+    record {
+      added = first.added ++ second.added;
+      more = second.more ∙ ap (λ (ns : List Need). ns ++ second.added) first.more ∙ append_assoc old first.added second.added;
+      enough =
+          stand_enough (constraints_above c) (xs ++ ys) (first.added ++ second.added)
+          (stand_both known xs ys first.added second.added a (stand_where known (λ s. known s × AllMet s first.added) ys second.added (λ s k. k.0) b));
+    }
+
 second_met : (c : Kin) (b : Bool) (s : State) → AllMet s (by_superinterfaces fewer_inherited c) → AllMet s (if b then [] else by_superinterfaces for_inherited c)
 second_met c true s h = tt
 second_met c false s h = (second_stand c false).met s tt h
@@ -257,3 +299,18 @@ few_covered c needs covered e =
       };
       exactly = λ none. absurd (not_nothing none);
     }
+
+-- what is left of what a class inherits, behind what it declares
+pub few_left : (c : Kin) (first needs : List Need) → is_interface c.file ≡ false → first ≡ flat_map (fewer_declared c) c.file.methods → AddsLeft c first (by_superinterfaces fewer_inherited c) needs → AreFew givens.Superclass c needs
+few_left c first needs class e left =
+    let known : State → Type 0 = λ s. AllMet s (constraints_above c) in
+    let all : List Need = flat_map (for_declared c) c.file.methods in
+    let few : List Need = flat_map (fewer_declared c) c.file.methods in
+    let rest : List Need = by_superinterfaces for_inherited c in
+    let one = stand_where Any known all few (λ s k. tt) (stand_each (for_declared c) (fewer_declared c) c.file.methods (declared_stand c)) in
+    let two_ : Stand known rest left.added = stand_through known rest (by_superinterfaces fewer_inherited c) left.added (second_stand c false) (enough_stand (constraints_above c) (by_superinterfaces fewer_inherited c) left.added left.enough) in
+    let both : Stand known (all ++ rest) (few ++ left.added) = stand_both known all rest few left.added one (stand_where known (λ s. known s × AllMet s few) rest left.added (λ s k. k.0) two_) in
+    let are : Stand known (constraints_of c) (few ++ left.added) = subst (λ (b : Bool). Stand known (all ++ (if b then [] else rest)) (few ++ left.added)) (sym class) both in
+    let is : few ++ left.added ≡ needs = ap (λ (ns : List Need). ns ++ left.added) (sym e) ∙ sym left.more in
+    let st : Stand known (constraints_of c) needs = subst (λ (ns : List Need). Stand known (constraints_of c) ns) is are in
+    record { enough = stand_enough (constraints_above c) (constraints_of c) needs st; exactly = λ none. absurd (not_nothing none) }

@@ -1,17 +1,22 @@
 -- What is kept of a class and its superclasses while those below are prepared (JVMS SE 8, 5.4.2).
-use Rattle.std.specs.Prelude.{◌≡◌, false, List, ◌∷◌, Some}
+use Rattle.std.specs.Prelude.{◌≡◌, ◌⊎◌, ℕ, Bool, false, true, List, [], ◌∷◌, Some, flat_map, map, slice_get}
 use Rattle.cl_classfile.specs.Files.{file_of, is_interface}
 use Rattle.cl_model.specs.declared.class.Class.{Class}
-use Rattle.cl_model.specs.Lineages.{Kin, first, superclasses}
-use Rattle.cl_hierarchy.specs.Lineages.{Lined, kin_of, rows_in}
+use Rattle.cl_model.specs.Lineages.{Kin, first, superclasses, superinterfaces}
+use Rattle.cl_model.specs.States.{AllMet, Need, State}
+use Rattle.cl_hierarchy.specs.Lineages.{Lined, kin_at, kin_of, rows_in}
+use Rattle.cl_hierarchy.specs.Imposed.{constraints_above}
+use Rattle.cl_hierarchy.specs.OversAt.{AreShared}
 use Rattle.cl_hierarchy.specs.Rows.{Rowed}
 use Rattle.cl_hierarchy.specs.Trees.{kin_named, kins}
 use Rattle.cl_preparation.specs.declared.methods_above.Above.{Above}
 use Rattle.cl_preparation.specs.declared.declarers.MethodTexts.{MethodTexts}
 use Rattle.cl_preparation.specs.declared.survey.Survey.{Survey}
 use Rattle.cl_preparation.specs.declared.kept.Kept.{Kept}
+use Rattle.cl_preparation.specs.Fewer.{fewer_inherited}
 use Rattle.cl_preparation.specs.MethodsAbove.{AreTold}
 use Rattle.cl_preparation.specs.Nearby.{AddAll}
+use Rattle.cl_preparation.specs.Relatives.{bare}
 use Rattle.cl_preparation.specs.Surveys.{Surveys}
 use Rattle.indexmap.specs.IndexMap.{IndexMap}
 
@@ -25,12 +30,34 @@ pub record IsKept (l : Lined) (u : Kept) : Type 0 where
 abbrev pub IsUnder : Kin → Class → Type 0
 IsUnder k c = (s : Kin) × (Some s ≡ first (superclasses k)) × (s.class ≡ c)
 
+-- these are the rows of all superinterfaces of a class, or none
+abbrev pub AreOver : Lined → List Rowed → Type 0
+AreOver l over =
+    (over ≡ []) ⊎ ((whole : Lined) × (map (kin_at whole) over ≡ superinterfaces (kin_of l)))
+
+-- what the methods of a superinterface of a class impose with what it inherits, by its row (5.4.2)
+abbrev pub by_row : Kin → Rowed → List Need
+by_row c r = flat_map (fewer_inherited c (bare r)) (bare r).file.methods
+
+-- all of that is met where what the superclass imposes is (5.4.2)
+abbrev pub IsImposed : Kin → Rowed → Type 0
+IsImposed c r = (s : State) → AllMet s (constraints_above c) → AllMet s (by_row c r)
+
+-- it is so of those of these rows that are marked
+abbrev pub AreImposed : Kin → List Rowed → List Bool → Type 0
+AreImposed c rows marks =
+    (i : ℕ) (r : Rowed) → slice_get marks i ≡ Some true → slice_get rows i ≡ Some r
+    → IsImposed c r
+
 -- a class that is no interface, with what its methods are looked up in: a survey, what its
--- superclasses declare, and superinterfaces that add what all do (5.4.2)
+-- superclasses declare, and superinterfaces that add what all do, some of which are marked as its
+-- superclass's too (5.4.2)
 pub record IsChained {S : Type 0} (l : Lined) (own : Rowed) (survey : Survey)
-    (above : IndexMap MethodTexts Above S) (over : List Rowed) : Type 0 where
+    (above : IndexMap MethodTexts Above S) (over : List Rowed) (shared : List Bool) : Type 0 where
   pub own_is : own ≡ l.own
   pub class : is_interface (file_of l.own.file) ≡ false
   pub surveyed : Surveys l survey
   pub above_are : AreTold above (superclasses (kin_of l))
   pub over_are : AddAll l over
+  pub over_in : AreOver l over
+  pub shared_are : AreShared (kin_of l) (superinterfaces (kin_of l)) shared

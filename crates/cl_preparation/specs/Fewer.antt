@@ -1,11 +1,12 @@
 -- The few equalities of a preparation that stand for all of them (JVMS SE 8, 5.3.4, 5.4.2).
-use Rattle.std.specs.Prelude.{◌≡◌, ◌==◌, ℕ, Bool, true, ◌&&◌, not, if◌then◌else◌, List, [], ◌∷◌, ◌++◌, map, filter, flat_map}
+use Rattle.std.specs.Prelude.{◌≡◌, ◌==◌, ℕ, Bool, Contains, true, ◌&&◌, not, if◌then◌else◌, List, [], ◌∷◌, ◌++◌, map, filter, flat_map}
 use Rattle.std.specs.List.{list_any}
 use Rattle.cl_classfile.specs.Files.{Key, Member, is_interface}
-use Rattle.cl_model.specs.Lineages.{Kin, superinterfaces}
+use Rattle.cl_model.specs.Lineages.{Kin, alone, superinterfaces}
 use Rattle.cl_model.specs.Preparation.{constraints_of, equals_of, for_inherited, overridden, takes_part}
 use Rattle.cl_model.specs.States.{AllMet, Entry, Equal, Need, State}
 use Rattle.cl_hierarchy.specs.Imposed.{AreEnough, constraints_above, known_by}
+use Rattle.cl_hierarchy.specs.OversAt.{IsOverAbove}
 use Rattle.cl_hierarchy.specs.declared.equalities.Given.{Given}
 use Rattle.cl_hierarchy.specs.declared.equalities.Given.TheVariants as givens
 
@@ -71,6 +72,20 @@ fewer_constraints_of c =
 abbrev pub IsCovered : Kin → Type 0
 IsCovered c =
     (s : State) → AllMet s (constraints_above c) → AllMet s (by_superinterfaces fewer_inherited c)
+
+-- the superclass imposes what a class would impose with each superinterface that it has too (5.4.2)
+pub record ImposesShared (c : Kin) : Type 0 where
+  pub above : Kin
+  pub up : c.superclass ≡ alone above
+  pub each :
+      (j : Kin) → IsOverAbove c j → Contains (superinterfaces c) j → (s : State)
+      → AllMet s (constraints_above c) → AllMet s (flat_map (fewer_inherited c j) j.file.methods)
+
+-- needs that stand for all of these were added, where what the superclass imposes is met (5.4.2)
+pub record AddsLeft (c : Kin) (old all new : List Need) : Type 0 where
+  pub added : List Need
+  pub more : new ≡ old ++ added
+  pub enough : AreEnough (constraints_above c) all added
 
 -- these stand for all, where this is given; where nothing is, they are just the few (5.4.2)
 pub record AreFew (given : Given) (c : Kin) (needs : List Need) : Type 0 where

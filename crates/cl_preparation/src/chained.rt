@@ -1,16 +1,16 @@
 //! The few loading constraints of a class that is no interface, where what its superclasses declare is kept, and the lineage was
 //! surveyed: one look for each of its methods (JVMS SE 8, 5.3.4, 5.4.2).
 
-ghost use Rattle.std.specs.Prelude.{◌≡◌, ◌++◌, [], flat_map, true, IfOk, OnOk};
+ghost use Rattle.std.specs.Prelude.{◌≡◌, ◌++◌, [], Some, flat_map, map, slice_get, true, IfOk, OnOk};
 ghost use Rattle.cl_hierarchy.specs.Imposed.{needs_of};
 ghost use Rattle.cl_hierarchy.specs.Lineages.{kin_of};
-ghost use Rattle.cl_hierarchy.specs.declared.equalities.Given.TheVariants as givens;
 ghost use Rattle.cl_model.specs.Preparation.{takes_part};
-ghost use Rattle.cl_preparation.specs.Fewer.{AreFew, IsCovered, by_superinterfaces, fewer_declared, fewer_inherited, loaders_over, others_after};
+ghost use Rattle.cl_preparation.specs.Chains.{AreImposed, IsImposed, by_row};
+ghost use Rattle.cl_preparation.specs.Fewer.{AddsLeft, AreFew, by_superinterfaces, fewer_declared, fewer_inherited, loaders_over, others_after};
 ghost use Rattle.cl_preparation.specs.Relatives.{bare};
 
 use crate::away::Away;
-use crate::covered::is_covered;
+use crate::covered::is_fit;
 use crate::described::{Described, push_equals};
 use crate::inherited::other_than;
 use crate::key::MethodKey;
@@ -18,13 +18,23 @@ use crate::listed::Listed;
 use crate::method::Method;
 use crate::methods_above::{MethodsAbove, nearest_above, wide_above};
 use crate::plain::push_with;
-use crate::relative::Relative;
+use crate::relative::{Relative, names_interfaces};
 use crate::survey::Survey;
 use cl_hierarchy::{ClassRow, Given, Lineage};
 use cl_model::{Equality, Told};
 use std::alloc::{AllocError, Global};
 use std::marker::Model;
 use std::sync::Arc;
+
+/// Whether a place is marked.
+fn is_marked(marks: &[bool], place: usize) -> bool
+    ensures { result ≡ true → slice_get marks.now place ≡ Some true }
+{
+    match marks.get(place) {
+        Some(is_marked) => *is_marked,
+        None => false,
+    }
+}
 
 /// A class with what its methods are looked up in.
 pub(crate) struct Chained<'a, 'b, 'c, 'd, T: Told> {
@@ -34,6 +44,8 @@ pub(crate) struct Chained<'a, 'b, 'c, 'd, T: Told> {
     pub above: &'c MethodsAbove,
     /// Superinterfaces, in preorder, or none where these add nothing.
     pub over: Away<'d, T>,
+    /// Which of them are known to be the superclass's too.
+    pub shared: &'d [bool],
 }
 
 impl<'a, 'b, 'c, 'd, T: Told> Drop for Chained<'a, 'b, 'c, 'd, T> {
@@ -44,6 +56,7 @@ impl<'a, 'b, 'c, 'd, T: Told> Drop for Chained<'a, 'b, 'c, 'd, T> {
             survey: _,
             above: _,
             over: _,
+            shared: _,
         } = self;
     }
 }
@@ -56,7 +69,7 @@ impl<'a, 'b, 'c, 'd, T: Told> Model for Chained<'a, 'b, 'c, 'd, T> {
 
     ghost view = { λ x. x.lineage.now };
 
-    ghost invariant = { λ x. IsChained x.lineage.now x.own x.survey.now x.above.now x.over };
+    ghost invariant = { λ x. IsChained x.lineage.now x.own x.survey.now x.above.now x.over x.shared.now };
 }
 
 impl<'a, 'b, 'c, 'd, T: Told> Chained<'a, 'b, 'c, 'd, T> {
@@ -199,16 +212,76 @@ impl<'a, 'b, 'c, 'd, T: Told> Chained<'a, 'b, 'c, 'd, T> {
         self.push_rows(alloc, needs, self.over.as_slice())
     }
 
-    /// Whether nothing is to be imposed with what is inherited, where this is given: superinterfaces add nothing, or the
-    /// superclass has imposed it.
-    fn is_covered(&self, alloc: Global, given: Given) -> Result<bool, AllocError>
-        ensures { IfOk result (λ b. b ≡ true → (given ≡ givens.Superclass)
-            × IsCovered (kin_of self.now)) }
+    /// Adds what the methods of the superinterface of a row impose, if it is not known to be the superclass's too, which has imposed it.
+    fn push_new_row(
+        &self,
+        alloc: Global,
+        needs: &mut Vec<Equality>,
+        row: &Arc<ClassRow<T>>,
+        is_shared: bool,
+    ) -> Result<(), AllocError>
+        requires imposed { is_shared ≡ true → IsImposed (kin_of self.now) row.now.value }
+        ensures { OnOk result (AddsLeft (kin_of self.now) (needs_of needs.old.items)
+            (by_row (kin_of self.now) row.now.value) (needs_of needs.new.items)) }
     {
+        if is_shared {
+            return Ok(());
+        }
+        self.push_row(alloc, needs, row)
+    }
+
+    /// Adds what the methods of the superinterfaces of these rows impose, but for those that are marked as the superclass's too.
+    fn push_new_rows(
+        &self,
+        alloc: Global,
+        needs: &mut Vec<Equality>,
+        rows: &[&Arc<ClassRow<T>>],
+        shared: &[bool],
+    ) -> Result<(), AllocError>
+        requires imposed { AreImposed (kin_of self.now) (map (λ r. r.now.value) rows.now)
+            shared.now }
+        ensures { OnOk result (AddsLeft (kin_of self.now) (needs_of needs.old.items)
+            (flat_map (λ r. by_row (kin_of self.now) r.now.value) rows.now)
+            (needs_of needs.new.items)) }
+    {
+        for at in 0..rows.len() {
+            self.push_new_row(alloc, needs, rows[at], is_marked(shared, at))?;
+        }
+        Ok(())
+    }
+
+    /// Adds what is left of what superinterfaces impose with what is inherited, where the superclass has imposed its own: of a class
+    /// that names none nothing is.
+    fn push_left(&self, alloc: Global, needs: &mut Vec<Equality>) -> Result<(), AllocError>
+        ensures { OnOk result (AddsLeft (kin_of self.now) (needs_of needs.old.items)
+            (by_superinterfaces fewer_inherited (kin_of self.now)) (needs_of needs.new.items)) }
+    {
+        // (a look at the superclass's methods is not worth it where there is nothing to leave out)
+        if self.over.is_empty() || !is_fit(alloc, self.survey, self.lineage)? {
+            return self.push_over(alloc, needs);
+        }
+        if !names_interfaces(self.own.row()) {
+            return Ok(());
+        }
+        self.push_new_rows(alloc, needs, self.over.as_slice(), self.shared)
+    }
+
+    /// Adds what is to be imposed with what is inherited, where this is given.
+    fn push_inherited(
+        &self,
+        alloc: Global,
+        needs: &mut Vec<Equality>,
+        given: Given,
+    ) -> Result<(), AllocError>
+        requires declared { needs_of needs.old.items ≡ flat_map
+            (fewer_declared (kin_of self.now)) (kin_of self.now).file.methods }
+        ensures { OnOk result (AreFew given (kin_of self.now) (needs_of needs.new.items)) }
+    {
+        // brings what is kept of the class
+        let _ = &self.lineage;
         match given {
-            Given::Nothing => Ok(false),
-            Given::Superclass if self.over.is_empty() => Ok(false),
-            Given::Superclass => is_covered(alloc, self.survey, self.lineage),
+            Given::Nothing => self.push_over(alloc, needs),
+            Given::Superclass => self.push_left(alloc, needs),
         }
     }
 
@@ -219,10 +292,7 @@ impl<'a, 'b, 'c, 'd, T: Told> Chained<'a, 'b, 'c, 'd, T> {
         let mut needs = Vec::new(alloc);
         let methods = self.own.methods(alloc)?;
         self.push_each_declared(alloc, &mut needs, methods.as_slice())?;
-        if self.is_covered(alloc, given)? {
-            return Ok(needs);
-        }
-        self.push_over(alloc, &mut needs)?;
+        self.push_inherited(alloc, &mut needs, given)?;
         Ok(needs)
     }
 }

@@ -1,16 +1,16 @@
-//! Whether the preparation of a class's superclass imposes all that is to be imposed with what the class inherits (JVMS SE 8, 5.4.2).
+//! Whether the preparation of a class's superclass imposes what is to be imposed with what the class inherits (JVMS SE 8, 5.4.2).
 
 ghost use Rattle.std.specs.Prelude.{◌≡◌, ◌⊎◌, List, true, IfOk};
 ghost use Rattle.std.specs.List.{AllByRecursion};
 ghost use Rattle.cl_hierarchy.specs.Lineages.{kin_of};
 ghost use Rattle.cl_hierarchy.specs.Rows.{Rowed};
 ghost use Rattle.cl_model.specs.Preparation.{takes_part};
-ghost use Rattle.cl_preparation.specs.Fewer.{IsCovered};
+ghost use Rattle.cl_preparation.specs.Fewer.{ImposesShared};
 ghost use Rattle.cl_preparation.specs.Relatives.{bare};
 ghost use Rattle.cl_preparation.specs.Surveys.{IsSurvey, IsUnmixed, Surveys};
 
 use crate::method::Method;
-use crate::relative::{Relative, names_interfaces};
+use crate::relative::Relative;
 use crate::survey::Survey;
 use cl_hierarchy::Lineage;
 use cl_model::Told;
@@ -51,19 +51,16 @@ fn are_seen<T: Told>(
     Ok(true)
 }
 
-/// Whether the superclass of a class, which names no superinterface itself, is known to impose all that the class would impose with
-/// what it inherits: it has the same superinterfaces, and hides none of their methods behind a private or a static one.
-pub(crate) fn is_covered<T: Told>(
+/// Whether the superclass of a class is known to impose all that the class would impose with those superinterfaces that it has too:
+/// it is no interface, and hides none of their methods behind a private or a static one.
+pub(crate) fn is_fit<T: Told>(
     alloc: Global,
     survey: &Survey,
     lineage: &Lineage<T>,
 ) -> Result<bool, AllocError>
     requires { Surveys lineage.now survey.now }
-    ensures { IfOk result (λ b. b ≡ true → IsCovered (kin_of lineage.now)) }
+    ensures { IfOk result (λ b. b ≡ true → ImposesShared (kin_of lineage.now)) }
 {
-    if names_interfaces(lineage.own()) {
-        return Ok(false);
-    }
     let Some(row) = lineage.superclass() else {
         return Ok(false);
     };

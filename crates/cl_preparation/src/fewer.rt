@@ -3,12 +3,14 @@
 ghost use Rattle.std.specs.Prelude.{◌≡◌, ◌≤◌, ◌++◌, [], Some, if◌then◌else◌, false, true, length, map, filter, flat_map, IfOk, IfSome, OnOk};
 ghost use Rattle.std.specs.List.{AllByRecursion};
 ghost use Rattle.cl_classfile.specs.Files.{file_of, is_interface};
-ghost use Rattle.cl_model.specs.Lineages.{superclasses};
+ghost use Rattle.cl_model.specs.Lineages.{superclasses, superinterfaces};
 ghost use Rattle.cl_model.specs.Preparation.{constraints_of};
 ghost use Rattle.cl_hierarchy.specs.ClassesAt.{lined_at};
 ghost use Rattle.cl_hierarchy.specs.Imposed.{AreEnough, OfPreparation, known_by, needs_of};
 ghost use Rattle.cl_hierarchy.specs.declared.equalities.Given.TheVariants as givens;
 ghost use Rattle.cl_hierarchy.specs.Lineages.{IsRowIn, Lined, kin_at, kin_of, others_of, rows_in};
+ghost use Rattle.cl_hierarchy.specs.OversAt.{AreShared};
+ghost use Rattle.cl_preparation.specs.Chains.{AreOver};
 ghost use Rattle.cl_preparation.specs.Fewer.{AreFew, by_superinterfaces, fewer_constraints_of, fewer_inherited, loaders, others_after};
 ghost use Rattle.cl_preparation.specs.MethodsAbove.{AreTold};
 ghost use Rattle.cl_preparation.specs.Nearby.{AddAll, AreNear, near_declared, near_loaders};
@@ -233,13 +235,25 @@ fn over_at<T: Told>(
 ) -> Result<Away<'_, T>, AllocError>
     requires within { place ≤ length whole.now.above }
     ensures { (l : Lined) → l ≡ lined_at whole.now place → (may_add ≡ false → AddAll l [])
-        → IfOk result (λ a. AddAll l a) }
+        → IfOk result (λ a. AddAll l a × AreOver l a) }
 {
     if !may_add {
         return Ok(Away::unfiltered(alloc, Vec::new(alloc)));
     }
     let rows = whole.superinterfaces_at(alloc, place)?;
     Ok(Away::unfiltered(alloc, rows))
+}
+
+/// Which of these are known to be its superclass's too.
+fn shared_at<T: Told>(whole: &Lineages<T>, place: usize) -> &[bool]
+    requires within { place ≤ length whole.now.above }
+    ensures { AreShared (kin_of (lined_at whole.now place))
+        (superinterfaces (kin_of (lined_at whole.now place))) result.now }
+{
+    match whole.shared_at(place) {
+        Some(shared) => shared,
+        None => &[],
+    }
 }
 
 /// The few equalities of the class at a place, which is no interface, with what stands near it.
@@ -317,12 +331,14 @@ fn chained_needs<T: Told>(
     let may_add = may_add_by(survey, lineage);
     find_over(alloc, whole, place, may_add)?;
     let over = over_at(alloc, whole.lineages(), place, may_add)?;
+    let shared = shared_at(whole.lineages(), place);
     let chained = Chained {
         lineage,
         own,
         survey,
         above,
         over,
+        shared,
     };
     let needs = chained.needs(alloc, given);
     drop(chained);
@@ -446,7 +462,8 @@ fn needs_at<T: Told>(
     if has_own_over(class) {
         return Ok(Vec::new(alloc));
     }
-    whole.find_supers(alloc)?;
+    // (they are kept for the interface below)
+    whole.find_superinterfaces(alloc, place)?;
     let over = whole.lineages().superinterfaces_at(alloc, place)?;
     interface_needs(alloc, own, over)
 }

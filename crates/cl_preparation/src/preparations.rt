@@ -181,13 +181,6 @@ impl<T: Told> Preparations<T> {
         Ok(())
     }
 
-    /// Looks for the direct supertypes of all classes, so that they are not looked for again.
-    pub(crate) fn find_supers(&mut self, alloc: Global) -> Result<(), AllocError>
-        ensures { self.new ≡ self.old }
-    {
-        self.lineages.find_supers(alloc)
-    }
-
     /// Looks for the superinterfaces of the class at a place, so that they are not looked for again of it, nor of a class below
     /// that names none.
     pub(crate) fn find_superinterfaces(

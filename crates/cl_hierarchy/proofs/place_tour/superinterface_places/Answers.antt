@@ -16,13 +16,13 @@ loop-next-init g c = λ r at.
 pub loop-next-smaller : goal.loop-next-smaller
 loop-next-smaller g c =
     let there = row_there (λ x. x.value) c.args.rows.now c.args.start c.requires.within in
-    toured_less (map (λ x. x.value) c.args.rows.now) c.args.table.now there.0 c.loop-next.tour _ c.go.new.self c.in-Some.next c.requires.ordered c.requires.table (ap (λ (t : Placed). t.told) c.tour.view_is) (ap (λ (t : Placed). t.is_told) c.tour.view_is)
-    (ap (λ (t : Placed). t.is_left) c.tour.view_is) (sym (ap (λ (t : Placed). t.stack) c.tour.view_is) ∙ c.in-Some.ensures.items) c.in_ok-go.ensures (c.loop-next.invariant there.0 there.1)
+    toured_less (map (λ x. x.value) c.args.rows.now) c.args.table.now there.0 c.loop-next.tour _ c.move_on.new.self c.in-Some.next c.requires.ordered c.requires.table (ap (λ (t : Placed). t.told) c.tour.view_is) (ap (λ (t : Placed). t.is_told) c.tour.view_is)
+    (ap (λ (t : Placed). t.is_left) c.tour.view_is) (sym (ap (λ (t : Placed). t.stack) c.tour.view_is) ∙ c.in-Some.ensures.items) (c.loop-next.invariant there.0 there.1) _ c.requires.known c.in_ok-move_on.ensures
 
 pub loop-next-preserved : goal.loop-next-preserved
 loop-next-preserved g c = λ r at.
-    toured_on (map (λ x. x.value) c.args.rows.now) c.args.table.now r c.loop-next.tour _ c.go.new.self c.in-Some.next c.requires.ordered c.requires.table (ap (λ (t : Placed). t.told) c.tour.view_is) (ap (λ (t : Placed). t.is_told) c.tour.view_is)
-    (ap (λ (t : Placed). t.is_left) c.tour.view_is) (sym (ap (λ (t : Placed). t.stack) c.tour.view_is) ∙ c.in-Some.ensures.items) c.in_ok-go.ensures (c.loop-next.invariant r at)
+    toured_on (map (λ x. x.value) c.args.rows.now) c.args.table.now r c.loop-next.tour _ c.move_on.new.self c.in-Some.next c.requires.ordered c.requires.table (ap (λ (t : Placed). t.told) c.tour.view_is) (ap (λ (t : Placed). t.is_told) c.tour.view_is)
+    (ap (λ (t : Placed). t.is_left) c.tour.view_is) (sym (ap (λ (t : Placed). t.stack) c.tour.view_is) ∙ c.in-Some.ensures.items) (c.loop-next.invariant r at) _ c.requires.known c.in_ok-move_on.ensures
 
 pub returns : goal.returns
 returns g c = λ r at.

@@ -48,6 +48,6 @@ returns-clause-needs g c =
     let over : List Rowed = map (λ r. r.now.value) c.in_ok-over.over.items in
     let overs : map (kin_at whole) over ≡ superinterfaces (kin_of l) =
     map-map (kin_at whole) (λ r. r.now.value) c.in_ok-over.over.items ∙ c.in_ok-over.ensures.superinterfaces
-    ∙ ap (λ (x : Lined). superinterfaces (kin_of (lined_at x c.args.place))) (c.lineages-2.ensures ∙ c.find_supers.ensures ∙ c.pass_superinterfaces.ensures) ∙ ap (λ (x : Lined). superinterfaces (kin_of x)) (sym c.requires.class) in
+    ∙ ap (λ (x : Lined). superinterfaces (kin_of (lined_at x c.args.place))) (c.lineages-2.ensures ∙ c.find_superinterfaces.ensures ∙ c.pass_superinterfaces.ensures) ∙ ap (λ (x : Lined). superinterfaces (kin_of x)) (sym c.requires.class) in
     IfOk-weaker c.interface_needs.result _ _
     (λ v e. few_given c.args.given (kin_of l) (needs_of v.items) (interface_told l c.in_ok-own.own [] over (needs_of v.items) (interface_near l whole c.in_ok-own.own [] over mine inter refl overs) inter e)) c.interface_needs.ensures

@@ -11,14 +11,14 @@ use Rattle.cl_preparation.proofs.chained.Chained.push_method.Goals as goal
 
 pub returns-in_ok-described-in-Some : goal.returns-in_ok-described-in-Some
 returns-in_ok-described-in-Some g c =
-    let is = subst (λ (l : Lined). IsChained l c.self.inside.own c.self.inside.survey.now c.self.inside.above.now c.self.inside.over) c.self.view_is c.self.invariant in
+    let is = subst (λ (l : Lined). IsChained l c.self.inside.own c.self.inside.survey.now c.self.inside.above.now c.self.inside.over c.self.inside.shared.now) c.self.view_is c.self.invariant in
     let l = c.args.self.now in
     let part : c.takes_part.result ≡ true = search rules in
     let gone : c.has.result ≡ false = search rules in
     let key = c.key-key.result.now in
     let needs = needs_of c.args.needs.now.items in
     on_ok_weaker c.push_equals.result
-    (λ e. chained_inherited l c.self.inside.own c.self.inside.survey.now c.self.inside.above.now c.self.inside.over is c.args.interface.now c.args.method.now key c.in_ok-nearest.nearest (Some c.in-Some.loader) c.loader.result needs (needs_of c.push_equals.new.needs.items) c.key-key.ensures
+    (λ e. chained_inherited l c.self.inside.own c.self.inside.survey.now c.self.inside.above.now c.self.inside.over c.self.inside.shared.now is c.args.interface.now c.args.method.now key c.in_ok-nearest.nearest (Some c.in-Some.loader) c.loader.result needs (needs_of c.push_equals.new.needs.items) c.key-key.ensures
     (sym c.takes_part.ensures ∙ part) (sym c.has.ensures ∙ gone) c.loader.ensures (IfOk-at_ok _ c.in_ok-nearest.was (c.nearest_above.ensures (superclasses (kin_of l)) is.above_are))
     (sym c.in-Some.is ∙ c.other_than.ensures)
     (e ∙ ap (λ (k : Key). needs ++ equals_of k c.in-Some.loader c.loader-in-Some.result) c.in_ok-described-in-Some.ensures ∙ ap (λ n. needs ++ equals_of key c.in-Some.loader n) (c.loader-in-Some.ensures ∙ sym c.loader.ensures)))
@@ -26,11 +26,11 @@ returns-in_ok-described-in-Some g c =
 
 pub returns-in-None : goal.returns-in-None
 returns-in-None g c =
-    let is = subst (λ (l : Lined). IsChained l c.self.inside.own c.self.inside.survey.now c.self.inside.above.now c.self.inside.over) c.self.view_is c.self.invariant in
+    let is = subst (λ (l : Lined). IsChained l c.self.inside.own c.self.inside.survey.now c.self.inside.above.now c.self.inside.over c.self.inside.shared.now) c.self.view_is c.self.invariant in
     let l = c.args.self.now in
     let part : c.takes_part.result ≡ true = search rules in
     let gone : c.has.result ≡ false = search rules in
     let needs = needs_of c.args.needs.now.items in
-    chained_inherited l c.self.inside.own c.self.inside.survey.now c.self.inside.above.now c.self.inside.over is c.args.interface.now c.args.method.now c.key-key.result.now c.in_ok-nearest.nearest None c.loader.result needs needs c.key-key.ensures
+    chained_inherited l c.self.inside.own c.self.inside.survey.now c.self.inside.above.now c.self.inside.over c.self.inside.shared.now is c.args.interface.now c.args.method.now c.key-key.result.now c.in_ok-nearest.nearest None c.loader.result needs needs c.key-key.ensures
     (sym c.takes_part.ensures ∙ part) (sym c.has.ensures ∙ gone) c.loader.ensures (IfOk-at_ok _ c.in_ok-nearest.was (c.nearest_above.ensures (superclasses (kin_of l)) is.above_are))
     (sym c.in-None.is ∙ c.other_than.ensures) (sym (append-nil needs))

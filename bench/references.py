@@ -16,6 +16,7 @@
   inherits      1,000 classes of app over one that has 1,000 methods which a superinterface of boot has too: each inherits them
   renamed       the same, each of which names the superinterface too
   hiding        the same as inherits, each with a private method like one of these
+  turning       the same, like one and like another of these by turns
   offered       500 abstract classes of app under a superinterface of boot with 500 methods, none of which a class declares
   crossed       500 classes of app over one another, each of which names a superinterface of boot and declares its method
   fans          1,000 classes of app over one another, the first of which names 1,000 interfaces of boot, all with the same method
@@ -35,7 +36,7 @@
   blocks        2,000 classes over one another, in blocks of 63 loaders, each with the same method; the last is linked
 
 and of overriding, plain, topped, distinct, many, inherited, naming, interfaces, beside, comb, fringe, twos, combs, blocks, repeated,
-halves, crowned, paired, against, inherits, renamed, hiding, offered, crossed and fans one more with so many classes that it has about a megabyte, as plain_mb.
+halves, crowned, paired, against, inherits, renamed, hiding, turning, offered, crossed and fans one more with so many classes that it has about a megabyte, as plain_mb.
 
 Each is a bundle: classlink bundle < FILE.
 """
@@ -179,6 +180,10 @@ def renamed(path, count=1000):
 
 def hiding(path, count=1000):
     under_one(path, count, lambda _: ["method 0002 z0 (Lp/T;)V"])
+
+
+def turning(path, count=1000):
+    under_one(path, count, lambda place: [f"method 0002 z{place % 2} (Lp/T;)V"])
 
 
 def offered(path, count=500):
@@ -325,12 +330,12 @@ def blocks(path, count=2000):
 def main(folder):
     os.makedirs(folder, exist_ok=True)
     references = methods, settled, constraints, refused
-    chains = overriding, repeated, halves, crowned, paired, against, inherits, renamed, hiding, offered, crossed, fans, plain, topped, wide, distinct, many, inherited, naming, interfaces, beside, comb, fringe, twos, combs, blocks
+    chains = overriding, repeated, halves, crowned, paired, against, inherits, renamed, hiding, turning, offered, crossed, fans, plain, topped, wide, distinct, many, inherited, naming, interfaces, beside, comb, fringe, twos, combs, blocks
     for make in *references, ladder, links, *chains:
         make(f"{folder}/{make.__name__}")
     counts = {overriding: 15000, plain: 22000, topped: 22000, distinct: 15000, many: 1000, inherited: 14000, naming: 17000}
     for make, count in {**counts, interfaces: 14000, beside: 7000, comb: 6500, fringe: 6500, twos: 11000, combs: 5000, blocks: 14000, repeated: 7500, halves: 7000,
-        crowned: 7000, paired: 7000, against: 12000, inherits: 7000, renamed: 7000, hiding: 7000, offered: 10000, crossed: 11000, fans: 6700}.items():
+        crowned: 7000, paired: 7000, against: 12000, inherits: 7000, renamed: 7000, hiding: 7000, turning: 7000, offered: 10000, crossed: 11000, fans: 6700}.items():
         make(f"{folder}/{make.__name__}_mb", count)
 
 

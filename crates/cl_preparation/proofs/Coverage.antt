@@ -7,26 +7,25 @@ use Rattle.std.proofs.lemmas.Bool.{and_parts}
 use Rattle.std.proofs.lemmas.Grind.{flat_map-append}
 use Rattle.std.proofs.lemmas.List.{take_more}
 use Rattle.std.proofs.lemmas.Option.{same_Some, slice_get-map}
-use Rattle.std.proofs.lemmas.List.Elements.{All-contains, All-contains_itself, All-from_recursion, Contains-append_left, Contains-append_right, recursion_from_All}
+use Rattle.std.proofs.lemmas.List.Elements.{All-contains, All-from_recursion, Contains-append_left, Contains-append_right}
 use Rattle.cl_classfile.specs.Files.{Key, Member, file_of, is_interface, member, same_key}
 use Rattle.cl_model.specs.declared.class.Class.{Class}
-use Rattle.cl_model.specs.Lineages.{Bare, Forest, Kin, alone, first, if_declared, is_offered, is_virtual, method_of, once, preorder, superclasses, superinterfaces, upward}
+use Rattle.cl_model.specs.Lineages.{Bare, Forest, Kin, alone, first, if_declared, is_offered, is_virtual, method_of, once, preorder, superinterfaces, upward}
 use Rattle.cl_model.specs.Preparation.{constraints_of, equals_of, equals_with, for_declared, for_inherited, inherited_from, is_special, overridden, takes_part, with_inherited}
 use Rattle.cl_model.specs.States.{AllMet, Need, State}
 use Rattle.cl_model.proofs.Closed.{met_both}
 use Rattle.cl_model.proofs.Keys.{keys_are_told}
 use Rattle.cl_model.proofs.Progress.{met_split}
-use Rattle.cl_hierarchy.specs.Imposed.{constraints_above}
 use Rattle.cl_hierarchy.specs.Lineages.{Lined, kin_at, kin_of}
-use Rattle.cl_hierarchy.specs.OversAt.{AreShared, IsOverAbove}
 use Rattle.cl_hierarchy.specs.Rows.{Rowed}
 use Rattle.cl_hierarchy.specs.Trees.{forest, in_front, kin_named, kins}
 use Rattle.cl_hierarchy.proofs.Ways.{up_class}
-use Rattle.cl_preparation.specs.Chains.{AreOver, by_row}
+use Rattle.cl_preparation.specs.Chains.{AreHidden, AreImposed, AreOver, HasAbove, IsClassAbove, IsSharedAt, by_row, hidden_by}
 use Rattle.cl_preparation.specs.Nearby.{AddAll}
-use Rattle.cl_preparation.specs.Fewer.{AddsLeft, ImposesShared, IsCovered, by_methods, by_superinterfaces, fewer_inherited, is_between}
+use Rattle.cl_preparation.specs.Fewer.{AddsLeft, ImposesShared, by_methods, by_superinterfaces, fewer_inherited, is_between, unhidden}
 use Rattle.cl_preparation.specs.Relatives.{bare, names_interfaces}
 use Rattle.cl_preparation.specs.Surveys.{IsPart, IsUnmixed}
+use Rattle.cl_preparation.specs.Walks.{hides}
 use Rattle.cl_preparation.proofs.Chains.{by_rows, front_is}
 use Rattle.cl_preparation.proofs.Interfaces.{none_over}
 use Rattle.cl_preparation.proofs.Standing.{left_more}
@@ -90,10 +89,26 @@ over_same k s up none =
 inherits : (k s : Kin) (key : Key) → k.superclass ≡ alone s → inherited_from k key ≡ (if is_offered key s then Some s else inherited_from s key)
 inherits k s key up = ap (λ (f : Forest). find (is_offered key) (upward f)) up
 
+-- a class that hides a method declares it, and it takes no part
+hidden_has : (U : Key → Type 0) (s : Kin) → AllByRecursion (λ (m : Member). (takes_part m.key s ≡ true) ⊎ U m.key) s.file.methods → (key : Key) → hides key s ≡ true → U key
+hidden_has U s fine key on = by (method_of s key) refl on
+  where
+    by : (o : Option Member) → method_of s key ≡ o → (is_some o && not (takes_part key s)) ≡ true → U key
+    by None e on = absurd cc
+    by (Some m) e on =
+        let found = found_has (λ (x : Member). (takes_part x.key s ≡ true) ⊎ U x.key) s.file.methods key m e fine in
+        elim (subst (λ (x : Key). (takes_part x s ≡ true) ⊎ U x) found.1 found.0) [
+          | inl takes ↦ absurd (let no : true ≡ false = sym on ∙ ap not takes in cc)
+          | inr one ↦ one
+        ]
+
+and_false : (b : Bool) → (b && false) ≡ false
+and_false true = refl
+and_false false = refl
+
 -- ---- each method of each of these superinterfaces
 
-module _ (U : Key → Type 0) (k s : Kin) (st : State) (up : k.superclass ≡ alone s) (fine : AllByRecursion (λ (m : Member). (takes_part m.key s ≡ true) ⊎ U m.key) s.file.methods)
-    (firsts : AllMet st (flat_map (for_declared s) s.file.methods)) where
+module _ (k s : Kin) (st : State) (up : k.superclass ≡ alone s) (firsts : AllMet st (flat_map (for_declared s) s.file.methods)) where
   abbrev over : Key → List Kin
   over key = filter (takes_part key) (superinterfaces s)
 
@@ -123,11 +138,14 @@ module _ (U : Key → Type 0) (k s : Kin) (st : State) (up : k.superclass ≡ al
           All-contains (λ (x : Kin). takes_part key x ≡ true → AllMet st (equals_of key s.class.loader x.class.loader)) (superinterfaces s) j
           (All-from_recursion (λ (x : Kin). takes_part key x ≡ true → AllMet st (equals_of key s.class.loader x.class.loader)) (superinterfaces s) each) there part
 
-  -- it does not: it declares none, and inherits what the class inherits, or the method is of one loader
-  hidden_met : (j : Kin) (m : Member) → (U m.key → fewer_inherited k j m ≡ []) → is_offered m.key s ≡ false → takes_part m.key j ≡ true → AllMet st (for_inherited s j m) → inherited_from k m.key ≡ inherited_from s m.key
+  -- it does not: it declares none, and inherits what the class inherits, or it hides the method
+  hidden_met : (j : Kin) (m : Member) → (hides m.key s ≡ true → fewer_inherited k j m ≡ []) → is_offered m.key s ≡ false → takes_part m.key j ≡ true → AllMet st (for_inherited s j m) → inherited_from k m.key ≡ inherited_from s m.key
       → AllMet st (with_inherited m.key j (inherited_from k m.key)) ⊎ (fewer_inherited k j m ≡ [])
-  hidden_met j m unmixed off part h same = by (method_of s m.key) refl
+  hidden_met j m free off part h same = by (method_of s m.key) refl
     where
+      no_part : takes_part m.key s ≡ false
+      no_part = ap (λ (b : Bool). not (is_special m.key.name) && b) off ∙ and_false (not (is_special m.key.name))
+
       by : (o : Option Member) → method_of s m.key ≡ o → AllMet st (with_inherited m.key j (inherited_from k m.key)) ⊎ (fewer_inherited k j m ≡ [])
       by None e =
           let list : AllMet st (with_inherited m.key j (inherited_from s m.key)) =
@@ -135,14 +153,11 @@ module _ (U : Key → Type 0) (k s : Kin) (st : State) (up : k.superclass ≡ al
           (subst (λ (b : Bool). AllMet st (if b && not (is_some (method_of s m.key)) then with_inherited m.key j (inherited_from s m.key) else [])) part h) in
           inl (subst (λ (o : Option Kin). AllMet st (with_inherited m.key j o)) (sym same) list)
       by (Some x) e =
-          let found = found_has (λ (y : Member). (takes_part y.key s ≡ true) ⊎ U y.key) s.file.methods m.key x e fine in
-          elim (subst (λ (y : Key). (takes_part y s ≡ true) ⊎ U y) found.1 found.0) [
-            | inl takes ↦ absurd (let on = (and_parts (not (is_special m.key.name)) (is_offered m.key s) takes).1 in let no : false ≡ true = sym off ∙ on in cc)
-            | inr one ↦ inr (unmixed one)
-          ]
+          let hidden : hides m.key s ≡ true = ap (λ (o : Option Member). is_some o && not (takes_part m.key s)) e ∙ ap not no_part in
+          inr (free hidden)
 
-  method_met : (j : Kin) (m : Member) → Contains (superinterfaces s) j → (U m.key → fewer_inherited k j m ≡ []) → AllMet st (for_inherited s j m) → AllMet st (fewer_inherited k j m)
-  method_met j m there unmixed h = by (takes_part m.key j) (is_some (method_of k m.key)) (is_offered m.key s) refl refl refl
+  method_met : (j : Kin) (m : Member) → Contains (superinterfaces s) j → (hides m.key s ≡ true → fewer_inherited k j m ≡ []) → AllMet st (for_inherited s j m) → AllMet st (fewer_inherited k j m)
+  method_met j m there free h = by (takes_part m.key j) (is_some (method_of k m.key)) (is_offered m.key s) refl refl refl
     where
       all : List Need
       all = with_inherited m.key j (inherited_from k m.key)
@@ -159,16 +174,24 @@ module _ (U : Key → Type 0) (k s : Kin) (st : State) (up : k.superclass ≡ al
           (met_filter st is_between all (subst (λ (o : Option Kin). AllMet st (with_inherited m.key j o)) (sym same) (offered_met j m.key there pe oe)))
       by true false false pe he oe =
           let same : inherited_from k m.key ≡ inherited_from s m.key = inherits k s m.key up ∙ ap (λ (b : Bool). if b then Some s else inherited_from s m.key) oe in
-          elim (hidden_met j m unmixed oe pe h same) [
+          elim (hidden_met j m free oe pe h same) [
             | inl met ↦ subst (AllMet st) (sym (of true false pe he)) (met_filter st is_between all met)
             | inr none ↦ subst (AllMet st) (sym none) tt
           ]
 
-  methods_met : (j : Kin) (ms : List Member) → Contains (superinterfaces s) j → ((m : Member) → U m.key → fewer_inherited k j m ≡ []) → AllMet st (flat_map (for_inherited s j) ms) → AllMet st (flat_map (fewer_inherited k j) ms)
-  methods_met j [] there unmixed h = tt
-  methods_met j (m ∷ ms) there unmixed h =
-      let both = met_split st (for_inherited s j m) (flat_map (for_inherited s j) ms) h in
-      met_both st (fewer_inherited k j m) (flat_map (fewer_inherited k j) ms) (method_met j m there (unmixed m) both.0) (methods_met j ms there unmixed both.1)
+  -- of these methods, all that are not hidden
+  methods_met : (j : Kin) (hidden : Key → Bool) (ms : List Member) → Contains (superinterfaces s) j → ((m : Member) → hides m.key s ≡ true → hidden m.key ≡ false → fewer_inherited k j m ≡ []) → AllMet st (flat_map (for_inherited s j) ms)
+      → AllMet st (flat_map (fewer_inherited k j) (unhidden hidden ms))
+  methods_met j hidden [] there free h = tt
+  methods_met j hidden (m ∷ ms) there free h = by (hidden m.key) refl (λ rest. methods_met j hidden ms there free rest)
+    where
+      both : AllMet st (for_inherited s j m) × AllMet st (flat_map (for_inherited s j) ms)
+      both = met_split st (for_inherited s j m) (flat_map (for_inherited s j) ms) h
+
+      by : (b : Bool) → hidden m.key ≡ b → (AllMet st (flat_map (for_inherited s j) ms) → AllMet st (flat_map (fewer_inherited k j) (unhidden hidden ms)))
+          → AllMet st (flat_map (fewer_inherited k j) (if not b then m ∷ unhidden hidden ms else unhidden hidden ms))
+      by true e more = more both.1
+      by false e more = met_both st (fewer_inherited k j m) (flat_map (fewer_inherited k j) (unhidden hidden ms)) (method_met j m there (λ on. free m on e) both.0) (more both.1)
 
 -- ---- a superinterface that the superclass has too
 
@@ -181,10 +204,10 @@ met_in s f xs x h there =
     each [] h = tt
     each (y ∷ ys) h = let both = met_split s (f y) (flat_map f ys) h in (both.0, each ys both.1)
 
--- the superclass is no interface; each method that it declares takes part in overriding, or nothing follows from one like it
-imposes : (U : Key → Type 0) (k s : Kin) → k.superclass ≡ alone s → is_interface s.file ≡ false → AllByRecursion (λ (m : Member). (takes_part m.key s ≡ true) ⊎ U m.key) s.file.methods
-    → AllByRecursion (λ (j : Kin). (m : Member) → U m.key → fewer_inherited k j m ≡ []) (superinterfaces k) → ImposesShared k
-imposes U k s up class fine unmixed = record {
+-- the superclass is no interface, and of the methods that it hides nothing follows from those that are not among these
+imposes : (U : Key → Type 0) (hidden : Key → Bool) (k s : Kin) → k.superclass ≡ alone s → is_interface s.file ≡ false → ((key : Key) → hides key s ≡ true → (hidden key ≡ true) ⊎ U key)
+    → AllByRecursion (λ (j : Kin). (m : Member) → U m.key → fewer_inherited k j m ≡ []) (superinterfaces k) → ImposesShared k hidden
+imposes U hidden k s up class told unmixed = record {
   above = s;
   up = up;
   each = λ j over among st h.
@@ -196,41 +219,38 @@ imposes U k s up class fine unmixed = record {
       let same : over.above ≡ s = same_Some over.above s (over.up ∙ ap (λ (f : Forest). first (upward f)) up) in
       let there : Contains (superinterfaces s) j = subst (λ (x : Kin). Contains (superinterfaces x) j) same over.over in
       let apart = All-contains (λ (x : Kin). (m : Member) → U m.key → fewer_inherited k x m ≡ []) (superinterfaces k) j (All-from_recursion (λ (x : Kin). (m : Member) → U m.key → fewer_inherited k x m ≡ []) (superinterfaces k) unmixed) among in
-      methods_met U k s st up fine both.0 j j.file.methods there apart (met_in st (λ (x : Kin). flat_map (for_inherited s x) x.file.methods) (superinterfaces s) j seconds there);
+      let free : (m : Member) → hides m.key s ≡ true → hidden m.key ≡ false → fewer_inherited k j m ≡ [] = λ m on off. none m (told m.key on) off (apart m) in
+      methods_met k s st up both.0 j hidden j.file.methods there free (met_in st (λ (x : Kin). flat_map (for_inherited s x) x.file.methods) (superinterfaces s) j seconds there);
 }
-
--- a class that names no superinterface has no other
-pub covered_by : (k : Kin) → k.interfaces ≡ Bare → ImposesShared k → IsCovered k
-covered_by k none fit = λ st h. each (superinterfaces k) (recursion_from_All (Contains (superinterfaces k)) (superinterfaces k) (All-contains_itself (superinterfaces k))) st h
   where
-    over : (j : Kin) → Contains (superinterfaces k) j → IsOverAbove k j
-    over j there = record {
-      above = fit.above;
-      up = sym (ap (λ (f : Forest). first (upward f)) fit.up);
-      over = subst (λ (ks : List Kin). Contains ks j) (over_same k fit.above fit.up none) there;
-    }
-
-    each : (js : List Kin) → AllByRecursion (Contains (superinterfaces k)) js → (st : State) → AllMet st (constraints_above k) → AllMet st (flat_map (λ (j : Kin). flat_map (fewer_inherited k j) j.file.methods) js)
-    each [] there st h = tt
-    each (j ∷ js) there st h =
-        met_both st (flat_map (fewer_inherited k j) j.file.methods) (flat_map (λ (x : Kin). flat_map (fewer_inherited k x) x.file.methods) js) (fit.each j (over j there.0) there.0 st h) (each js there.1 st h)
+    none : {A : Type 0} (m : Member) → (hidden m.key ≡ true) ⊎ U m.key → hidden m.key ≡ false → (U m.key → A) → A
+    none m (inl on) off f = absurd (let no : true ≡ false = sym on ∙ off in cc)
+    none m (inr one) off f = f one
 
 -- ---- as rows tell it
 
--- the superclass of the class of a lineage is fit for that
-pub fit_at : (l : Lined) (up : Rowed) (rows : List Rowed) → IsPart rows l → (ms : List Member) → Some (kin_at l up) ≡ first (superclasses (kin_of l)) → is_interface (file_of up.file) ≡ false
-    → ms ≡ (file_of up.file).methods → AllByRecursion (λ (m : Member). (takes_part m.key (bare up) ≡ true) ⊎ IsUnmixed rows m.key) ms → ImposesShared (kin_of l)
-fit_at l up rows part ms above class made seen =
+-- the superclass of the class of a lineage imposes so, but for what it hides
+pub imposes_at : (l : Lined) (up : Rowed) (rows : List Rowed) (hidden : Key → Bool) → IsPart rows l → IsClassAbove l up → AreHidden rows (bare up) hidden → ImposesShared (kin_of l) hidden
+imposes_at l up rows hidden part is told =
     let known : List Kin = kins l.above in
     let s : Kin = kin_at l up in
-    let front : kin_named known s.class ≡ Some s = front_is (kin_named known s.class) s (above ∙ ap (λ (cs : List Class). first (upward (forest known cs))) (up_class known l.own s above)) in
-    let one : (kin_of l).superclass ≡ alone s = ap (λ (cs : List Class). forest known cs) (up_class known l.own s above) ∙ ap (λ (o : Option Kin). in_front o Bare) front in
-    imposes (IsUnmixed rows) (kin_of l) s one class (subst (λ (xs : List Member). AllByRecursion (λ (m : Member). (takes_part m.key (bare up) ≡ true) ⊎ IsUnmixed rows m.key) xs) made seen) (over_unmixed l rows part)
+    let front : kin_named known s.class ≡ Some s = front_is (kin_named known s.class) s (is.above ∙ ap (λ (cs : List Class). first (upward (forest known cs))) (up_class known l.own s is.above)) in
+    let one : (kin_of l).superclass ≡ alone s = ap (λ (cs : List Class). forest known cs) (up_class known l.own s is.above) ∙ ap (λ (o : Option Kin). in_front o Bare) front in
+    imposes (IsUnmixed rows) hidden (kin_of l) s one is.class told (over_unmixed l rows part)
 
--- and so is one that names no superinterface covered
-pub covered_at : (l : Lined) (own : Rowed) → own ≡ l.own → names_interfaces own ≡ false → ImposesShared (kin_of l) → IsCovered (kin_of l)
-covered_at l own same none fit =
-    covered_by (kin_of l) (ap (λ (cs : List Class). forest (kins l.above) cs) (none_over l.own (ap names_interfaces (sym same) ∙ none))) fit
+-- a class of which each method is seen to take part or to be unmixed hides none that is mixed
+pub none_hidden : (rows : List Rowed) (up : Rowed) (ms : List Member) → ms ≡ (file_of up.file).methods → AllByRecursion (λ (m : Member). (takes_part m.key (bare up) ≡ true) ⊎ IsUnmixed rows m.key) ms → AreHidden rows (bare up) (hidden_by None)
+none_hidden rows up ms made seen = λ key on.
+    inr (hidden_has (IsUnmixed rows) (bare up) (subst (λ (xs : List Member). AllByRecursion (λ (m : Member). (takes_part m.key (bare up) ≡ true) ⊎ IsUnmixed rows m.key) xs) made seen) key on)
+
+-- of methods of which none is hidden all are left
+pub all_unhidden : (ms : List Member) → unhidden (hidden_by None) ms ≡ ms
+all_unhidden [] = refl
+all_unhidden (m ∷ ms) = ap (λ (xs : List Member). m ∷ xs) (all_unhidden ms)
+
+-- all that it hides are among those that it hides
+pub all_hidden : (rows : List Rowed) (up : Rowed) → AreHidden rows (bare up) (hidden_by (Some up))
+all_hidden rows up = λ key on. inl on
 
 -- ---- rows that are marked
 
@@ -240,18 +260,27 @@ found_there [] (suc i) k e = absurd cc
 found_there (x ∷ ks) zero k e = Contains-append_left (x ∷ []) ks k (0, omega arith, same_Some x k e)
 found_there (x ∷ ks) (suc i) k e = Contains-append_right (x ∷ []) ks k (found_there ks i k e)
 
--- the methods of a row that is marked impose what is met
-pub shared_met : (l : Lined) (over : List Rowed) (marks : List Bool) (i : ℕ) (r : Rowed) → ImposesShared (kin_of l) → AreOver l over → AreShared (kin_of l) (superinterfaces (kin_of l)) marks → slice_get marks i ≡ Some true → slice_get over i ≡ Some r
-    → (st : State) → AllMet st (constraints_above (kin_of l)) → AllMet st (flat_map (fewer_inherited (kin_of l) (bare r)) (bare r).file.methods)
-shared_met l over marks i r fit (inl none) shared marked at st h = absurd (no_row i (subst (λ (rs : List Rowed). slice_get rs i ≡ Some r) none at))
+-- all superinterfaces of a class that names none are its superclass's
+pub named_none : (l : Lined) (i : ℕ) → HasAbove (kin_of l) → names_interfaces l.own ≡ false → IsSharedAt (kin_of l) i
+named_none l i has none = λ j at. record {
+  above = has.0;
+  up = sym (ap (λ (f : Forest). first (upward f)) has.1);
+  over =
+      subst (λ (ks : List Kin). Contains ks j) (over_same (kin_of l) has.0 has.1 (ap (λ (cs : List Class). forest (kins l.above) cs) (none_over l.own none)))
+      (found_there (superinterfaces (kin_of l)) i j at);
+}
+
+-- the methods of a row that is the superclass's too impose what is met, but for those that are hidden
+pub shared_met : (l : Lined) (over : List Rowed) (hidden : Key → Bool) → ImposesShared (kin_of l) hidden → AreOver l over → AreImposed (kin_of l) hidden over
+shared_met l over hidden fit (inl none) i r shared at = absurd (no_row i (subst (λ (rs : List Rowed). slice_get rs i ≡ Some r) none at))
   where
     no_row : (n : ℕ) → slice_get [] n ≡ Some r → ⊥
     no_row zero e = cc
     no_row (suc n) e = cc
-shared_met l over marks i r fit (inr all) shared marked at st h =
+shared_met l over hidden fit (inr all) i r shared at =
     let j : Kin = kin_at all.0 r in
     let there : slice_get (superinterfaces (kin_of l)) i ≡ Some j = ap (λ (ks : List Kin). slice_get ks i) (sym all.1) ∙ slice_get-map (kin_at all.0) over i ∙ ap (λ (o : Option Rowed). option_map (kin_at all.0) o) at in
-    fit.each j (shared i j marked there) (found_there (superinterfaces (kin_of l)) i j there) st h
+    λ st h. fit.each j (shared j there) (found_there (superinterfaces (kin_of l)) i j there) st h
 
 -- the row that is read at a place stands there
 pub row_at : {A : Type 0} (rows : List A) (i : ℕ) (x : A) → i < length rows → x ≡ get_or rows i x → slice_get rows i ≡ Some x

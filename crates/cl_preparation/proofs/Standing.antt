@@ -17,7 +17,7 @@ use Rattle.cl_model.proofs.Runs.{joined_self}
 use Rattle.cl_hierarchy.specs.Imposed.{AreEnough, constraints_above, known_by}
 use Rattle.cl_hierarchy.specs.declared.equalities.Given.{Given}
 use Rattle.cl_hierarchy.specs.declared.equalities.Given.TheVariants as givens
-use Rattle.cl_preparation.specs.Fewer.{AddsLeft, AreFew, IsCovered, by_superinterfaces, fewer_constraints_of, fewer_declared, fewer_inherited, is_between, is_new, loaders, loaders_over, others_after}
+use Rattle.cl_preparation.specs.Fewer.{AddsLeft, AreFew, by_superinterfaces, fewer_constraints_of, fewer_declared, fewer_inherited, is_between, is_new, loaders, loaders_over, others_after}
 
 -- ---- few that stand for all where this holds
 
@@ -254,6 +254,31 @@ left_all c old all new e = record { added = all; more = e; enough = stand_enough
 pub left_out : (c : Kin) (old all : List Need) → ((s : State) → AllMet s (constraints_above c) → AllMet s all) → AddsLeft c old all old
 left_out c old all met = record { added = []; more = sym (append-nil old); enough = stand_enough (constraints_above c) all [] (stand_left (λ s. AllMet s (constraints_above c)) all met) }
 
+-- of methods those stand for all that a test picks, where what the others impose is met
+picked_stand : (known : State → Type 0) (f : Member → List Need) (p : Member → Bool) (ms : List Member) → ((s : State) → known s → AllMet s (flat_map f (filter (λ m. not (p m)) ms))) → Stand known (flat_map f ms) (flat_map f (filter p ms))
+picked_stand known f p [] met = stand_same known []
+picked_stand known f p (m ∷ ms) met = by (p m) (λ h. picked_stand known f p ms h) met
+  where
+    rest : List Member
+    rest = filter (λ x. not (p x)) ms
+
+    by : (b : Bool) → (((s : State) → known s → AllMet s (flat_map f rest)) → Stand known (flat_map f ms) (flat_map f (filter p ms))) → ((s : State) → known s → AllMet s (flat_map f (if not b then m ∷ rest else rest)))
+        → Stand known (f m ++ flat_map f ms) (flat_map f (if b then m ∷ filter p ms else filter p ms))
+    by true more met =
+        stand_both known (f m) (flat_map f ms) (f m) (flat_map f (filter p ms)) (stand_same known (f m))
+        (stand_where known (λ s. known s × AllMet s (f m)) (flat_map f ms) (flat_map f (filter p ms)) (λ s k. k.0) (more met))
+    by false more met =
+        stand_both known (f m) (flat_map f ms) [] (flat_map f (filter p ms)) (stand_left known (f m) (λ s k. (met_split s (f m) (flat_map f rest) (met s k)).0))
+        (stand_where known (λ s. known s × AllMet s []) (flat_map f ms) (flat_map f (filter p ms)) (λ s k. k.0) (more (λ s k. (met_split s (f m) (flat_map f rest) (met s k)).1)))
+
+-- those that a test picks were added
+pub left_picked : (c : Kin) (old new : List Need) (f : Member → List Need) (p : Member → Bool) (ms : List Member) → ((s : State) → AllMet s (constraints_above c) → AllMet s (flat_map f (filter (λ m. not (p m)) ms))) → new ≡ old ++ flat_map f (filter p ms) → AddsLeft c old (flat_map f ms) new
+left_picked c old new f p ms met e = record {
+  added = flat_map f (filter p ms);
+  more = e;
+  enough = stand_enough (constraints_above c) (flat_map f ms) (flat_map f (filter p ms)) (picked_stand (λ s. AllMet s (constraints_above c)) f p ms met);
+}
+
 -- one list after another
 pub left_more : (c : Kin) (old mid new xs ys : List Need) → AddsLeft c old xs mid → AddsLeft c mid ys new → AddsLeft c old (xs ++ ys) new
 left_more c old mid new xs ys first second =
@@ -268,37 +293,8 @@ left_more c old mid new xs ys first second =
           (stand_both known xs ys first.added second.added a (stand_where known (λ s. known s × AllMet s first.added) ys second.added (λ s k. k.0) b));
     }
 
-second_met : (c : Kin) (b : Bool) (s : State) → AllMet s (by_superinterfaces fewer_inherited c) → AllMet s (if b then [] else by_superinterfaces for_inherited c)
-second_met c true s h = tt
-second_met c false s h = (second_stand c false).met s tt h
-
--- those of the methods that the class declares stand for all, where the others are met
-first_stand : (c : Kin) → IsCovered c → Stand (λ s. AllMet s (constraints_above c)) (constraints_of c) (flat_map (fewer_declared c) c.file.methods ++ [])
-first_stand c covered =
-    let known : State → Type 0 = λ s. AllMet s (constraints_above c) in
-    let all : List Need = flat_map (for_declared c) c.file.methods in
-    let few : List Need = flat_map (fewer_declared c) c.file.methods in
-    let rest : List Need = if is_interface c.file then [] else by_superinterfaces for_inherited c in
-    stand_both known all rest few [] (stand_where Any known all few (λ s k. tt) (stand_each (for_declared c) (fewer_declared c) c.file.methods (declared_stand c)))
-    (stand_left (λ s. known s × AllMet s few) rest (λ s k. second_met c (is_interface c.file) s (covered s k.0)))
-
 not_nothing : givens.Superclass ≡ givens.Nothing → ⊥
 not_nothing e = cc
-
-pub few_covered : (c : Kin) (needs : List Need) → IsCovered c → needs ≡ flat_map (fewer_declared c) c.file.methods → AreFew givens.Superclass c needs
-few_covered c needs covered e =
-    let known : State → Type 0 = λ s. AllMet s (constraints_above c) in
-    let few : List Need = flat_map (fewer_declared c) c.file.methods in
-    let st : Stand known (constraints_of c) needs = subst (λ (ns : List Need). Stand known (constraints_of c) ns) (append-nil few ∙ sym e) (first_stand c covered) in
-    record {
-      enough = record {
-        no_more = st.no_more;
-        among = st.among;
-        met = λ s k h. st.met s k h;
-        next = λ s n k h. st.next s n k h;
-      };
-      exactly = λ none. absurd (not_nothing none);
-    }
 
 -- what is left of what a class inherits, behind what it declares
 pub few_left : (c : Kin) (first needs : List Need) → is_interface c.file ≡ false → first ≡ flat_map (fewer_declared c) c.file.methods → AddsLeft c first (by_superinterfaces fewer_inherited c) needs → AreFew givens.Superclass c needs

@@ -68,18 +68,19 @@ fewer_constraints_of c =
     flat_map (fewer_declared c) c.file.methods
     ++ (if is_interface c.file then [] else by_superinterfaces fewer_inherited c)
 
--- what is imposed with what a class inherits is met where all is that its superclass imposes (5.4.2)
-abbrev pub IsCovered : Kin → Type 0
-IsCovered c =
-    (s : State) → AllMet s (constraints_above c) → AllMet s (by_superinterfaces fewer_inherited c)
+-- of these methods, those that are not hidden
+abbrev pub unhidden : (Key → Bool) → List Member → List Member
+unhidden hidden ms = filter (λ m. not (hidden m.key)) ms
 
--- the superclass imposes what a class would impose with each superinterface that it has too (5.4.2)
-pub record ImposesShared (c : Kin) : Type 0 where
+-- the superclass imposes what a class would impose with each superinterface that it has too, but for
+-- these methods (5.4.2)
+pub record ImposesShared (c : Kin) (hidden : Key → Bool) : Type 0 where
   pub above : Kin
   pub up : c.superclass ≡ alone above
   pub each :
       (j : Kin) → IsOverAbove c j → Contains (superinterfaces c) j → (s : State)
-      → AllMet s (constraints_above c) → AllMet s (flat_map (fewer_inherited c j) j.file.methods)
+      → AllMet s (constraints_above c)
+      → AllMet s (flat_map (fewer_inherited c j) (unhidden hidden j.file.methods))
 
 -- needs that stand for all of these were added, where what the superclass imposes is met (5.4.2)
 pub record AddsLeft (c : Kin) (old all new : List Need) : Type 0 where

@@ -1,5 +1,5 @@
 -- Overriding by run-time packages (JVMS SE 8, 5.3, 5.4.5).
-use Rattle.std.specs.Prelude.{Bool, ◌&&◌, ◌||◌, not, if◌then◌else◌, List, [], ◌∷◌, Option, Some, None}
+use Rattle.std.specs.Prelude.{Bool, ◌&&◌, ◌||◌, not, if◌then◌else◌, List, [], ◌∷◌, Option, Some, None, is_some}
 use Rattle.std.specs.List.{list_any}
 use Rattle.cl_classfile.specs.Files.{Key}
 use Rattle.cl_model.specs.declared.class.Class.{Class}
@@ -28,6 +28,11 @@ opening key k = if takes_part key k then Some (is_open key k) else None
 -- the class declares such a method that takes part, for its package alone (5.4.5)
 abbrev pub is_closed : Key → Kin → Bool
 is_closed key k = takes_part key k && not (is_open key k)
+
+-- the class declares such a method that takes no part: `<init>` or `<clinit>`, a private or a static
+-- one (5.4.5)
+abbrev pub hides : Key → Kin → Bool
+hides key k = is_some (method_of k key) && not (takes_part key k)
 
 -- the class declares such a method, and is of the package of another class (5.3, 5.4.5)
 abbrev pub opens_to : Key → Kin → Kin → Bool

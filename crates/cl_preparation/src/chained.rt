@@ -1,17 +1,19 @@
 //! The few loading constraints of a class that is no interface, where what its superclasses declare is kept, and the lineage was
 //! surveyed: one look for each of its methods (JVMS SE 8, 5.3.4, 5.4.2).
 
-ghost use Rattle.std.specs.Prelude.{◌≡◌, ◌++◌, [], Some, flat_map, map, slice_get, true, IfOk, OnOk};
+ghost use Rattle.std.specs.Prelude.{◌≡◌, ◌++◌, [], Some, false, filter, flat_map, map, option_map, slice_get, true, IfOk, OnOk};
 ghost use Rattle.cl_hierarchy.specs.Imposed.{needs_of};
 ghost use Rattle.cl_hierarchy.specs.Lineages.{kin_of};
 ghost use Rattle.cl_model.specs.Preparation.{takes_part};
-ghost use Rattle.cl_preparation.specs.Chains.{AreImposed, IsImposed, by_row};
+ghost use Rattle.cl_preparation.specs.Chains.{AreImposed, HasAbove, IsImposed, IsSharedAt, by_row, hidden_by};
 ghost use Rattle.cl_preparation.specs.Fewer.{AddsLeft, AreFew, by_superinterfaces, fewer_declared, fewer_inherited, loaders_over, others_after};
-ghost use Rattle.cl_preparation.specs.Relatives.{bare};
+ghost use Rattle.cl_preparation.specs.Relatives.{bare, names_interfaces};
+ghost use Rattle.cl_preparation.specs.Walks.{hides};
 
 use crate::away::Away;
-use crate::covered::is_fit;
+use crate::covered::{class_above, hiding_of};
 use crate::described::{Described, push_equals};
+use crate::hiding::Hiding;
 use crate::inherited::other_than;
 use crate::key::MethodKey;
 use crate::listed::Listed;
@@ -212,58 +214,93 @@ impl<'a, 'b, 'c, 'd, T: Told> Chained<'a, 'b, 'c, 'd, T> {
         self.push_rows(alloc, needs, self.over.as_slice())
     }
 
-    /// Adds what the methods of the superinterface of a row impose, if it is not known to be the superclass's too, which has imposed it.
+    /// Whether the superinterface at a place is known to be the superclass's too: all are of a class that names none.
+    fn is_shared(&self, names_none: bool, place: usize) -> bool
+        requires above { HasAbove (kin_of self.now) }
+        requires none { names_none ≡ true → names_interfaces self.now.own ≡ false }
+        ensures { result ≡ true → IsSharedAt (kin_of self.now) place }
+    {
+        names_none || is_marked(self.shared, place)
+    }
+
+    /// Adds what those methods of the superinterface of a row impose that the superclass hides.
+    fn push_hidden(
+        &self,
+        alloc: Global,
+        needs: &mut Vec<Equality>,
+        row: &Arc<ClassRow<T>>,
+        hiding: &Hiding<T>,
+    ) -> Result<(), AllocError>
+        ensures { OnOk result (needs_of needs.new.items ≡ needs_of needs.old.items ++ flat_map
+            (fewer_inherited (kin_of self.now) (bare row.now.value))
+            (filter (λ m. hides m.key (bare hiding.now)) (bare row.now.value).file.methods)) }
+    {
+        let methods = hiding.hidden_of(alloc, row)?;
+        let interface = Relative::unfiltered(row)?;
+        self.push_methods(alloc, needs, &interface, methods.as_slice())
+    }
+
+    /// Adds what the methods of the superinterface of a row impose; of one that is known to be the superclass's too those that this
+    /// one hides, since it has imposed the others.
     fn push_new_row(
         &self,
         alloc: Global,
         needs: &mut Vec<Equality>,
         row: &Arc<ClassRow<T>>,
         is_shared: bool,
+        hiding: Option<&Hiding<T>>,
     ) -> Result<(), AllocError>
-        requires imposed { is_shared ≡ true → IsImposed (kin_of self.now) row.now.value }
+        requires imposed { is_shared ≡ true → IsImposed (kin_of self.now)
+            (hidden_by (option_map (λ h. h.now) hiding)) row.now.value }
         ensures { OnOk result (AddsLeft (kin_of self.now) (needs_of needs.old.items)
             (by_row (kin_of self.now) row.now.value) (needs_of needs.new.items)) }
     {
-        if is_shared {
-            return Ok(());
+        if !is_shared {
+            return self.push_row(alloc, needs, row);
         }
-        self.push_row(alloc, needs, row)
+        match hiding {
+            Some(hiding) => self.push_hidden(alloc, needs, row, hiding),
+            None => Ok(()),
+        }
     }
 
-    /// Adds what the methods of the superinterfaces of these rows impose, but for those that are marked as the superclass's too.
+    /// Adds what the methods of the superinterfaces of these rows impose, so far as the superclass has not.
     fn push_new_rows(
         &self,
         alloc: Global,
         needs: &mut Vec<Equality>,
         rows: &[&Arc<ClassRow<T>>],
-        shared: &[bool],
+        hiding: Option<&Hiding<T>>,
     ) -> Result<(), AllocError>
-        requires imposed { AreImposed (kin_of self.now) (map (λ r. r.now.value) rows.now)
-            shared.now }
+        requires above { HasAbove (kin_of self.now) }
+        requires imposed { AreImposed (kin_of self.now)
+            (hidden_by (option_map (λ h. h.now) hiding)) (map (λ r. r.now.value) rows.now) }
         ensures { OnOk result (AddsLeft (kin_of self.now) (needs_of needs.old.items)
             (flat_map (λ r. by_row (kin_of self.now) r.now.value) rows.now)
             (needs_of needs.new.items)) }
     {
+        let names_none = !names_interfaces(self.own.row());
         for at in 0..rows.len() {
-            self.push_new_row(alloc, needs, rows[at], is_marked(shared, at))?;
+            let is_shared = self.is_shared(names_none, at);
+            self.push_new_row(alloc, needs, rows[at], is_shared, hiding)?;
         }
         Ok(())
     }
 
-    /// Adds what is left of what superinterfaces impose with what is inherited, where the superclass has imposed its own: of a class
-    /// that names none nothing is.
+    /// Adds what is left of what superinterfaces impose with what is inherited, where the superclass is prepared.
     fn push_left(&self, alloc: Global, needs: &mut Vec<Equality>) -> Result<(), AllocError>
         ensures { OnOk result (AddsLeft (kin_of self.now) (needs_of needs.old.items)
             (by_superinterfaces fewer_inherited (kin_of self.now)) (needs_of needs.new.items)) }
     {
         // (a look at the superclass's methods is not worth it where there is nothing to leave out)
-        if self.over.is_empty() || !is_fit(alloc, self.survey, self.lineage)? {
+        if self.over.is_empty() {
             return self.push_over(alloc, needs);
         }
-        if !names_interfaces(self.own.row()) {
-            return Ok(());
-        }
-        self.push_new_rows(alloc, needs, self.over.as_slice(), self.shared)
+        let Some(above) = class_above(alloc, self.lineage)? else {
+            return self.push_over(alloc, needs);
+        };
+        let hiding = hiding_of(alloc, self.survey, above)?;
+        self.push_new_rows(alloc, needs, self.over.as_slice(), hiding.as_ref())
     }
 
     /// Adds what is to be imposed with what is inherited, where this is given.

@@ -1,14 +1,14 @@
-//! Whether the preparation of a class's superclass imposes what is to be imposed with what the class inherits (JVMS SE 8, 5.4.2).
+//! What the preparation of a class's superclass imposes of that which is to be imposed with what the class inherits (JVMS SE 8, 5.4.2).
 
-ghost use Rattle.std.specs.Prelude.{◌≡◌, ◌⊎◌, List, true, IfOk};
+ghost use Rattle.std.specs.Prelude.{◌≡◌, ◌⊎◌, List, true, IfOk, IfSome};
 ghost use Rattle.std.specs.List.{AllByRecursion};
-ghost use Rattle.cl_hierarchy.specs.Lineages.{kin_of};
 ghost use Rattle.cl_hierarchy.specs.Rows.{Rowed};
 ghost use Rattle.cl_model.specs.Preparation.{takes_part};
-ghost use Rattle.cl_preparation.specs.Fewer.{ImposesShared};
+ghost use Rattle.cl_preparation.specs.Chains.{AreHidden, IsClassAbove, hidden_by};
 ghost use Rattle.cl_preparation.specs.Relatives.{bare};
-ghost use Rattle.cl_preparation.specs.Surveys.{IsSurvey, IsUnmixed, Surveys};
+ghost use Rattle.cl_preparation.specs.Surveys.{IsSurvey, IsUnmixed};
 
+use crate::hiding::Hiding;
 use crate::method::Method;
 use crate::relative::Relative;
 use crate::survey::Survey;
@@ -51,23 +51,36 @@ fn are_seen<T: Told>(
     Ok(true)
 }
 
-/// Whether the superclass of a class is known to impose all that the class would impose with those superinterfaces that it has too:
-/// it is no interface, and hides none of their methods behind a private or a static one.
-pub(crate) fn is_fit<T: Told>(
+/// The superclass of a class, if it has one that is no interface. Such a one imposes what the class would impose with each superinterface
+/// that it has too, but for the methods that it hides.
+pub(crate) fn class_above<T: Told>(
     alloc: Global,
-    survey: &Survey,
     lineage: &Lineage<T>,
-) -> Result<bool, AllocError>
-    requires { Surveys lineage.now survey.now }
-    ensures { IfOk result (λ b. b ≡ true → ImposesShared (kin_of lineage.now)) }
+) -> Result<Option<Relative<T>>, AllocError>
+    ensures { IfOk result (λ o. IfSome o (IsClassAbove lineage.now)) }
 {
     let Some(row) = lineage.superclass() else {
-        return Ok(false);
+        return Ok(None);
     };
     let above = Relative::of(alloc, row)?;
     if above.is_interface() {
-        return Ok(false);
+        return Ok(None);
     }
+    Ok(Some(above))
+}
+
+/// The class, if it hides methods from which, by a survey, constraints with superinterfaces may follow.
+pub(crate) fn hiding_of<T: Told>(
+    alloc: Global,
+    survey: &Survey,
+    above: Relative<T>,
+) -> Result<Option<Hiding<T>>, AllocError>
+    ensures { (rows : List Rowed) → IsSurvey rows survey.now → IfOk result (λ o. AreHidden rows
+        (bare above) (hidden_by o)) }
+{
     let methods = above.methods(alloc)?;
-    are_seen(alloc, survey, &above, methods.as_slice())
+    if are_seen(alloc, survey, &above, methods.as_slice())? {
+        return Ok(None);
+    }
+    Ok(Some(Hiding::of(alloc, above)?))
 }

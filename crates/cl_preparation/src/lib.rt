@@ -9,6 +9,7 @@ mod declarers;
 mod described;
 mod fewer;
 mod filter;
+mod hiding;
 mod inherited;
 mod kept;
 mod key;

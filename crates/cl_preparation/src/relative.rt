@@ -6,7 +6,7 @@ ghost use Rattle.cl_model.specs.Lineages.{is_offered, is_virtual, method_of};
 ghost use Rattle.cl_model.specs.Preparation.{takes_part};
 ghost use Rattle.cl_preparation.specs.Methods.{is_wide};
 ghost use Rattle.cl_preparation.specs.Relatives.{AreNames, bare, names_interfaces};
-ghost use Rattle.cl_preparation.specs.Walks.{is_closed, opening, opens};
+ghost use Rattle.cl_preparation.specs.Walks.{hides, is_closed, opening, opens};
 
 use crate::filter::NameFilter;
 use crate::key::MethodKey;
@@ -132,6 +132,16 @@ impl<T: Told> Relative<T> {
         })
     }
 
+    /// The same class, in which little is to be looked up.
+    pub fn unfiltered(row: &Arc<ClassRow<T>>) -> Result<Relative<T>, AllocError>
+        ensures { IfOk result (λ r. r ≡ row.now.value) }
+    {
+        Ok(Relative {
+            row: Arc::try_clone(row)?,
+            names: None,
+        })
+    }
+
     /// Its row.
     pub fn row(&self) -> &ClassRow<T>
         ensures { result.now ≡ self.now }
@@ -211,6 +221,17 @@ impl<T: Told> Relative<T> {
         ensures { result ≡ takes_part key.now (bare self.now) }
     {
         !key.is_special() && self.offers(key)
+    }
+
+    /// Whether it declares a method with this key that takes no part in overriding (JVMS SE 8, 5.4.5).
+    #[tactic(auto, using(crate::proofs::Declared::flags_hide))]
+    pub fn hides(&self, key: &MethodKey) -> bool
+        ensures { result ≡ hides key.now (bare self.now) }
+    {
+        match self.flags(key) {
+            Some(flags) => key.is_special() || !is_virtual(flags),
+            None => false,
+        }
     }
 
     /// Of its method with this key that takes part in overriding, if it declares one: whether that is public or protected

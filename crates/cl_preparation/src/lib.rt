@@ -16,6 +16,7 @@ mod key;
 mod listed;
 mod method;
 mod methods_above;
+mod near;
 mod overriding;
 mod packages;
 mod plain;

@@ -5,7 +5,7 @@ use Rattle.cl_hierarchy.specs.Imposed.{needs_of}
 use Rattle.cl_hierarchy.specs.Rows.{Rowed}
 use Rattle.cl_preparation.specs.Inherited.{Inherited, away_from, second_by_rows}
 use Rattle.cl_preparation.proofs.Nearby.{away_given, second_given, second_none}
-use Rattle.cl_preparation.proofs.fewer.Nearby.push_over.Goals as goal
+use Rattle.cl_preparation.proofs.near.Nearby.push_over.Goals as goal
 
 pub returns-then-not-any_has_methods : goal.returns-then-not-any_has_methods
 returns-then-not-any_has_methods g c =

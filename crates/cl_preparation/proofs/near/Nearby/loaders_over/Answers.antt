@@ -1,7 +1,7 @@
 use Rattle.std.proofs.Common.{refl}
 use Rattle.std.proofs.lemmas.Result.{IfOk-at_ok}
 use Rattle.cl_preparation.proofs.Nearby.{near_listed}
-use Rattle.cl_preparation.proofs.fewer.Nearby.loaders_over.Goals as goal
+use Rattle.cl_preparation.proofs.near.Nearby.loaders_over.Goals as goal
 
 pub returns : goal.returns
 returns g c =

@@ -2,7 +2,7 @@ use Rattle.std.proofs.Common.{◌≡◌, ◌++◌, take}
 use Rattle.std.specs.List.{flat_map}
 use Rattle.cl_hierarchy.specs.Imposed.{needs_of}
 use Rattle.cl_preparation.specs.Nearby.{near_declared}
-use Rattle.cl_preparation.proofs.fewer.Nearby.push_each_declared.Given as goal
+use Rattle.cl_preparation.proofs.near.Nearby.push_each_declared.Given as goal
 
 abbrev pub invariant-loop-method : goal.invariant-loop-method
 invariant-loop-method g l =

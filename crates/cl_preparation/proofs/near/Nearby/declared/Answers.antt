@@ -2,7 +2,7 @@ use Rattle.std.proofs.Common.{ap}
 use Rattle.std.proofs.lemmas.Result.{IfOk-at_ok}
 use Rattle.cl_hierarchy.specs.Imposed.{needs_of}
 use Rattle.cl_preparation.proofs.Nearby.{each_told}
-use Rattle.cl_preparation.proofs.fewer.Nearby.declared.Goals as goal
+use Rattle.cl_preparation.proofs.near.Nearby.declared.Goals as goal
 
 pub returns : goal.returns
 returns g c =

@@ -1,7 +1,7 @@
 use Rattle.std.proofs.lemmas.Result.{IfOk-at_ok}
 use Rattle.cl_hierarchy.specs.Imposed.{needs_of}
 use Rattle.cl_preparation.proofs.Nearby.{class_told}
-use Rattle.cl_preparation.proofs.fewer.Nearby.needs.Goals as goal
+use Rattle.cl_preparation.proofs.near.Nearby.needs.Goals as goal
 
 pub returns : goal.returns
 returns g c =

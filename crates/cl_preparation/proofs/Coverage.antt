@@ -1,4 +1,4 @@
--- What a class inherits is imposed where its superclass is prepared, if that one has all its superinterfaces.
+-- What a class inherits is imposed where its superclass is prepared, with the superinterfaces that this one has too, but for what it hides.
 use Rattle.std.proofs.Common.{◌≡◌, ◌∙◌, ◌⊎◌, ◌&&◌, ◌++◌, inl, inr, ℕ, Bool, true, false, not, if◌then◌else◌, Option, Some, None, List, [], ◌∷◌, ◌+◌, ◌<◌, ◌≤◌, zero, suc, filter, append-nil, arith, get_or, length, map, take, refl, ap, sym, subst}
 use Rattle.std.specs.Prelude.{Contains, find, flat_map, is_some, option_map, slice_get}
 use Rattle.std.specs.List.{AllByRecursion}
@@ -17,17 +17,18 @@ use Rattle.cl_model.proofs.Closed.{met_both}
 use Rattle.cl_model.proofs.Keys.{keys_are_told}
 use Rattle.cl_model.proofs.Progress.{met_split}
 use Rattle.cl_hierarchy.specs.Lineages.{Lined, kin_at, kin_of}
+use Rattle.cl_hierarchy.specs.OversAt.{IsOverAbove}
 use Rattle.cl_hierarchy.specs.Rows.{Rowed}
-use Rattle.cl_hierarchy.specs.Trees.{forest, in_front, kin_named, kins}
+use Rattle.cl_hierarchy.specs.Trees.{forest, in_front, kin_named, kins, superclass_in}
 use Rattle.cl_hierarchy.proofs.Ways.{up_class}
-use Rattle.cl_preparation.specs.Chains.{AreHidden, AreImposed, AreOver, HasAbove, IsClassAbove, IsSharedAt, by_row, hidden_by}
+use Rattle.cl_preparation.specs.Chains.{AreImposed, AreOver, CoversHidden, IsClassAbove, IsSharedIn, by_row, hidden_by}
 use Rattle.cl_preparation.specs.Nearby.{AddAll}
-use Rattle.cl_preparation.specs.Fewer.{AddsLeft, ImposesShared, by_methods, by_superinterfaces, fewer_inherited, is_between, unhidden}
+use Rattle.cl_preparation.specs.Fewer.{AddsLeft, IsImposed, by_methods, by_superinterfaces, fewer_inherited, is_between, unhidden}
 use Rattle.cl_preparation.specs.Relatives.{bare, names_interfaces}
 use Rattle.cl_preparation.specs.Surveys.{IsPart, IsUnmixed}
 use Rattle.cl_preparation.specs.Walks.{hides}
 use Rattle.cl_preparation.proofs.Chains.{by_rows, front_is}
-use Rattle.cl_preparation.proofs.Interfaces.{none_over}
+use Rattle.cl_preparation.proofs.Interfaces.{IsFew, few_superclasses, none_over}
 use Rattle.cl_preparation.proofs.Standing.{left_more}
 use Rattle.cl_preparation.proofs.Surveyed.{over_unmixed}
 
@@ -89,22 +90,18 @@ over_same k s up none =
 inherits : (k s : Kin) (key : Key) → k.superclass ≡ alone s → inherited_from k key ≡ (if is_offered key s then Some s else inherited_from s key)
 inherits k s key up = ap (λ (f : Forest). find (is_offered key) (upward f)) up
 
--- a class that hides a method declares it, and it takes no part
-hidden_has : (U : Key → Type 0) (s : Kin) → AllByRecursion (λ (m : Member). (takes_part m.key s ≡ true) ⊎ U m.key) s.file.methods → (key : Key) → hides key s ≡ true → U key
+-- what a class hides is of a kind of which each of its methods is that is private or static
+hidden_has : (U : Key → Type 0) (s : Kin) → AllByRecursion (λ (m : Member). (is_offered m.key s ≡ true) ⊎ U m.key) s.file.methods → (key : Key) → hides key s ≡ true → U key
 hidden_has U s fine key on = by (method_of s key) refl on
   where
-    by : (o : Option Member) → method_of s key ≡ o → (is_some o && not (takes_part key s)) ≡ true → U key
+    by : (o : Option Member) → method_of s key ≡ o → (is_some o && not (is_offered key s)) ≡ true → U key
     by None e on = absurd cc
     by (Some m) e on =
-        let found = found_has (λ (x : Member). (takes_part x.key s ≡ true) ⊎ U x.key) s.file.methods key m e fine in
-        elim (subst (λ (x : Key). (takes_part x s ≡ true) ⊎ U x) found.1 found.0) [
-          | inl takes ↦ absurd (let no : true ≡ false = sym on ∙ ap not takes in cc)
+        let found = found_has (λ (x : Member). (is_offered x.key s ≡ true) ⊎ U x.key) s.file.methods key m e fine in
+        elim (subst (λ (x : Key). (is_offered x s ≡ true) ⊎ U x) found.1 found.0) [
+          | inl offers ↦ absurd (let no : true ≡ false = sym on ∙ ap not offers in cc)
           | inr one ↦ one
         ]
-
-and_false : (b : Bool) → (b && false) ≡ false
-and_false true = refl
-and_false false = refl
 
 -- ---- each method of each of these superinterfaces
 
@@ -143,9 +140,6 @@ module _ (k s : Kin) (st : State) (up : k.superclass ≡ alone s) (firsts : AllM
       → AllMet st (with_inherited m.key j (inherited_from k m.key)) ⊎ (fewer_inherited k j m ≡ [])
   hidden_met j m free off part h same = by (method_of s m.key) refl
     where
-      no_part : takes_part m.key s ≡ false
-      no_part = ap (λ (b : Bool). not (is_special m.key.name) && b) off ∙ and_false (not (is_special m.key.name))
-
       by : (o : Option Member) → method_of s m.key ≡ o → AllMet st (with_inherited m.key j (inherited_from k m.key)) ⊎ (fewer_inherited k j m ≡ [])
       by None e =
           let list : AllMet st (with_inherited m.key j (inherited_from s m.key)) =
@@ -153,7 +147,7 @@ module _ (k s : Kin) (st : State) (up : k.superclass ≡ alone s) (firsts : AllM
           (subst (λ (b : Bool). AllMet st (if b && not (is_some (method_of s m.key)) then with_inherited m.key j (inherited_from s m.key) else [])) part h) in
           inl (subst (λ (o : Option Kin). AllMet st (with_inherited m.key j o)) (sym same) list)
       by (Some x) e =
-          let hidden : hides m.key s ≡ true = ap (λ (o : Option Member). is_some o && not (takes_part m.key s)) e ∙ ap not no_part in
+          let hidden : hides m.key s ≡ true = ap (λ (o : Option Member). is_some o && not (is_offered m.key s)) e ∙ ap not off in
           inr (free hidden)
 
   method_met : (j : Kin) (m : Member) → Contains (superinterfaces s) j → (hides m.key s ≡ true → fewer_inherited k j m ≡ []) → AllMet st (for_inherited s j m) → AllMet st (fewer_inherited k j m)
@@ -204,24 +198,24 @@ met_in s f xs x h there =
     each [] h = tt
     each (y ∷ ys) h = let both = met_split s (f y) (flat_map f ys) h in (both.0, each ys both.1)
 
+-- what a class would impose with each superinterface that its superclass has too is imposed, but for these methods
+abbrev pub ImposesShared : Kin → (Key → Bool) → Type 0
+ImposesShared c hidden = (j : Kin) → IsOverAbove c j → Contains (superinterfaces c) j → IsImposed c hidden j
+
 -- the superclass is no interface, and of the methods that it hides nothing follows from those that are not among these
 imposes : (U : Key → Type 0) (hidden : Key → Bool) (k s : Kin) → k.superclass ≡ alone s → is_interface s.file ≡ false → ((key : Key) → hides key s ≡ true → (hidden key ≡ true) ⊎ U key)
     → AllByRecursion (λ (j : Kin). (m : Member) → U m.key → fewer_inherited k j m ≡ []) (superinterfaces k) → ImposesShared k hidden
-imposes U hidden k s up class told unmixed = record {
-  above = s;
-  up = up;
-  each = λ j over among st h.
-      let firsts : List Need = flat_map (for_declared s) s.file.methods in
-      let second : List Need = flat_map (λ (x : Kin). flat_map (for_inherited s x) x.file.methods) (superinterfaces s) in
-      let mine : AllMet st (constraints_of s) = subst (λ (f : Forest). AllMet st (option_map_or constraints_of (first (upward f)) [])) up h in
-      let both = met_split st firsts (if is_interface s.file then [] else second) mine in
-      let seconds : AllMet st second = subst (λ (b : Bool). AllMet st (if b then [] else second)) class both.1 in
-      let same : over.above ≡ s = same_Some over.above s (over.up ∙ ap (λ (f : Forest). first (upward f)) up) in
-      let there : Contains (superinterfaces s) j = subst (λ (x : Kin). Contains (superinterfaces x) j) same over.over in
-      let apart = All-contains (λ (x : Kin). (m : Member) → U m.key → fewer_inherited k x m ≡ []) (superinterfaces k) j (All-from_recursion (λ (x : Kin). (m : Member) → U m.key → fewer_inherited k x m ≡ []) (superinterfaces k) unmixed) among in
-      let free : (m : Member) → hides m.key s ≡ true → hidden m.key ≡ false → fewer_inherited k j m ≡ [] = λ m on off. none m (told m.key on) off (apart m) in
-      methods_met k s st up both.0 j hidden j.file.methods there free (met_in st (λ (x : Kin). flat_map (for_inherited s x) x.file.methods) (superinterfaces s) j seconds there);
-}
+imposes U hidden k s up class told unmixed = λ j over among st h.
+    let firsts : List Need = flat_map (for_declared s) s.file.methods in
+    let second : List Need = flat_map (λ (x : Kin). flat_map (for_inherited s x) x.file.methods) (superinterfaces s) in
+    let mine : AllMet st (constraints_of s) = subst (λ (f : Forest). AllMet st (option_map_or constraints_of (first (upward f)) [])) up h in
+    let both = met_split st firsts (if is_interface s.file then [] else second) mine in
+    let seconds : AllMet st second = subst (λ (b : Bool). AllMet st (if b then [] else second)) class both.1 in
+    let same : over.above ≡ s = same_Some over.above s (over.up ∙ ap (λ (f : Forest). first (upward f)) up) in
+    let there : Contains (superinterfaces s) j = subst (λ (x : Kin). Contains (superinterfaces x) j) same over.over in
+    let apart = All-contains (λ (x : Kin). (m : Member) → U m.key → fewer_inherited k x m ≡ []) (superinterfaces k) j (All-from_recursion (λ (x : Kin). (m : Member) → U m.key → fewer_inherited k x m ≡ []) (superinterfaces k) unmixed) among in
+    let free : (m : Member) → hides m.key s ≡ true → hidden m.key ≡ false → fewer_inherited k j m ≡ [] = λ m on off. none m (told m.key on) off (apart m) in
+    methods_met k s st up both.0 j hidden j.file.methods there free (met_in st (λ (x : Kin). flat_map (for_inherited s x) x.file.methods) (superinterfaces s) j seconds there)
   where
     none : {A : Type 0} (m : Member) → (hidden m.key ≡ true) ⊎ U m.key → hidden m.key ≡ false → (U m.key → A) → A
     none m (inl on) off f = absurd (let no : true ≡ false = sym on ∙ off in cc)
@@ -230,7 +224,7 @@ imposes U hidden k s up class told unmixed = record {
 -- ---- as rows tell it
 
 -- the superclass of the class of a lineage imposes so, but for what it hides
-pub imposes_at : (l : Lined) (up : Rowed) (rows : List Rowed) (hidden : Key → Bool) → IsPart rows l → IsClassAbove l up → AreHidden rows (bare up) hidden → ImposesShared (kin_of l) hidden
+pub imposes_at : (l : Lined) (up : Rowed) (rows : List Rowed) (hidden : Key → Bool) → IsPart rows l → IsClassAbove l up → CoversHidden rows (bare up) hidden → ImposesShared (kin_of l) hidden
 imposes_at l up rows hidden part is told =
     let known : List Kin = kins l.above in
     let s : Kin = kin_at l up in
@@ -238,21 +232,17 @@ imposes_at l up rows hidden part is told =
     let one : (kin_of l).superclass ≡ alone s = ap (λ (cs : List Class). forest known cs) (up_class known l.own s is.above) ∙ ap (λ (o : Option Kin). in_front o Bare) front in
     imposes (IsUnmixed rows) hidden (kin_of l) s one is.class told (over_unmixed l rows part)
 
--- a class of which each method is seen to take part or to be unmixed hides none that is mixed
-pub none_hidden : (rows : List Rowed) (up : Rowed) (ms : List Member) → ms ≡ (file_of up.file).methods → AllByRecursion (λ (m : Member). (takes_part m.key (bare up) ≡ true) ⊎ IsUnmixed rows m.key) ms → AreHidden rows (bare up) (hidden_by None)
+-- a class of which each method is seen to be offered or unmixed hides none that is mixed
+pub none_hidden : (rows : List Rowed) (up : Rowed) (ms : List Member) → ms ≡ (file_of up.file).methods → AllByRecursion (λ (m : Member). (is_offered m.key (bare up) ≡ true) ⊎ IsUnmixed rows m.key) ms → CoversHidden rows (bare up) (hidden_by None)
 none_hidden rows up ms made seen = λ key on.
-    inr (hidden_has (IsUnmixed rows) (bare up) (subst (λ (xs : List Member). AllByRecursion (λ (m : Member). (takes_part m.key (bare up) ≡ true) ⊎ IsUnmixed rows m.key) xs) made seen) key on)
+    inr (hidden_has (IsUnmixed rows) (bare up) (subst (λ (xs : List Member). AllByRecursion (λ (m : Member). (is_offered m.key (bare up) ≡ true) ⊎ IsUnmixed rows m.key) xs) made seen) key on)
 
 -- of methods of which none is hidden all are left
 pub all_unhidden : (ms : List Member) → unhidden (hidden_by None) ms ≡ ms
 all_unhidden [] = refl
 all_unhidden (m ∷ ms) = ap (λ (xs : List Member). m ∷ xs) (all_unhidden ms)
 
--- all that it hides are among those that it hides
-pub all_hidden : (rows : List Rowed) (up : Rowed) → AreHidden rows (bare up) (hidden_by (Some up))
-all_hidden rows up = λ key on. inl on
-
--- ---- rows that are marked
+-- ---- rows of superinterfaces that the superclass has too
 
 found_there : (ks : List Kin) (i : ℕ) (k : Kin) → slice_get ks i ≡ Some k → Contains ks k
 found_there [] zero k e = absurd cc
@@ -260,27 +250,47 @@ found_there [] (suc i) k e = absurd cc
 found_there (x ∷ ks) zero k e = Contains-append_left (x ∷ []) ks k (0, omega arith, same_Some x k e)
 found_there (x ∷ ks) (suc i) k e = Contains-append_right (x ∷ []) ks k (found_there ks i k e)
 
+none_there : {A : Type 0} (i : ℕ) (x : A) → slice_get [] i ≡ Some x → ⊥
+none_there zero x e = cc
+none_there (suc i) x e = cc
+
+-- a class has no superclass, or one
+few_above : (known : List Kin) (cs : List Class) → IsFew cs → (forest known cs ≡ Bare) ⊎ ((s : Kin) × (forest known cs ≡ alone s))
+few_above known cs (inl none) = inl (ap (λ (xs : List Class). forest known xs) none)
+few_above known cs (inr one) = by (kin_named known one.0) refl
+  where
+    by : (o : Option Kin) → kin_named known one.0 ≡ o → (forest known cs ≡ Bare) ⊎ ((s : Kin) × (forest known cs ≡ alone s))
+    by None e = inl (ap (λ (xs : List Class). forest known xs) one.1 ∙ ap (λ (o : Option Kin). in_front o Bare) e)
+    by (Some s) e = inr (s, ap (λ (xs : List Class). forest known xs) one.1 ∙ ap (λ (o : Option Kin). in_front o Bare) e)
+
 -- all superinterfaces of a class that names none are its superclass's
-pub named_none : (l : Lined) (i : ℕ) → HasAbove (kin_of l) → names_interfaces l.own ≡ false → IsSharedAt (kin_of l) i
-named_none l i has none = λ j at. record {
-  above = has.0;
-  up = sym (ap (λ (f : Forest). first (upward f)) has.1);
-  over =
-      subst (λ (ks : List Kin). Contains ks j) (over_same (kin_of l) has.0 has.1 (ap (λ (cs : List Class). forest (kins l.above) cs) (none_over l.own none)))
-      (found_there (superinterfaces (kin_of l)) i j at);
-}
+pub named_none : (l : Lined) (own : Rowed) (i : ℕ) → own ≡ l.own → not (names_interfaces own) ≡ true → IsSharedIn (kin_of l) i
+named_none l own i same none = by (few_above (kins l.above) (superclass_in l.own) (few_superclasses l.own))
+  where
+    off : (b : Bool) → not b ≡ true → b ≡ false
+    off true e = absurd cc
+    off false e = refl
+
+    bare_over : (kin_of l).interfaces ≡ Bare
+    bare_over = ap (λ (cs : List Class). forest (kins l.above) cs) (none_over l.own (ap names_interfaces (sym same) ∙ off (names_interfaces own) none))
+
+    by : ((kin_of l).superclass ≡ Bare) ⊎ ((s : Kin) × ((kin_of l).superclass ≡ alone s)) → IsSharedIn (kin_of l) i
+    by (inl bare_up) = λ j at.
+        let empty : superinterfaces (kin_of l) ≡ [] = ap (λ (f : Forest). once (preorder f true ++ preorder (kin_of l).superclass false)) bare_over ∙ ap (λ (f : Forest). once (preorder f false)) bare_up in
+        absurd (none_there i j (ap (λ (ks : List Kin). slice_get ks i) (sym empty) ∙ at))
+    by (inr up) = λ j at. record {
+      above = up.0;
+      up = sym (ap (λ (f : Forest). first (upward f)) up.1);
+      over = subst (λ (ks : List Kin). Contains ks j) (over_same (kin_of l) up.0 up.1 bare_over) (found_there (superinterfaces (kin_of l)) i j at);
+    }
 
 -- the methods of a row that is the superclass's too impose what is met, but for those that are hidden
 pub shared_met : (l : Lined) (over : List Rowed) (hidden : Key → Bool) → ImposesShared (kin_of l) hidden → AreOver l over → AreImposed (kin_of l) hidden over
-shared_met l over hidden fit (inl none) i r shared at = absurd (no_row i (subst (λ (rs : List Rowed). slice_get rs i ≡ Some r) none at))
-  where
-    no_row : (n : ℕ) → slice_get [] n ≡ Some r → ⊥
-    no_row zero e = cc
-    no_row (suc n) e = cc
+shared_met l over hidden fit (inl none) i r shared at = absurd (none_there i r (subst (λ (rs : List Rowed). slice_get rs i ≡ Some r) none at))
 shared_met l over hidden fit (inr all) i r shared at =
     let j : Kin = kin_at all.0 r in
     let there : slice_get (superinterfaces (kin_of l)) i ≡ Some j = ap (λ (ks : List Kin). slice_get ks i) (sym all.1) ∙ slice_get-map (kin_at all.0) over i ∙ ap (λ (o : Option Rowed). option_map (kin_at all.0) o) at in
-    λ st h. fit.each j (shared j there) (found_there (superinterfaces (kin_of l)) i j there) st h
+    λ st h. fit j (shared j there) (found_there (superinterfaces (kin_of l)) i j there) st h
 
 -- the row that is read at a place stands there
 pub row_at : {A : Type 0} (rows : List A) (i : ℕ) (x : A) → i < length rows → x ≡ get_or rows i x → slice_get rows i ≡ Some x

@@ -1,5 +1,5 @@
 -- The methods that a class declares, and their flags.
-use Rattle.std.proofs.Common.{◌≡◌, ◌<◌, ◌+◌, ℕ, Bool, true, false, not, ◌&&◌, ◌||◌, if◌then◌else◌, Option, Some, None, List, [], ◌∷◌, ◌++◌, refl, ap, sym, subst, ◌∙◌, get_or}
+use Rattle.std.proofs.Common.{◌≡◌, ◌<◌, ◌+◌, ℕ, Bool, true, false, not, ◌&&◌, if◌then◌else◌, Option, Some, None, List, [], ◌∷◌, ◌++◌, refl, ap, sym, subst, ◌∙◌, get_or}
 use Rattle.std.specs.Prelude.{option_map, option_and_then, is_some, filter_map, take, length}
 use Rattle.std.specs.List.{All, AllByRecursion}
 use Rattle.cl_descriptors.proofs.Methods.{whole_method_again}
@@ -37,15 +37,10 @@ pub flags_tell : (o : Option files.Member) (test : ℕ → Bool) (r : Option ℕ
 flags_tell None test r e b none some = none e
 flags_tell (Some m) test r e b none some = some m.flags e
 
--- a method that takes no part, if it is declared
-pub flags_hide : (o : Option files.Member) (special : Bool) (r : Option ℕ) → r ≡ option_map (λ m. m.flags) o → (b : Bool) → (r ≡ None → b ≡ false) → ((x : ℕ) → r ≡ Some x → b ≡ (special || not (is_virtual x)))
-    → b ≡ (is_some o && not (not special && if_declared o is_virtual))
-flags_hide None special r e b none some = none e
-flags_hide (Some m) special r e b none some = some m.flags e ∙ by special (is_virtual m.flags)
-  where
-    by : (s v : Bool) → (s || not v) ≡ (true && not (not s && v))
-    by true v = refl
-    by false v = refl
+-- a method that is private or static, if it is declared
+pub flags_hide : (o : Option files.Member) (r : Option ℕ) → r ≡ option_map (λ m. m.flags) o → (b : Bool) → (r ≡ None → b ≡ false) → ((x : ℕ) → r ≡ Some x → b ≡ not (is_virtual x)) → b ≡ (is_some o && not (if_declared o is_virtual))
+flags_hide None r e b none some = none e
+flags_hide (Some m) r e b none some = some m.flags e
 
 -- whether a method is open, if it is declared and takes part
 pub flags_opened : (o : Option files.Member) (special : Bool) (f : Option ℕ) (r : Option Bool) → f ≡ option_map (λ m. m.flags) o → (f ≡ None → r ≡ None)

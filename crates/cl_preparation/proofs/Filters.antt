@@ -1,5 +1,5 @@
 -- What is marked of a class's methods stays marked, and of what is not marked there is none.
-use Rattle.std.proofs.Common.{◌≡◌, ◌<◌, ◌+◌, ℕ, Bool, true, false, not, ◌&&◌, if◌then◌else◌, Option, Some, None, List, [], ◌∷◌, ◌++◌, filter, refl, ap, sym, subst, ◌∙◌, get_or}
+use Rattle.std.proofs.Common.{◌≡◌, ◌<◌, ◌+◌, ℕ, Bool, true, false, not, ◌&&◌, Option, Some, None, List, [], ◌∷◌, ◌++◌, filter, refl, ap, sym, subst, ◌∙◌, get_or}
 use Rattle.std.specs.Prelude.{is_some, option_map, option_to_list, filter_map, take, length, slice_get}
 use Rattle.std.proofs.lemmas.List.{take_more}
 use Rattle.std.proofs.lemmas.List.Elements.{filter-append, filter_map-append}
@@ -9,8 +9,7 @@ use Rattle.cl_descriptors.specs.declared.types.Descriptor.TheVariants as descrip
 use Rattle.cl_classfile.specs.declared.entry.Entry.{Entry}
 use Rattle.cl_classfile.specs.Structure as structure
 use Rattle.cl_classfile.specs.Files.{Name, Key, Member, declared_by, keyed, member, method_of, same_key, text_at}
-use Rattle.cl_model.specs.Lineages.{Kin}
-use Rattle.cl_model.specs.Preparation.{takes_part}
+use Rattle.cl_model.specs.Lineages.{Kin, is_offered}
 use Rattle.cl_model.proofs.Keys.{keys_are_told}
 use Rattle.cl_preparation.specs.Filters.{Covers, slot}
 use Rattle.cl_preparation.specs.Walks.{hides}
@@ -95,34 +94,7 @@ flags_free slots ms key name same all free =
 pub none_hides : (slots : List Bool) (k : Kin) (key : Key) (name : Name) → Some name ≡ Some key.name → Covers slots k.file.methods → slice_get slots (slot name) ≡ Some false → hides key k ≡ false
 none_hides slots k key name same all free =
     let one : name ≡ key.name = same_Some name key.name same in
-    ap (λ (o : Option Member). is_some o && not (takes_part key k)) (none_covered slots k.file.methods key all (subst (λ (n : Name). slice_get slots (slot n) ≡ Some false) one free))
-
--- a member has the name of its method
-member_named : (pool : List Entry) (m : structure.Member) (x : Member) → declared_by method_of pool m ≡ Some x → text_at pool m.name_index ≡ Some x.key.name
-member_named pool m x is = by (text_at pool m.name_index) refl is
-  where
-    by : (o : Option Name) → text_at pool m.name_index ≡ o → keyed method_of m.flags o (text_at pool m.descriptor_index) ≡ Some x → text_at pool m.name_index ≡ Some x.key.name
-    by (Some n) named is = named ∙ ap (λ (y : Name). Some y) (sym (keyed_name m.flags n (text_at pool m.descriptor_index) x is))
-    by None named is = absurd cc
-
--- a member is passed where no method of its name is picked
-pub member_passed : (p : Key → Bool) (pool : List Entry) (m : structure.Member) → ((key : Key) → text_at pool m.name_index ≡ Some key.name → p key ≡ false) → [] ≡ filter (λ (x : Member). p x.key) (option_to_list (declared_by method_of pool m))
-member_passed p pool m off = by (declared_by method_of pool m) refl
-  where
-    by : (o : Option Member) → declared_by method_of pool m ≡ o → [] ≡ filter (λ (x : Member). p x.key) (option_to_list o)
-    by None is = refl
-    by (Some x) is = sym (ap (λ (b : Bool). if b then x ∷ [] else []) (off x.key (member_named pool m x is)))
-
--- a member is picked by its method's key, or not
-pub member_picked : (p : Key → Bool) (pool : List Entry) (m : structure.Member) (x : Member) (key : Key) (b : Bool) (o : Option Member) → declared_by method_of pool m ≡ Some x → key ≡ x.key → p key ≡ b → o ≡ (if b then Some x else None)
-    → option_to_list o ≡ filter (λ (y : Member). p y.key) (option_to_list (declared_by method_of pool m))
-member_picked p pool m x key b o is same told are =
-    ap (λ (r : Option Member). option_to_list r) are ∙ by b
-    ∙ sym (ap (λ (r : Option Member). filter (λ (y : Member). p y.key) (option_to_list r)) is ∙ ap (λ (c : Bool). if c then x ∷ [] else []) (ap p (sym same) ∙ told))
-  where
-    by : (c : Bool) → option_to_list (if c then Some x else None) ≡ (if c then x ∷ [] else [])
-    by true = refl
-    by false = refl
+    ap (λ (o : Option Member). is_some o && not (is_offered key k)) (none_covered slots k.file.methods key all (subst (λ (n : Name). slice_get slots (slot n) ≡ Some false) one free))
 
 -- the methods up to here that are picked, and the next one, if it is
 pub picked_more : (p : Key → Bool) (pool : List Entry) (ms : List structure.Member) (i : ℕ) (m : structure.Member) (o : Option Member) (done after : List Member) → i < length ms → m ≡ get_or ms i m

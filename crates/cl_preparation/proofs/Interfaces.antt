@@ -31,10 +31,10 @@ none_placed : (r : Rowed) → interface_places r ≡ [] → interfaces_in r ≡ 
 none_placed r none = ap (accepted_of (superinterfaces_of (file_of r.file))) none ∙ none_accepted (superinterfaces_of (file_of r.file))
 
 -- none or one
-abbrev IsFew : List Class → Type 0
+abbrev pub IsFew : List Class → Type 0
 IsFew cs = (cs ≡ []) ⊎ ((c : Class) × (cs ≡ c ∷ []))
 
-few_superclasses : (r : Rowed) → IsFew (superclass_in r)
+pub few_superclasses : (r : Rowed) → IsFew (superclass_in r)
 few_superclasses r = few (file_of r.file).super_name r.places
   where
     few : (o : Option Name) (places : List ℕ) → IsFew (accepted_of (superclass_of (record (file_of r.file) { super_name = o })) places)

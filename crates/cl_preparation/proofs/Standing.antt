@@ -243,13 +243,6 @@ stand_enough known all few st = record { no_more = st.no_more; among = st.among;
 
 -- ---- what is left, step by step
 
-pub left_none : (c : Kin) (old : List Need) → AddsLeft c old [] old
-left_none c old = record { added = []; more = sym (append-nil old); enough = stand_enough (constraints_above c) [] [] (stand_same (λ s. AllMet s (constraints_above c)) []) }
-
--- all were added
-pub left_all : (c : Kin) (old all new : List Need) → new ≡ old ++ all → AddsLeft c old all new
-left_all c old all new e = record { added = all; more = e; enough = stand_enough (constraints_above c) all all (stand_same (λ s. AllMet s (constraints_above c)) all) }
-
 -- none was, since all are met
 pub left_out : (c : Kin) (old all : List Need) → ((s : State) → AllMet s (constraints_above c) → AllMet s all) → AddsLeft c old all old
 left_out c old all met = record { added = []; more = sym (append-nil old); enough = stand_enough (constraints_above c) all [] (stand_left (λ s. AllMet s (constraints_above c)) all met) }

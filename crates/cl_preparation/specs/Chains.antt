@@ -2,10 +2,9 @@
 use Rattle.std.specs.Prelude.{◌≡◌, ◌⊎◌, ℕ, Bool, false, true, List, [], ◌∷◌, Option, Some, None, flat_map, map, slice_get}
 use Rattle.cl_classfile.specs.Files.{Key, file_of, is_interface}
 use Rattle.cl_model.specs.declared.class.Class.{Class}
-use Rattle.cl_model.specs.Lineages.{Kin, alone, first, superclasses, superinterfaces}
-use Rattle.cl_model.specs.States.{AllMet, Need, State}
+use Rattle.cl_model.specs.Lineages.{Kin, first, superclasses, superinterfaces}
+use Rattle.cl_model.specs.States.{Need}
 use Rattle.cl_hierarchy.specs.Lineages.{Lined, kin_at, kin_of, rows_in}
-use Rattle.cl_hierarchy.specs.Imposed.{constraints_above}
 use Rattle.cl_hierarchy.specs.OversAt.{AreShared, IsOverAbove}
 use Rattle.cl_hierarchy.specs.Rows.{Rowed}
 use Rattle.cl_hierarchy.specs.Trees.{kin_named, kins}
@@ -13,7 +12,7 @@ use Rattle.cl_preparation.specs.declared.methods_above.Above.{Above}
 use Rattle.cl_preparation.specs.declared.declarers.MethodTexts.{MethodTexts}
 use Rattle.cl_preparation.specs.declared.survey.Survey.{Survey}
 use Rattle.cl_preparation.specs.declared.kept.Kept.{Kept}
-use Rattle.cl_preparation.specs.Fewer.{fewer_inherited, unhidden}
+use Rattle.cl_preparation.specs.Fewer.{IsImposed, fewer_inherited}
 use Rattle.cl_preparation.specs.MethodsAbove.{AreTold}
 use Rattle.cl_preparation.specs.Nearby.{AddAll}
 use Rattle.cl_preparation.specs.Relatives.{bare}
@@ -45,34 +44,25 @@ pub record IsClassAbove (l : Lined) (r : Rowed) : Type 0 where
   pub above : Some (kin_at l r) ≡ first (superclasses (kin_of l))
   pub class : is_interface (file_of r.file) ≡ false
 
--- a class has a superclass (4.1)
-abbrev pub HasAbove : Kin → Type 0
-HasAbove c = (s : Kin) × (c.superclass ≡ alone s)
-
 -- which methods a class hides, if there is one (5.4.5)
 abbrev pub hidden_by : Option Rowed → Key → Bool
 hidden_by None key = false
 hidden_by (Some r) key = hides key (bare r)
 
--- of the methods that a class hides, all are among these that are mixed (5.4.2, 5.4.5)
-abbrev pub AreHidden : List Rowed → Kin → (Key → Bool) → Type 0
-AreHidden rows k hidden =
+-- all mixed methods that a class hides are among these (5.4.2, 5.4.5)
+abbrev pub CoversHidden : List Rowed → Kin → (Key → Bool) → Type 0
+CoversHidden rows k hidden =
     (key : Key) → hides key k ≡ true → (hidden key ≡ true) ⊎ IsUnmixed rows key
 
--- the superinterface of a class at a place of their list is its superclass's too (5.4.2)
-abbrev pub IsSharedAt : Kin → ℕ → Type 0
-IsSharedAt c i = (j : Kin) → slice_get (superinterfaces c) i ≡ Some j → IsOverAbove c j
+-- the superinterface of a class at a place of their list, if there is one, is its superclass's too
+abbrev pub IsSharedIn : Kin → ℕ → Type 0
+IsSharedIn c i = (j : Kin) → slice_get (superinterfaces c) i ≡ Some j → IsOverAbove c j
 
--- what the methods of a row impose, but for these, is met where what the superclass imposes is (5.4.2)
-abbrev pub IsImposed : Kin → (Key → Bool) → Rowed → Type 0
-IsImposed c hidden r =
-    (s : State) → AllMet s (constraints_above c)
-    → AllMet s (flat_map (fewer_inherited c (bare r)) (unhidden hidden (bare r).file.methods))
-
--- it is so of those of these rows that are the superclass's too
+-- what these rows impose, but for these methods, is met where what the superclass imposes is, of each that
+-- is its superclass's too (5.4.2)
 abbrev pub AreImposed : Kin → (Key → Bool) → List Rowed → Type 0
 AreImposed c hidden rows =
-    (i : ℕ) (r : Rowed) → IsSharedAt c i → slice_get rows i ≡ Some r → IsImposed c hidden r
+    (i : ℕ) (r : Rowed) → IsSharedIn c i → slice_get rows i ≡ Some r → IsImposed c hidden (bare r)
 
 -- a class that is no interface, with what its methods are looked up in: a survey, what its
 -- superclasses declare, and superinterfaces that add what all do, some of which are marked as its

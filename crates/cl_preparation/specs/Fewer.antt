@@ -1,12 +1,11 @@
 -- The few equalities of a preparation that stand for all of them (JVMS SE 8, 5.3.4, 5.4.2).
-use Rattle.std.specs.Prelude.{◌≡◌, ◌==◌, ℕ, Bool, Contains, true, ◌&&◌, not, if◌then◌else◌, List, [], ◌∷◌, ◌++◌, map, filter, flat_map}
+use Rattle.std.specs.Prelude.{◌≡◌, ◌==◌, ℕ, Bool, true, ◌&&◌, not, if◌then◌else◌, List, [], ◌∷◌, ◌++◌, map, filter, flat_map}
 use Rattle.std.specs.List.{list_any}
 use Rattle.cl_classfile.specs.Files.{Key, Member, is_interface}
-use Rattle.cl_model.specs.Lineages.{Kin, alone, superinterfaces}
+use Rattle.cl_model.specs.Lineages.{Kin, superinterfaces}
 use Rattle.cl_model.specs.Preparation.{constraints_of, equals_of, for_inherited, overridden, takes_part}
 use Rattle.cl_model.specs.States.{AllMet, Entry, Equal, Need, State}
 use Rattle.cl_hierarchy.specs.Imposed.{AreEnough, constraints_above, known_by}
-use Rattle.cl_hierarchy.specs.OversAt.{IsOverAbove}
 use Rattle.cl_hierarchy.specs.declared.equalities.Given.{Given}
 use Rattle.cl_hierarchy.specs.declared.equalities.Given.TheVariants as givens
 
@@ -72,15 +71,12 @@ fewer_constraints_of c =
 abbrev pub unhidden : (Key → Bool) → List Member → List Member
 unhidden hidden ms = filter (λ m. not (hidden m.key)) ms
 
--- the superclass imposes what a class would impose with each superinterface that it has too, but for
--- these methods (5.4.2)
-pub record ImposesShared (c : Kin) (hidden : Key → Bool) : Type 0 where
-  pub above : Kin
-  pub up : c.superclass ≡ alone above
-  pub each :
-      (j : Kin) → IsOverAbove c j → Contains (superinterfaces c) j → (s : State)
-      → AllMet s (constraints_above c)
-      → AllMet s (flat_map (fewer_inherited c j) (unhidden hidden j.file.methods))
+-- what the methods of a superinterface j of a class impose with what it inherits, but for these, is met
+-- where what its superclass imposes is (5.4.2)
+abbrev pub IsImposed : Kin → (Key → Bool) → Kin → Type 0
+IsImposed c hidden j =
+    (s : State) → AllMet s (constraints_above c)
+    → AllMet s (flat_map (fewer_inherited c j) (unhidden hidden j.file.methods))
 
 -- needs that stand for all of these were added, where what the superclass imposes is met (5.4.2)
 pub record AddsLeft (c : Kin) (old all new : List Need) : Type 0 where

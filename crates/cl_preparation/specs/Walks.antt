@@ -4,7 +4,7 @@ use Rattle.std.specs.List.{list_any}
 use Rattle.cl_classfile.specs.Files.{Key}
 use Rattle.cl_model.specs.declared.class.Class.{Class}
 use Rattle.cl_model.specs.Classes.{same_package}
-use Rattle.cl_model.specs.Lineages.{Kin, method_of, if_declared}
+use Rattle.cl_model.specs.Lineages.{Kin, method_of, if_declared, is_offered}
 use Rattle.cl_model.specs.Preparation.{takes_part}
 use Rattle.cl_preparation.specs.Methods.{is_wide}
 
@@ -29,10 +29,10 @@ opening key k = if takes_part key k then Some (is_open key k) else None
 abbrev pub is_closed : Key → Kin → Bool
 is_closed key k = takes_part key k && not (is_open key k)
 
--- the class declares such a method that takes no part: `<init>` or `<clinit>`, a private or a static
--- one (5.4.5)
+-- the class declares such a method private or static, so that a class below inherits from farther
+-- above (5.4.2, 5.4.5)
 abbrev pub hides : Key → Kin → Bool
-hides key k = is_some (method_of k key) && not (takes_part key k)
+hides key k = is_some (method_of k key) && not (is_offered key k)
 
 -- the class declares such a method, and is of the package of another class (5.3, 5.4.5)
 abbrev pub opens_to : Key → Kin → Kin → Bool

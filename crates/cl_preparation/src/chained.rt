@@ -1,13 +1,13 @@
 //! The few loading constraints of a class that is no interface, where what its superclasses declare is kept, and the lineage was
 //! surveyed: one look for each of its methods (JVMS SE 8, 5.3.4, 5.4.2).
 
-ghost use Rattle.std.specs.Prelude.{◌≡◌, ◌++◌, [], Some, false, filter, flat_map, map, option_map, slice_get, true, IfOk, OnOk};
+ghost use Rattle.std.specs.Prelude.{◌≡◌, ◌++◌, [], Some, filter, flat_map, map, option_map, slice_get, true, IfOk, OnOk};
 ghost use Rattle.cl_hierarchy.specs.Imposed.{needs_of};
 ghost use Rattle.cl_hierarchy.specs.Lineages.{kin_of};
 ghost use Rattle.cl_model.specs.Preparation.{takes_part};
-ghost use Rattle.cl_preparation.specs.Chains.{AreImposed, HasAbove, IsImposed, IsSharedAt, by_row, hidden_by};
-ghost use Rattle.cl_preparation.specs.Fewer.{AddsLeft, AreFew, by_superinterfaces, fewer_declared, fewer_inherited, loaders_over, others_after};
-ghost use Rattle.cl_preparation.specs.Relatives.{bare, names_interfaces};
+ghost use Rattle.cl_preparation.specs.Chains.{AreImposed, IsSharedIn, by_row, hidden_by};
+ghost use Rattle.cl_preparation.specs.Fewer.{AddsLeft, AreFew, IsImposed, by_superinterfaces, fewer_declared, fewer_inherited, loaders_over, others_after};
+ghost use Rattle.cl_preparation.specs.Relatives.{bare};
 ghost use Rattle.cl_preparation.specs.Walks.{hides};
 
 use crate::away::Away;
@@ -215,12 +215,10 @@ impl<'a, 'b, 'c, 'd, T: Told> Chained<'a, 'b, 'c, 'd, T> {
     }
 
     /// Whether the superinterface at a place is known to be the superclass's too: all are of a class that names none.
-    fn is_shared(&self, names_none: bool, place: usize) -> bool
-        requires above { HasAbove (kin_of self.now) }
-        requires none { names_none ≡ true → names_interfaces self.now.own ≡ false }
-        ensures { result ≡ true → IsSharedAt (kin_of self.now) place }
+    fn is_shared(&self, place: usize) -> bool
+        ensures { result ≡ true → IsSharedIn (kin_of self.now) place }
     {
-        names_none || is_marked(self.shared, place)
+        is_marked(self.shared, place) || !names_interfaces(self.own.row())
     }
 
     /// Adds what those methods of the superinterface of a row impose that the superclass hides.
@@ -251,7 +249,7 @@ impl<'a, 'b, 'c, 'd, T: Told> Chained<'a, 'b, 'c, 'd, T> {
         hiding: Option<&Hiding<T>>,
     ) -> Result<(), AllocError>
         requires imposed { is_shared ≡ true → IsImposed (kin_of self.now)
-            (hidden_by (option_map (λ h. h.now) hiding)) row.now.value }
+            (hidden_by (option_map (λ h. h.now) hiding)) (bare row.now.value) }
         ensures { OnOk result (AddsLeft (kin_of self.now) (needs_of needs.old.items)
             (by_row (kin_of self.now) row.now.value) (needs_of needs.new.items)) }
     {
@@ -272,17 +270,14 @@ impl<'a, 'b, 'c, 'd, T: Told> Chained<'a, 'b, 'c, 'd, T> {
         rows: &[&Arc<ClassRow<T>>],
         hiding: Option<&Hiding<T>>,
     ) -> Result<(), AllocError>
-        requires above { HasAbove (kin_of self.now) }
-        requires imposed { AreImposed (kin_of self.now)
+        requires { AreImposed (kin_of self.now)
             (hidden_by (option_map (λ h. h.now) hiding)) (map (λ r. r.now.value) rows.now) }
         ensures { OnOk result (AddsLeft (kin_of self.now) (needs_of needs.old.items)
             (flat_map (λ r. by_row (kin_of self.now) r.now.value) rows.now)
             (needs_of needs.new.items)) }
     {
-        let names_none = !names_interfaces(self.own.row());
         for at in 0..rows.len() {
-            let is_shared = self.is_shared(names_none, at);
-            self.push_new_row(alloc, needs, rows[at], is_shared, hiding)?;
+            self.push_new_row(alloc, needs, rows[at], self.is_shared(at), hiding)?;
         }
         Ok(())
     }
@@ -293,10 +288,10 @@ impl<'a, 'b, 'c, 'd, T: Told> Chained<'a, 'b, 'c, 'd, T> {
             (by_superinterfaces fewer_inherited (kin_of self.now)) (needs_of needs.new.items)) }
     {
         // (a look at the superclass's methods is not worth it where there is nothing to leave out)
-        if self.over.is_empty() {
+        if self.over.is_empty() || self.survey.is_mix_declared(self.own.row()) {
             return self.push_over(alloc, needs);
         }
-        let Some(above) = class_above(alloc, self.lineage)? else {
+        let Some(above) = class_above(self.lineage)? else {
             return self.push_over(alloc, needs);
         };
         let hiding = hiding_of(alloc, self.survey, above)?;

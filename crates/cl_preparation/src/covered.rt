@@ -3,8 +3,8 @@
 ghost use Rattle.std.specs.Prelude.{◌≡◌, ◌⊎◌, List, true, IfOk, IfSome};
 ghost use Rattle.std.specs.List.{AllByRecursion};
 ghost use Rattle.cl_hierarchy.specs.Rows.{Rowed};
-ghost use Rattle.cl_model.specs.Preparation.{takes_part};
-ghost use Rattle.cl_preparation.specs.Chains.{AreHidden, IsClassAbove, hidden_by};
+ghost use Rattle.cl_model.specs.Lineages.{is_offered};
+ghost use Rattle.cl_preparation.specs.Chains.{CoversHidden, IsClassAbove, hidden_by};
 ghost use Rattle.cl_preparation.specs.Relatives.{bare};
 ghost use Rattle.cl_preparation.specs.Surveys.{IsSurvey, IsUnmixed};
 
@@ -16,7 +16,7 @@ use cl_hierarchy::Lineage;
 use cl_model::Told;
 use std::alloc::{AllocError, Global};
 
-/// Whether a method of a class takes part in overriding, or the superinterfaces that declare it are of the loader of all that do.
+/// Whether a method of a class is neither private nor static, or the superinterfaces that declare it are of the loader of all that do.
 fn is_seen<T: Told>(
     alloc: Global,
     survey: &Survey,
@@ -24,9 +24,9 @@ fn is_seen<T: Told>(
     method: &Method,
 ) -> Result<bool, AllocError>
     ensures { (rows : List Rowed) → IsSurvey rows survey.now → IfOk result (λ b. b ≡ true
-        → (takes_part method.now.key (bare own.now) ≡ true) ⊎ IsUnmixed rows method.now.key) }
+        → (is_offered method.now.key (bare own.now) ≡ true) ⊎ IsUnmixed rows method.now.key) }
 {
-    if own.takes_part(method.key()) {
+    if own.offers(method.key()) {
         return Ok(true);
     }
     survey.is_unmixed(alloc, method.key())
@@ -40,7 +40,7 @@ fn are_seen<T: Told>(
     methods: &[Method],
 ) -> Result<bool, AllocError>
     ensures { (rows : List Rowed) → IsSurvey rows survey.now → IfOk result (λ b. b ≡ true
-        → AllByRecursion (λ m. (takes_part m.key (bare own.now) ≡ true)
+        → AllByRecursion (λ m. (is_offered m.key (bare own.now) ≡ true)
         ⊎ IsUnmixed rows m.key) methods.now) }
 {
     for method in methods {
@@ -53,16 +53,13 @@ fn are_seen<T: Told>(
 
 /// The superclass of a class, if it has one that is no interface. Such a one imposes what the class would impose with each superinterface
 /// that it has too, but for the methods that it hides.
-pub(crate) fn class_above<T: Told>(
-    alloc: Global,
-    lineage: &Lineage<T>,
-) -> Result<Option<Relative<T>>, AllocError>
+pub(crate) fn class_above<T: Told>(lineage: &Lineage<T>) -> Result<Option<Relative<T>>, AllocError>
     ensures { IfOk result (λ o. IfSome o (IsClassAbove lineage.now)) }
 {
     let Some(row) = lineage.superclass() else {
         return Ok(None);
     };
-    let above = Relative::of(alloc, row)?;
+    let above = Relative::unfiltered(row)?;
     if above.is_interface() {
         return Ok(None);
     }
@@ -75,7 +72,7 @@ pub(crate) fn hiding_of<T: Told>(
     survey: &Survey,
     above: Relative<T>,
 ) -> Result<Option<Hiding<T>>, AllocError>
-    ensures { (rows : List Rowed) → IsSurvey rows survey.now → IfOk result (λ o. AreHidden rows
+    ensures { (rows : List Rowed) → IsSurvey rows survey.now → IfOk result (λ o. CoversHidden rows
         (bare above) (hidden_by o)) }
 {
     let methods = above.methods(alloc)?;

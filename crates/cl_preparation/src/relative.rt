@@ -132,7 +132,7 @@ impl<T: Told> Relative<T> {
         })
     }
 
-    /// The same class, in which little is to be looked up.
+    /// The class of a row, with no filter: for where few methods are looked up in it.
     pub fn unfiltered(row: &Arc<ClassRow<T>>) -> Result<Relative<T>, AllocError>
         ensures { IfOk result (λ r. r ≡ row.now.value) }
     {
@@ -223,13 +223,13 @@ impl<T: Told> Relative<T> {
         !key.is_special() && self.offers(key)
     }
 
-    /// Whether it declares a method with this key that takes no part in overriding (JVMS SE 8, 5.4.5).
+    /// Whether it declares a method with this key that is private or static (JVMS SE 8, 5.4.5).
     #[tactic(auto, using(crate::proofs::Declared::flags_hide))]
     pub fn hides(&self, key: &MethodKey) -> bool
         ensures { result ≡ hides key.now (bare self.now) }
     {
         match self.flags(key) {
-            Some(flags) => key.is_special() || !is_virtual(flags),
+            Some(flags) => !is_virtual(flags),
             None => false,
         }
     }

@@ -5,8 +5,7 @@ use Rattle.cl_hierarchy.specs.Imposed.{needs_of}
 use Rattle.cl_hierarchy.specs.Lineages.{Lined, kin_of}
 use Rattle.cl_hierarchy.specs.Rows.{Rowed}
 use Rattle.cl_preparation.specs.Chains.{AreImposed, IsChained, IsClassAbove, hidden_by}
-use Rattle.cl_preparation.specs.Fewer.{ImposesShared}
-use Rattle.cl_preparation.proofs.Coverage.{all_left_rows, imposes_at, shared_met}
+use Rattle.cl_preparation.proofs.Coverage.{ImposesShared, all_left_rows, imposes_at, shared_met}
 use Rattle.cl_preparation.proofs.chained.Chained.push_left.Goals as goal
 
 pub push_new_rows-requires : goal.push_new_rows-requires
@@ -16,13 +15,9 @@ push_new_rows-requires g c =
     let up = subst (λ (x : Lined). IsClassAbove x c.in-Some.above) c.self.view_is (subst (λ o. IfSome o (IsClassAbove c.self.inside.lineage.now)) c.in-Some.is c.in_ok-above.ensures) in
     let fit : ImposesShared (kin_of l) (hidden_by c.in_ok-hiding.hiding) =
     imposes_at l c.in-Some.above is.surveyed.rows (hidden_by c.in_ok-hiding.hiding) is.surveyed.part up (c.in_ok-hiding.ensures is.surveyed.rows is.surveyed.is) in
-    record {
-      above = (fit.above, fit.up);
-      imposed =
-          subst (λ o. AreImposed (kin_of l) (hidden_by o) (map (λ r. r.now.value) c.as_slice.result.now)) (sym c.as_ref.ensures.value)
-          (subst (λ (rs : List Rowed). AreImposed (kin_of l) (hidden_by c.in_ok-hiding.hiding) rs) (sym c.as_slice.ensures)
-          (shared_met l c.self.inside.over (hidden_by c.in_ok-hiding.hiding) fit is.over_in));
-    }
+    subst (λ o. AreImposed (kin_of l) (hidden_by o) (map (λ r. r.now.value) c.as_slice.result.now)) (sym c.as_ref.ensures.value)
+    (subst (λ (rs : List Rowed). AreImposed (kin_of l) (hidden_by c.in_ok-hiding.hiding) rs) (sym c.as_slice.ensures)
+    (shared_met l c.self.inside.over (hidden_by c.in_ok-hiding.hiding) fit is.over_in))
 
 pub returns : goal.returns
 returns g c =

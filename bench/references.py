@@ -17,6 +17,11 @@
   renamed       the same, each of which names the superinterface too
   hiding        the same as inherits, each with a private method like one of these
   turning       the same, like one and like another of these by turns
+  slotted       turning, all methods of which have names of one length and one last letter
+  broad         3,000 classes like those of turning, under an interface of 12,000 methods, two of which the first class has
+  veiled        800 classes of app, of which each second hides the method that 800 interfaces of boot and the first class have
+  scanned       600 classes of app over one another, each with ten methods that the last of 1,500 superinterfaces of boot has
+  described     a class of app over one of boot, each with 7,500 methods of 75 descriptors that name 254 classes each, as @hex
   offered       500 abstract classes of app under a superinterface of boot with 500 methods, none of which a class declares
   crossed       500 classes of app over one another, each of which names a superinterface of boot and declares its method
   fans          1,000 classes of app over one another, the first of which names 1,000 interfaces of boot, all with the same method
@@ -36,7 +41,7 @@
   blocks        2,000 classes over one another, in blocks of 63 loaders, each with the same method; the last is linked
 
 and of overriding, plain, topped, distinct, many, inherited, naming, interfaces, beside, comb, fringe, twos, combs, blocks, repeated,
-halves, crowned, paired, against, inherits, renamed, hiding, turning, offered, crossed and fans one more with so many classes that it has about a megabyte, as plain_mb.
+halves, crowned, paired, against, inherits, renamed, hiding, turning, slotted, broad, veiled, scanned, offered, crossed and fans one more with so many classes that it has about a megabyte, as plain_mb.
 
 Each is a bundle: classlink bundle < FILE.
 """
@@ -162,10 +167,11 @@ def against(path, count=800):
     bundle(path, TWO, [TOP, over, first, *below], [f"link app {names[-1]}\n"])
 
 
-def under_one(path, count, methods=lambda place: (), **how):
+def under_one(path, count, methods=lambda place: (), name="z{}", **how):
     """As many methods as classes, each of a superinterface of boot and of the first class of app: the others inherit them."""
-    over = with_lines(section("boot", "p/I", flags="0601"), [f"method 0401 z{n} (Lp/T;)V" for n in range(count)])
-    first = with_lines(section("app", "p/C", interfaces=["p/I"]), [f"method 0001 z{n} (Lp/T;)V" for n in range(count)])
+    own = [f"{name.format(n)} (Lp/T;)V" for n in range(count)]
+    over = with_lines(section("boot", "p/I", flags="0601"), [f"method 0401 {it}" for it in own])
+    first = with_lines(section("app", "p/C", interfaces=["p/I"]), [f"method 0001 {it}" for it in own])
     names = [f"p/C{n}" for n in range(count)]
     bundle(path, TWO, [TOP, over, first, *over_one_another(names, methods, top="p/C", **how)], [f"link app {names[-1]}\n"])
 
@@ -184,6 +190,57 @@ def hiding(path, count=1000):
 
 def turning(path, count=1000):
     under_one(path, count, lambda place: [f"method 0002 z{place % 2} (Lp/T;)V"])
+
+
+def slotted(path, count=1000):
+    under_one(path, count, lambda place: [f"method 0002 {place % 2:05}z (Lp/T;)V"], name="{:05}z")
+
+
+def broad(path, count=3000):
+    over = with_lines(section("boot", "p/I", flags="0601"), [f"method 0401 {n:05} ()V" for n in range(4 * count)])
+    first = with_lines(section("app", "p/C", interfaces=["p/I"]), [f"method 0001 {n:05} ()V" for n in range(2)])
+    names = [f"p/C{n}" for n in range(count)]
+    below = over_one_another(names, lambda place: [f"method 0002 {place % 2:05} ()V"], top="p/C")
+    bundle(path, TWO, [TOP, over, first, *below], [f"link app {names[-1]}\n"])
+
+
+def veiled(path, count=800):
+    over = [f"p/I{n}" for n in range(count)]
+    classes = [TOP, *(with_lines(section("boot", name, flags="0601"), ["method 0401 m (Lp/T;)V"]) for name in over)]
+    classes.append(with_lines(section("app", "q/C", interfaces=over), ["method 0001 m (Lp/T;)V"]))
+    names = [f"q/C{n}" for n in range(count)]
+    below = over_one_another(names, lambda place: ["method 0002 m (Lp/T;)V"] if place % 2 else [], top="q/C")
+    bundle(path, TWO, [*classes, *below], [f"link app {names[-1]}\n"])
+
+
+def scanned(path, count=600):
+    own = [f"method 0001 m{n} ()V" for n in range(10)]
+    over = [f"p/I{n}" for n in range(5 * count // 2)]
+    classes = [TOP, *(with_lines(section("boot", name, flags="0601"), ["method 0401 x ()V"]) for name in over)]
+    classes.append(with_lines(section("boot", "p/J", flags="0601"), [f"method 0401 m{n} ()V" for n in range(10)]))
+    classes.append(with_lines(section("app", "q/C", interfaces=[*over, "p/J"]), own))
+    names = [f"q/C{n}" for n in range(count)]
+    bundle(path, TWO, [*classes, *over_one_another(names, lambda _: own, top="q/C")], [f"link app {names[-1]}\n"])
+
+
+def described(path, names=100, descriptors=75):
+    texts = ["(" + "".join(f"Lp/T{n * (place == 0)};" for place in range(254)) + ")V" for n in range(descriptors)]
+    methods = [(f"m{n}", text) for text in texts for n in range(names)]
+    classes = ((loader, name, class_file(name, above, methods)) for loader, name, above in (("boot", "p/B", OBJECT), ("app", "p/C", "p/B")))
+    bundle(path, TWO, [TOP, *(f"%class {loader} {name}\n@hex {file.hex()}\n" for loader, name, file in classes)], ["link app p/C\n"])
+
+
+def class_file(name, above, methods):
+    """A public class of version 52.0 with public methods of these names and descriptors."""
+    texts = [*dict.fromkeys([name, above, *(it for method in methods for it in method)])]
+    places = {text: (place + 5).to_bytes(2, "big") for place, text in enumerate(texts[2:])}
+    pool = b"".join(b"\x01" + len(it).to_bytes(2, "big") + it.encode() for it in texts)
+    head = b"\xca\xfe\xba\xbe\x00\x00\x00\x34" + (len(texts) + 3).to_bytes(2, "big")
+    # (the two names, then the classes of these names, then the other texts)
+    two = len(texts[0]) + len(texts[1]) + 6
+    head += pool[:two] + b"\x07\x00\x01\x07\x00\x02" + pool[two:]
+    members = b"".join(b"\x00\x01" + places[it] + places[text] + b"\x00\x00" for it, text in methods)
+    return head + b"\x00\x21\x00\x03\x00\x04\x00\x00\x00\x00" + len(methods).to_bytes(2, "big") + members + b"\x00\x00"
 
 
 def offered(path, count=500):
@@ -329,13 +386,13 @@ def blocks(path, count=2000):
 
 def main(folder):
     os.makedirs(folder, exist_ok=True)
-    references = methods, settled, constraints, refused
-    chains = overriding, repeated, halves, crowned, paired, against, inherits, renamed, hiding, turning, offered, crossed, fans, plain, topped, wide, distinct, many, inherited, naming, interfaces, beside, comb, fringe, twos, combs, blocks
+    references = methods, settled, constraints, refused, described
+    chains = overriding, repeated, halves, crowned, paired, against, inherits, renamed, hiding, turning, slotted, broad, veiled, scanned, offered, crossed, fans, plain, topped, wide, distinct, many, inherited, naming, interfaces, beside, comb, fringe, twos, combs, blocks
     for make in *references, ladder, links, *chains:
         make(f"{folder}/{make.__name__}")
     counts = {overriding: 15000, plain: 22000, topped: 22000, distinct: 15000, many: 1000, inherited: 14000, naming: 17000}
     for make, count in {**counts, interfaces: 14000, beside: 7000, comb: 6500, fringe: 6500, twos: 11000, combs: 5000, blocks: 14000, repeated: 7500, halves: 7000,
-        crowned: 7000, paired: 7000, against: 12000, inherits: 7000, renamed: 7000, hiding: 7000, turning: 7000, offered: 10000, crossed: 11000, fans: 6700}.items():
+        crowned: 7000, paired: 7000, against: 12000, inherits: 7000, renamed: 7000, hiding: 7000, turning: 7000, slotted: 7000, broad: 6000, veiled: 6000, scanned: 2300, offered: 10000, crossed: 11000, fans: 6700}.items():
         make(f"{folder}/{make.__name__}_mb", count)
 
 

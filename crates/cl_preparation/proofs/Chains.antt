@@ -29,6 +29,7 @@ use Rattle.cl_preparation.specs.Chains.{IsChained, IsKept, IsUnder}
 use Rattle.cl_preparation.specs.Fewer.{AreFew, by_methods, by_superinterfaces, fewer_declared, fewer_inherited, loaders, loaders_over, others_after}
 use Rattle.cl_preparation.specs.Inherited.{equals_from, other_than}
 use Rattle.cl_preparation.specs.MethodsAbove.{AreTold, Tells}
+use Rattle.cl_preparation.specs.Nearby.{AddLoaders, AreLike}
 use Rattle.cl_preparation.specs.Relatives.{bare}
 use Rattle.cl_preparation.specs.Surveys.{IsAlone, IsSurvey}
 use Rattle.cl_preparation.specs.Walks.{opens}
@@ -116,9 +117,9 @@ by_rows v c (x ∷ xs) = ap (λ (ns : List Need). flat_map (fewer_inherited c (b
 
 module _ {S : Type 0} (l : Lined) (own : Rowed) (survey : Survey) (above : IndexMap MethodTexts Above S) (over : List Rowed) (shared : List Bool) (is : IsChained l own survey above over shared) where
   -- the loaders of superclasses, and then those of superinterfaces
-  pub chained_over : (key : Key) (loader : ℕ) (up all : List ℕ) → takes_part key (kin_of l) ≡ true → loader ≡ own.class.loader → up ≡ others_after loader [] (loaders (filter (opens key) (superclasses (kin_of l))))
-      → all ≡ up ++ others_after loader up (loaders (filter (takes_part key) (map bare over))) → all ≡ others_after l.own.class.loader [] (loaders_over (kin_of l) key)
-  chained_over key loader up all tp le first second =
+  pub chained_over : (of : List Rowed) → AddLoaders l of → (key : Key) (loader : ℕ) (up all : List ℕ) → takes_part key (kin_of l) ≡ true → loader ≡ own.class.loader → up ≡ others_after loader [] (loaders (filter (opens key) (superclasses (kin_of l))))
+      → all ≡ up ++ others_after loader up (loaders (filter (takes_part key) (map bare of))) → all ≡ others_after l.own.class.loader [] (loaders_over (kin_of l) key)
+  chained_over of tells key loader up all tp le first second =
       let c : Kin = kin_of l in
       let le' : loader ≡ l.own.class.loader = le ∙ ap (λ (r : Rowed). r.class.loader) is.own_is in
       let tree : List ℕ = loaders (if is_interface c.file then [] else overridden key c) in
@@ -128,7 +129,7 @@ module _ {S : Type 0} (l : Lined) (own : Rowed) (survey : Survey) (above : Index
       ∙ sym (open_enough key l.own.class.loader [] (l.own.class ∷ []) (superclasses c) (own_known l.own.class.loader, tt))
       ∙ ap (λ (ks : List Kin). others_after l.own.class.loader [] (loaders ks)) (sym (overridden_is_walked key c tp))
       ∙ ap (λ (b : Bool). others_after l.own.class.loader [] (loaders (if b then [] else overridden key c))) (sym is.class) in
-      second ∙ ap (λ (n : ℕ). up ++ others_after n up (loaders (filter (takes_part key) (map bare over)))) le' ∙ ap (λ (xs : List ℕ). up ++ xs) (is.over_are.loaders_are key up tp)
+      second ∙ ap (λ (n : ℕ). up ++ others_after n up (loaders (filter (takes_part key) (map bare of)))) le' ∙ ap (λ (xs : List ℕ). up ++ xs) (tells key up tp)
       ∙ ap (λ (xs : List ℕ). xs ++ others_after l.own.class.loader xs taking) ups ∙ sym (others_both l.own.class.loader [] tree taking)
 
   pub chained_declared : (m : Member) (key : Key) (needs new : List Need) (listed : List ℕ) (loader : ℕ) → key ≡ m.key → takes_part key (bare own) ≡ true → loader ≡ own.class.loader → listed ≡ others_after l.own.class.loader [] (loaders_over (kin_of l) key)
@@ -201,3 +202,9 @@ module _ {S : Type 0} (l : Lined) (own : Rowed) (survey : Survey) (above : Index
       few_given given c all
       (second ∙ ap (λ (ns : List Need). ns ++ by_superinterfaces fewer_inherited c) first
       ∙ sym (ap (λ (b : Bool). flat_map (fewer_declared c) c.file.methods ++ (if b then [] else by_superinterfaces fewer_inherited c)) is.class))
+
+-- those of the superinterfaces that may declare what the class does add the same loaders
+pub like_add : (l : Lined) (own : Rowed) (over like : List Rowed) → own ≡ l.own → AddLoaders l over → AreLike own over like → AddLoaders l like
+like_add l own over like same add are = λ key listed part.
+    let mine : takes_part key (bare own) ≡ true = ap (λ (r : Rowed). takes_part key (bare r)) same ∙ part in
+    ap (λ (ks : List Kin). others_after l.own.class.loader listed (loaders ks)) (are key mine) ∙ add key listed part

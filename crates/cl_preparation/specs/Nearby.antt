@@ -11,14 +11,24 @@ use Rattle.cl_preparation.specs.Fewer.{by_methods, by_superinterfaces, fewer_inh
 use Rattle.cl_preparation.specs.Relatives.{bare}
 use Rattle.cl_preparation.specs.Walks.{opens}
 
--- superinterfaces that add to the few what all do: the same loaders to those of a method of the
--- class, and for what a class that is no interface inherits the same equalities (5.4.2)
+-- superinterfaces that add to the loaders of a method of the class the same as all do (5.4.2)
+abbrev pub AddLoaders : Lined → List Rowed → Type 0
+AddLoaders l over =
+    (key : Key) (listed : List ℕ) → takes_part key (bare l.own) ≡ true
+    → others_after l.own.class.loader listed (loaders (filter (takes_part key) (map bare over)))
+    ≡ others_after l.own.class.loader listed
+    (loaders (filter (takes_part key) (superinterfaces (kin_of l))))
+
+-- of these classes, those that declare what a class declares, where it takes part in both (5.4.5)
+abbrev pub AreLike : Rowed → List Rowed → List Rowed → Type 0
+AreLike own rows like =
+    (key : Key) → takes_part key (bare own) ≡ true
+    → filter (takes_part key) (map bare like) ≡ filter (takes_part key) (map bare rows)
+
+-- superinterfaces that add to the few what all do: those loaders, and for what a class that is no
+-- interface inherits the same equalities (5.4.2)
 pub record AddAll (l : Lined) (over : List Rowed) : Type 0 where
-  pub loaders_are :
-      (key : Key) (listed : List ℕ) → takes_part key (bare l.own) ≡ true
-      → others_after l.own.class.loader listed (loaders (filter (takes_part key) (map bare over)))
-      ≡ others_after l.own.class.loader listed
-      (loaders (filter (takes_part key) (superinterfaces (kin_of l))))
+  pub loaders_are : AddLoaders l over
   pub second_are :
       is_interface (file_of l.own.file) ≡ false
       → by_methods bare (λ j. fewer_inherited (kin_of l) (bare j)) over

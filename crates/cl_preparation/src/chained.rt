@@ -7,6 +7,7 @@ ghost use Rattle.cl_hierarchy.specs.Lineages.{kin_of};
 ghost use Rattle.cl_model.specs.Preparation.{takes_part};
 ghost use Rattle.cl_preparation.specs.Chains.{AreImposed, IsSharedIn, by_row, hidden_by};
 ghost use Rattle.cl_preparation.specs.Fewer.{AddsLeft, AreFew, IsImposed, by_superinterfaces, fewer_declared, fewer_inherited, loaders_over, others_after};
+ghost use Rattle.cl_preparation.specs.Nearby.{AddLoaders};
 ghost use Rattle.cl_preparation.specs.Relatives.{bare};
 ghost use Rattle.cl_preparation.specs.Walks.{hides};
 
@@ -16,17 +17,22 @@ use crate::described::{Described, push_equals};
 use crate::hiding::Hiding;
 use crate::inherited::other_than;
 use crate::key::MethodKey;
+use crate::like::rows_like;
 use crate::listed::Listed;
 use crate::method::Method;
 use crate::methods_above::{MethodsAbove, nearest_above, wide_above};
 use crate::plain::push_with;
 use crate::relative::{Relative, names_interfaces};
+use crate::silent::are_alone;
 use crate::survey::Survey;
 use cl_hierarchy::{ClassRow, Given, Lineage};
 use cl_model::{Equality, Told};
 use std::alloc::{AllocError, Global};
 use std::marker::Model;
 use std::sync::Arc;
+
+/// So many methods, or superinterfaces, are few: then each method is looked for in each superinterface.
+const FEW: usize = 4;
 
 /// Whether a place is marked.
 fn is_marked(marks: &[bool], place: usize) -> bool
@@ -77,14 +83,20 @@ impl<'a, 'b, 'c, 'd, T: Told> Model for Chained<'a, 'b, 'c, 'd, T> {
 impl<'a, 'b, 'c, 'd, T: Told> Chained<'a, 'b, 'c, 'd, T> {
     /// The other loaders of what a method with this key overrides, each once: those of superclasses, nearest first, then those
     /// of superinterfaces (JVMS SE 8, 5.4.5).
-    fn loaders_over(&self, alloc: Global, key: &MethodKey) -> Result<Listed, AllocError>
-        requires { takes_part key.now (kin_of self.now) ≡ true }
+    fn loaders_over(
+        &self,
+        alloc: Global,
+        over: &Away<'_, T>,
+        key: &MethodKey,
+    ) -> Result<Listed, AllocError>
+        requires over { AddLoaders self.now over.now }
+        requires part { takes_part key.now (kin_of self.now) ≡ true }
         ensures { IfOk result (λ v. v ≡ others_after self.now.own.class.loader []
             (loaders_over (kin_of self.now) key.now)) }
     {
         let own = self.own.loader();
         let mut listed = wide_above(alloc, self.above, own, key)?;
-        self.over.list_counted(&mut listed, own, key, false)?;
+        over.list_counted(&mut listed, own, key, false)?;
         Ok(listed)
     }
 
@@ -93,8 +105,10 @@ impl<'a, 'b, 'c, 'd, T: Told> Chained<'a, 'b, 'c, 'd, T> {
         &self,
         alloc: Global,
         needs: &mut Vec<Equality>,
+        over: &Away<'_, T>,
         method: &Method,
     ) -> Result<(), AllocError>
+        requires { AddLoaders self.now over.now }
         ensures { OnOk result (needs_of needs.new.items ≡ needs_of needs.old.items
             ++ fewer_declared (kin_of self.now) method.now) }
     {
@@ -106,7 +120,7 @@ impl<'a, 'b, 'c, 'd, T: Told> Chained<'a, 'b, 'c, 'd, T> {
         if self.survey.is_alone(alloc, key)? {
             return Ok(());
         }
-        let loaders = self.loaders_over(alloc, key)?;
+        let loaders = self.loaders_over(alloc, over, key)?;
         push_with(alloc, needs, key, self.own.loader(), &loaders)
     }
 
@@ -116,15 +130,39 @@ impl<'a, 'b, 'c, 'd, T: Told> Chained<'a, 'b, 'c, 'd, T> {
         &self,
         alloc: Global,
         needs: &mut Vec<Equality>,
+        over: &Away<'_, T>,
+        methods: &[Method],
+    ) -> Result<(), AllocError>
+        requires { AddLoaders self.now over.now }
+        ensures { OnOk result (needs_of needs.new.items ≡ needs_of needs.old.items ++ flat_map
+            (fewer_declared (kin_of self.now)) methods.now) }
+    {
+        for method in methods {
+            self.push_declared(alloc, needs, over, method)?;
+        }
+        Ok(())
+    }
+
+    /// Adds the same, with no look into superinterfaces that declare none of them, where these looks would be many.
+    fn push_all_declared(
+        &self,
+        alloc: Global,
+        needs: &mut Vec<Equality>,
         methods: &[Method],
     ) -> Result<(), AllocError>
         ensures { OnOk result (needs_of needs.new.items ≡ needs_of needs.old.items ++ flat_map
             (fewer_declared (kin_of self.now)) methods.now) }
     {
-        for method in methods {
-            self.push_declared(alloc, needs, method)?;
+        let is_little = methods.len() <= FEW || self.over.len() <= FEW;
+        if is_little || are_alone(alloc, self.survey, &self.own, methods)? {
+            return self.push_each_declared(alloc, needs, &self.over, methods);
         }
-        Ok(())
+        let many = methods.len().saturating_mul(FEW);
+        let like = rows_like(alloc, &self.own, self.over.as_slice(), many)?;
+        let over = Away::unfiltered(alloc, like);
+        let pushed = self.push_each_declared(alloc, needs, &over, methods);
+        drop(over);
+        pushed
     }
 
     /// Adds what a method of a superinterface imposes with the one that the class inherits (JVMS SE 8, 5.4.2).
@@ -323,7 +361,7 @@ impl<'a, 'b, 'c, 'd, T: Told> Chained<'a, 'b, 'c, 'd, T> {
     {
         let mut needs = Vec::new(alloc);
         let methods = self.own.methods(alloc)?;
-        self.push_each_declared(alloc, &mut needs, methods.as_slice())?;
+        self.push_all_declared(alloc, &mut needs, methods.as_slice())?;
         self.push_inherited(alloc, &mut needs, given)?;
         Ok(needs)
     }

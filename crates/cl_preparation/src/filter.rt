@@ -2,7 +2,7 @@
 
 ghost use Rattle.std.specs.Prelude.{◌≡◌, ◌<◌, Some, IfOk, List, false, true, ℕ, length, option_map, slice_get};
 ghost use Rattle.cl_classfile.specs.Files.{file_of};
-ghost use Rattle.cl_preparation.specs.Filters.{Covers, slot};
+ghost use Rattle.cl_preparation.specs.Filters.{Covers, Shuns, slot};
 
 use cl_classfile::{ClassFile, text_at};
 use cl_names::Name;
@@ -80,5 +80,30 @@ impl NameFilter {
         ensures { slice_get self.now (slot name.now) ≡ Some result }
     {
         self.slots[slot_of(name)]
+    }
+
+    /// The same of a name that is there.
+    fn passes_known(&self, name: Option<&Name>) -> bool
+        ensures { (n : List ℕ) → option_map (λ x. x.now) name.entry ≡ Some n → result ≡ false
+            → slice_get self.now (slot n) ≡ Some false }
+    {
+        match name {
+            Some(name) => self.passes(name),
+            None => false,
+        }
+    }
+
+    /// Whether one of a file's methods may have the name of one of those that the filter is of.
+    pub fn passes_any(&self, file: &ClassFile) -> bool
+        ensures { result ≡ false → Shuns self.now (file_of file.now).methods }
+    {
+        let pool = file.pool();
+        let members = file.methods();
+        for member in members {
+            if self.passes_known(text_at(pool, member.name_index())) {
+                return true;
+            }
+        }
+        false
     }
 }

@@ -13,6 +13,7 @@ mod hiding;
 mod inherited;
 mod kept;
 mod key;
+mod like;
 mod listed;
 mod method;
 mod methods_above;

@@ -49,7 +49,7 @@ fn is_unmixed<T: Told>(
 }
 
 /// Whether each of these methods of a class is alone.
-fn are_alone<T: Told>(
+pub(crate) fn are_alone<T: Told>(
     alloc: Global,
     survey: &Survey,
     own: &Relative<T>,

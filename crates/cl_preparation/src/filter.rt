@@ -83,7 +83,7 @@ impl NameFilter {
     }
 
     /// The same of a name that is there.
-    fn passes_known(&self, name: Option<&Name>) -> bool
+    pub fn passes_known(&self, name: Option<&Name>) -> bool
         ensures { (n : List ℕ) → option_map (λ x. x.now) name.entry ≡ Some n → result ≡ false
             → slice_get self.now (slot n) ≡ Some false }
     {

@@ -1,5 +1,5 @@
-//! Which methods of superinterfaces a superclass hides: it declares the same, but such as take no part in overriding, and so imposes
-//! nothing with them that a class below may impose (JVMS SE 8, 5.4.2, 5.4.5).
+//! Which methods of superinterfaces a superclass hides: it declares them private or static, and so imposes nothing with them, where a
+//! class below may inherit them from farther above (JVMS SE 8, 5.4.2, 5.4.5).
 
 ghost use Rattle.std.specs.Prelude.{◌≡◌, false, IfOk, Some, filter, option_map, option_to_list};
 ghost use Rattle.cl_classfile.specs.Files.{Key, declared_by, file_of, method_of};
@@ -56,10 +56,7 @@ impl<T: Told> Hiding<T> {
         ensures { (key : Key) → option_map (λ x. x.now) name.entry ≡ Some key.name
             → result ≡ false → hides key (bare self.now) ≡ false }
     {
-        match name {
-            Some(name) => self.names.passes(name),
-            None => false,
-        }
+        self.names.passes_known(name)
     }
 
     /// The method of a member, if it is hidden.

@@ -98,19 +98,19 @@ at_place rows (p ∷ places) (suc i) j has e =
     record { place = more.place; row = more.row; at = more.at; there = more.there; is = more.is }
 
 -- as the tree has them
-pub shared_kins : (rows : List Rowed) (start : Rowed) (places : List ℕ) (marks : List Bool) → AreSuperinterfacesAt rows start places → AreSharedAt rows start places marks → AreShared (kin_under (kins rows) start) (superinterfaces (kin_under (kins rows) start)) marks
-shared_kins rows start places marks are shared = λ i j marked at.
+pub shared_kins : (rows : List Rowed) (start : Rowed) (places : List ℕ) (marks : List Bool) → AreSuperinterfacesAt rows start places → AreSharedAt rows start places marks → AreShared (kin_under (kins rows) start) marks
+shared_kins rows start places marks are shared = λ i marked j at.
     let x = at_place rows places i j are.within (ap (λ (ks : List Kin). slice_get ks i) are.order ∙ at) in
     subst (λ (k : Kin). IsOverAbove (kin_under (kins rows) start) k) x.is (shared i x.place x.row marked x.at x.there)
 
 -- as contracts tell it of the class at a place
-pub shared_there : (l : Lined) (place : ℕ) (o : OverAt) (marks : List Bool) → IsInOrder l → o.of ≡ place → marks ≡ o.shared.items → IsOverAt l o → AreShared (kin_of (lined_at l place)) (superinterfaces (kin_of (lined_at l place))) marks
+pub shared_there : (l : Lined) (place : ℕ) (o : OverAt) (marks : List Bool) → IsInOrder l → o.of ≡ place → marks ≡ o.shared.items → IsOverAt l o → AreShared (kin_of (lined_at l place)) marks
 shared_there l place o marks order at is kept =
     let rows : List Rowed = rows_in l in
-    let here : AreShared (kin_under (kins rows) (own_at l o.of)) (superinterfaces (kin_under (kins rows) (own_at l o.of))) o.shared.items = shared_kins rows (own_at l o.of) o.places.items o.shared.items kept.are kept.shared_are in
+    let here : AreShared (kin_under (kins rows) (own_at l o.of)) o.shared.items = shared_kins rows (own_at l o.of) o.places.items o.shared.items kept.are kept.shared_are in
     let kin : kin_under (kins rows) (own_at l o.of) ≡ kin_of (lined_at l place) = ap (λ (n : ℕ). kin_under (kins rows) (own_at l n)) at ∙ sym (at_kin l place order) in
-    subst (λ (bs : List Bool). AreShared (kin_of (lined_at l place)) (superinterfaces (kin_of (lined_at l place))) bs) (sym is)
-    (subst (λ (k : Kin). AreShared k (superinterfaces k) o.shared.items) kin here)
+    subst (λ (bs : List Bool). AreShared (kin_of (lined_at l place)) bs) (sym is)
+    (subst (λ (k : Kin). AreShared k o.shared.items) kin here)
 
 -- the superclass of the class at a place, if it stands at that
 pub is_up : (l : Lined) (place of : ℕ) → IsInOrder l → place ≤ length l.above → of ≤ length l.above → (table : List Supers) → AreAllSupers (rows_in l) (rows_in l) table → ((s : Supers) → slice_get table place ≡ Some s → Some of ≡ s.up)

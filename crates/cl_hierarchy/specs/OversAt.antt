@@ -14,10 +14,13 @@ pub record IsOverAbove (k j : Kin) : Type 0 where
   pub up : Some above ≡ first (superclasses k)
   pub over : Contains (superinterfaces above) j
 
--- of these superinterfaces of a class, those that are marked are its superclass's too
-abbrev pub AreShared : Kin → List Kin → List Bool → Type 0
-AreShared k js marks =
-    (i : ℕ) (j : Kin) → slice_get marks i ≡ Some true → slice_get js i ≡ Some j → IsOverAbove k j
+-- the superinterface of a class at a place of their list, if there is one, is its superclass's too
+abbrev pub IsSharedIn : Kin → ℕ → Type 0
+IsSharedIn k i = (j : Kin) → slice_get (superinterfaces k) i ≡ Some j → IsOverAbove k j
+
+-- of the superinterfaces of a class, in order, those that are marked are its superclass's too
+abbrev pub AreShared : Kin → List Bool → Type 0
+AreShared k marks = (i : ℕ) → slice_get marks i ≡ Some true → IsSharedIn k i
 
 -- the same of the rows at places
 abbrev pub AreSharedAt : List Rowed → Rowed → List ℕ → List Bool → Type 0

@@ -283,8 +283,7 @@ impl<T: Told> Lineages<T> {
     /// is no answer, nothing is known. Constant time, no memory.
     pub fn shared_at(&self, place: usize) -> Option<&[bool]>
         requires within { place ≤ length self.now.above }
-        ensures { IfSome result (λ v. AreShared (kin_of (lined_at self.now place))
-            (superinterfaces (kin_of (lined_at self.now place))) v.now) }
+        ensures { IfSome result (λ v. AreShared (kin_of (lined_at self.now place)) v.now) }
     {
         // brings what the lineage keeps
         let _ = self.lineage();

@@ -9,7 +9,7 @@ use cl_names::Name;
 use std::alloc::{AllocError, Global};
 
 /// That two loaders have the same class of a name: a loading constraint (JVMS SE 8, 5.3.4).
-#[derive(Debug, Drop, PartialEq, Eq)]
+#[derive(Debug, Drop, PartialEq, Eq, Hash)]
 pub struct Equality {
     pub name: Name,
     pub one: LoaderId,

@@ -17,11 +17,12 @@ use Rattle.cl_model.proofs.Closed.{met_both}
 use Rattle.cl_model.proofs.Keys.{keys_are_told}
 use Rattle.cl_model.proofs.Progress.{met_split}
 use Rattle.cl_hierarchy.specs.Lineages.{Lined, kin_at, kin_of}
-use Rattle.cl_hierarchy.specs.OversAt.{IsOverAbove}
+use Rattle.cl_hierarchy.specs.OversAt.{IsOverAbove, IsSharedIn}
 use Rattle.cl_hierarchy.specs.Rows.{Rowed}
 use Rattle.cl_hierarchy.specs.Trees.{forest, in_front, kin_named, kins, superclass_in}
 use Rattle.cl_hierarchy.proofs.Ways.{up_class}
-use Rattle.cl_preparation.specs.Chains.{AreImposed, AreOver, CoversHidden, IsClassAbove, IsSharedIn, by_row, hidden_by}
+use Rattle.cl_preparation.specs.Listings.{Listing}
+use Rattle.cl_preparation.specs.Chains.{AreImposed, AreOver, CoversHidden, IsClassAbove, by_row, hidden_by}
 use Rattle.cl_preparation.specs.Nearby.{AddAll}
 use Rattle.cl_preparation.specs.Fewer.{AddsLeft, IsImposed, by_methods, by_superinterfaces, fewer_inherited, is_between, unhidden}
 use Rattle.cl_preparation.specs.Relatives.{bare, names_interfaces}
@@ -305,18 +306,18 @@ took_rows (x ∷ rows) zero h = absurd (omega (arith, h))
 took_rows (x ∷ rows) (suc i) h = ap (λ ys. x ∷ ys) (took_rows rows i (omega (arith, h)))
 
 -- what was added for all rows is for all superinterfaces
-pub all_left_rows : {A : Type 0} (l : Lined) (own : Rowed) (over : List Rowed) → is_interface (file_of l.own.file) ≡ false → AddAll l over → (v : A → Rowed) (rows : List A) (old new : List Need) → map v rows ≡ over
+pub all_left_rows : {A : Type 0} (l : Lined) (own : Rowed) (over : List Rowed) → is_interface (file_of l.own.file) ≡ false → AddAll l over → (v : A → Rowed) (rows : List A) (old new : Listing) → map v rows ≡ over
     → AddsLeft (kin_of l) old (flat_map (λ x. by_row (kin_of l) (v x)) rows) new → AddsLeft (kin_of l) old (by_superinterfaces fewer_inherited (kin_of l)) new
 all_left_rows l own over class add v rows old new same left =
     subst (λ (ns : List Need). AddsLeft (kin_of l) old ns new)
     (by_rows v (kin_of l) rows ∙ ap (by_methods bare (λ j. fewer_inherited (kin_of l) (bare j))) same ∙ add.second_are class) left
 
 -- what was added for the first so many of the rows
-abbrev pub AddsFor : {A : Type 0} → (A → Rowed) → Kin → List Need → List A → List Need → Type 0
+abbrev pub AddsFor : {A : Type 0} → (A → Rowed) → Kin → Listing → List A → Listing → Type 0
 AddsFor v c old rows new = AddsLeft c old (flat_map (λ x. flat_map (fewer_inherited c (bare (v x))) (bare (v x)).file.methods) rows) new
 
 -- a row more
-pub row_left : {A : Type 0} (v : A → Rowed) (c : Kin) (old mid new : List Need) (rows : List A) (i : ℕ) (x : A) → i < length rows → x ≡ get_or rows i x → AddsFor v c old (take i rows) mid
+pub row_left : {A : Type 0} (v : A → Rowed) (c : Kin) (old mid new : Listing) (rows : List A) (i : ℕ) (x : A) → i < length rows → x ≡ get_or rows i x → AddsFor v c old (take i rows) mid
     → AddsLeft c mid (flat_map (fewer_inherited c (bare (v x))) (bare (v x)).file.methods) new → AddsFor v c old (take (i + 1) rows) new
 row_left v c old mid new rows i x lt at so_far one =
     let f : _ → List Need = λ y. flat_map (fewer_inherited c (bare (v y))) (bare (v y)).file.methods in

@@ -7,6 +7,7 @@ pub mod Filters
 pub mod Inheriting
 pub mod Interfaces
 pub mod Keys
+pub mod Listings
 pub mod MethodsAbove
 pub mod Named
 pub mod Nearby

@@ -12,6 +12,8 @@ use Rattle.cl_model.specs.States.{Equal, Need}
 use Rattle.cl_hierarchy.specs.Rows.{Rowed}
 use Rattle.cl_hierarchy.specs.Lineages.{IsRowIn, Lined, is_of_other, kin_at, kin_of, others_of, row_of, rows_in}
 use Rattle.cl_hierarchy.specs.Trees.{kin_under, kins}
+use Rattle.cl_preparation.specs.Listings.{Listing, and_all, once_of, without_repeats}
+use Rattle.cl_preparation.proofs.Listings.{all_append}
 use Rattle.cl_preparation.specs.Fewer.{by_superinterfaces, fewer_constraints_of, fewer_declared, fewer_inherited, is_between, is_new, loaders, loaders_over, others_after}
 use Rattle.cl_preparation.specs.Inherited.{away_from, equals_from, first_loader, inherited_by_rows, other_than, second_by_rows}
 use Rattle.cl_preparation.specs.Nearby.{AddAll, AreNear, near_declared, near_loaders}
@@ -250,25 +252,30 @@ class_of : (l : Lined) (own : Rowed) → own ≡ l.own → is_interface (file_of
 class_of l own same class = ap (λ (r : Rowed). is_interface (file_of r.file)) (sym same) ∙ class
 
 -- what the methods of a class impose
-pub each_told : (own : Rowed) (away over : List Rowed) (ms xs : List Member) (none all : List Need) → ms ≡ (bare own).file.methods → xs ≡ ms → none ≡ [] → all ≡ none ++ flat_map (near_declared own away over) xs
-    → all ≡ flat_map (near_declared own away over) (bare own).file.methods
-each_told own away over ms xs none all made same empty first =
-    first ∙ ap (λ ns. ns ++ flat_map (near_declared own away over) xs) empty ∙ ap (flat_map (near_declared own away over)) (same ∙ made)
+pub each_told : (own : Rowed) (away over : List Rowed) (ms xs : List Member) (old new : Listing) → ms ≡ (bare own).file.methods → xs ≡ ms → new ≡ and_all old (flat_map (near_declared own away over) xs)
+    → new ≡ and_all old (flat_map (near_declared own away over) (bare own).file.methods)
+each_told own away over ms xs old new made same first =
+    first ∙ ap (λ (ys : List Member). and_all old (flat_map (near_declared own away over) ys)) (same ∙ made)
 
 -- all that an interface imposes
-pub interface_told : (l : Lined) (own : Rowed) (away over : List Rowed) (all : List Need) → AreNear l own away over → is_interface (file_of l.own.file) ≡ true → all ≡ flat_map (near_declared own away over) (bare own).file.methods → all ≡ fewer_constraints_of (kin_of l)
+pub interface_told : (l : Lined) (own : Rowed) (away over : List Rowed) (all : List Need) → AreNear l own away over → is_interface (file_of l.own.file) ≡ true → all ≡ without_repeats (flat_map (near_declared own away over) (bare own).file.methods) → all ≡ fewer_constraints_of (kin_of l)
 interface_told l own away over all near inter first =
     let c = kin_of l in
-    first ∙ declared_near l own away over near ∙ sym (append-nil (flat_map (fewer_declared c) c.file.methods))
-    ∙ sym (ap (λ (b : Bool). flat_map (fewer_declared c) c.file.methods ++ (if b then [] else by_superinterfaces fewer_inherited c)) inter)
+    first
+    ∙ ap without_repeats
+    (declared_near l own away over near ∙ sym (append-nil (flat_map (fewer_declared c) c.file.methods))
+    ∙ sym (ap (λ (b : Bool). flat_map (fewer_declared c) c.file.methods ++ (if b then [] else by_superinterfaces fewer_inherited c)) inter))
 
 -- and all that another class does
-pub class_told : (l : Lined) (own : Rowed) (away over : List Rowed) (one all : List Need) → AreNear l own away over → is_interface (file_of own.file) ≡ false → one ≡ flat_map (near_declared own away over) (bare own).file.methods
-    → all ≡ one ++ by_superinterfaces fewer_inherited (kin_of l) → all ≡ fewer_constraints_of (kin_of l)
-class_told l own away over one all near class first second =
+pub class_told : (l : Lined) (own : Rowed) (away over : List Rowed) (none one all : Listing) → AreNear l own away over → is_interface (file_of own.file) ≡ false → none ≡ once_of []
+    → one ≡ and_all none (flat_map (near_declared own away over) (bare own).file.methods) → all ≡ and_all one (by_superinterfaces fewer_inherited (kin_of l)) → all.needs ≡ fewer_constraints_of (kin_of l)
+class_told l own away over none one all near class empty first second =
     let c = kin_of l in
-    second ∙ ap (λ ns. ns ++ by_superinterfaces fewer_inherited c) (first ∙ declared_near l own away over near)
-    ∙ sym (ap (λ (b : Bool). flat_map (fewer_declared c) c.file.methods ++ (if b then [] else by_superinterfaces fewer_inherited c)) (class_of l own near.own_is class))
+    let declared : List Need = flat_map (fewer_declared c) c.file.methods in
+    ap (λ (n : Listing). n.needs)
+    (second ∙ ap (λ (n : Listing). and_all n (by_superinterfaces fewer_inherited c)) (first ∙ ap (λ (n : Listing). and_all n (flat_map (near_declared own away over) (bare own).file.methods)) empty ∙ ap (and_all (once_of [])) (declared_near l own away over near))
+    ∙ sym (all_append (once_of []) declared (by_superinterfaces fewer_inherited c)))
+    ∙ ap without_repeats (sym (ap (λ (b : Bool). declared ++ (if b then [] else by_superinterfaces fewer_inherited c)) (class_of l own near.own_is class)))
 
 -- and so with the rows of its superclasses
 module _ {A : Type 0} (f : A → Rowed) (l : Lined) (own : Rowed) (xs ys : List A) (away over above : List Rowed) (near : AreNear l own away over) (one : ys ≡ xs) (made : above ≡ map f ys)

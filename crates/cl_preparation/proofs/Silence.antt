@@ -24,6 +24,7 @@ use Rattle.cl_hierarchy.specs.Trees.{SupersBefore, forest, in_front, interface_p
 use Rattle.cl_hierarchy.proofs.Climbs.{placed_row, rows_more}
 use Rattle.cl_hierarchy.proofs.Told.{all_forth}
 use Rattle.cl_preparation.specs.Fewer.{by_superinterfaces, fewer_constraints_of, fewer_declared, fewer_inherited, loaders, loaders_over, others_after}
+use Rattle.cl_preparation.specs.Listings.{without_repeats}
 use Rattle.cl_preparation.specs.Nearby.{AddAll}
 use Rattle.cl_preparation.specs.Inherited.{away_from, equals_from, first_loader, inherited_by_rows, other_than}
 use Rattle.cl_preparation.specs.Quiet.{is_heard, is_silent, names_other}
@@ -378,11 +379,11 @@ pub quiet_imposes : (l : Lined) (own : ℕ) (mine : Rowed) → own ≡ l.own.cla
 quiet_imposes l own mine oe me first rest inter =
     let add = quiet_interface l own mine oe me first rest inter in
     let c = kin_of l in
-    sym (
+    ap without_repeats (sym (
     ap (λ (b : Bool). flat_map (fewer_declared c) c.file.methods ++ (if b then [] else by_superinterfaces fewer_inherited c)) inter
     ∙ append-nil (flat_map (fewer_declared c) c.file.methods)
     ∙ declare_none c c.file.methods inter (λ key tp. sym (add.loaders_are key [] tp))
-    )
+    ))
 
 -- a class, all of whose superinterfaces are of its loader, and whose superclasses of other loaders declare nothing that these declare: none, or such as are unmixed
 quiet_away : (l : Lined) (away : List Rowed) (own : ℕ) (mine : Rowed) → own ≡ l.own.class.loader → mine ≡ l.own → names_other own mine ≡ false → list_any (names_other own) l.above ≡ false → map (kin_at l) away ≡ others_of (Some l.own.class.loader) (superclasses (kin_of l))

@@ -21,6 +21,7 @@ use Rattle.cl_hierarchy.specs.Rows.{Rowed}
 use Rattle.cl_hierarchy.specs.Trees.{forest, in_front, interfaces_in, kin_named, kin_under, kins, kins_after, superclass_in}
 use Rattle.cl_preparation.specs.declared.survey.Survey.{Survey}
 use Rattle.cl_preparation.specs.Fewer.{by_superinterfaces, fewer_constraints_of, fewer_declared, fewer_inherited, loaders, others_after}
+use Rattle.cl_preparation.specs.Listings.{without_repeats}
 use Rattle.cl_preparation.specs.Inherited.{equals_from, other_than}
 use Rattle.cl_preparation.specs.Nearby.{AddAll}
 use Rattle.cl_preparation.specs.Relatives.{bare}
@@ -244,9 +245,9 @@ module _ (l : Lined) (rows : List Rowed) (part : IsPart rows l) where
       subst (λ (r : Rowed). AllByRecursion (λ (m : Member). takes_part m.key (bare r) ≡ true → IsAlone rows m.key) (file_of r.file).methods) same
       (subst (λ (xs : List Member). AllByRecursion (λ (m : Member). takes_part m.key (bare own) ≡ true → IsAlone rows m.key) xs) made alone) in
       let off : is_interface (file_of l.own.file) ≡ false = ap (λ (r : Rowed). is_interface (file_of r.file)) (sym same) ∙ class in
-      second_alike are
+      ap without_repeats (second_alike are
       ∙ sym (ap (λ (ns : List Need). ns ++ (if is_interface c.file then [] else by_superinterfaces fewer_inherited c)) (each_none (λ (m : Member). takes_part m.key (bare l.own) ≡ true → IsAlone rows m.key) (file_of l.own.file).methods mine alone_none)
-      ∙ ap (λ (b : Bool). if b then [] else by_superinterfaces fewer_inherited c) off)
+      ∙ ap (λ (b : Bool). if b then [] else by_superinterfaces fewer_inherited c) off))
 
   pub all_unmixed : (own : Rowed) (ms : List Member) → own ≡ l.own → ms ≡ (file_of own.file).methods → AllByRecursion (λ (m : Member). takes_part m.key (bare own) ≡ true → IsUnmixed rows m.key) ms → is_interface (file_of own.file) ≡ true
       → [] ≡ fewer_constraints_of (kin_of l)
@@ -256,8 +257,8 @@ module _ (l : Lined) (rows : List Rowed) (part : IsPart rows l) where
       subst (λ (r : Rowed). AllByRecursion (λ (m : Member). takes_part m.key (bare r) ≡ true → IsUnmixed rows m.key) (file_of r.file).methods) same
       (subst (λ (xs : List Member). AllByRecursion (λ (m : Member). takes_part m.key (bare own) ≡ true → IsUnmixed rows m.key) xs) made unmixed) in
       let on : is_interface (file_of l.own.file) ≡ true = ap (λ (r : Rowed). is_interface (file_of r.file)) (sym same) ∙ inter in
-      sym (ap (λ (ns : List Need). ns ++ (if is_interface c.file then [] else by_superinterfaces fewer_inherited c)) (each_none (λ (m : Member). takes_part m.key (bare l.own) ≡ true → IsUnmixed rows m.key) (file_of l.own.file).methods mine (λ m. unmixed_none m on))
-      ∙ ap (λ (b : Bool). if b then [] else by_superinterfaces fewer_inherited c) on)
+      ap without_repeats (sym (ap (λ (ns : List Need). ns ++ (if is_interface c.file then [] else by_superinterfaces fewer_inherited c)) (each_none (λ (m : Member). takes_part m.key (bare l.own) ≡ true → IsUnmixed rows m.key) (file_of l.own.file).methods mine (λ m. unmixed_none m on))
+      ∙ ap (λ (b : Bool). if b then [] else by_superinterfaces fewer_inherited c) on))
 
 -- ---- and by a survey
 

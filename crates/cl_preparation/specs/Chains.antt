@@ -5,7 +5,7 @@ use Rattle.cl_model.specs.declared.class.Class.{Class}
 use Rattle.cl_model.specs.Lineages.{Kin, first, superclasses, superinterfaces}
 use Rattle.cl_model.specs.States.{Need}
 use Rattle.cl_hierarchy.specs.Lineages.{Lined, kin_at, kin_of, rows_in}
-use Rattle.cl_hierarchy.specs.OversAt.{AreShared, IsOverAbove}
+use Rattle.cl_hierarchy.specs.OversAt.{AreShared, IsSharedIn}
 use Rattle.cl_hierarchy.specs.Rows.{Rowed}
 use Rattle.cl_hierarchy.specs.Trees.{kin_named, kins}
 use Rattle.cl_preparation.specs.declared.methods_above.Above.{Above}
@@ -54,10 +54,6 @@ abbrev pub CoversHidden : List Rowed → Kin → (Key → Bool) → Type 0
 CoversHidden rows k hidden =
     (key : Key) → hides key k ≡ true → (hidden key ≡ true) ⊎ IsUnmixed rows key
 
--- the superinterface of a class at a place of their list, if there is one, is its superclass's too
-abbrev pub IsSharedIn : Kin → ℕ → Type 0
-IsSharedIn c i = (j : Kin) → slice_get (superinterfaces c) i ≡ Some j → IsOverAbove c j
-
 -- what these rows impose, but for these methods, is met where what the superclass imposes is, of each that
 -- is its superclass's too (5.4.2)
 abbrev pub AreImposed : Kin → (Key → Bool) → List Rowed → Type 0
@@ -75,4 +71,4 @@ pub record IsChained {S : Type 0} (l : Lined) (own : Rowed) (survey : Survey)
   pub above_are : AreTold above (superclasses (kin_of l))
   pub over_are : AddAll l over
   pub over_in : AreOver l over
-  pub shared_are : AreShared (kin_of l) (superinterfaces (kin_of l)) shared
+  pub shared_are : AreShared (kin_of l) shared

@@ -8,6 +8,7 @@ use Rattle.cl_model.specs.States.{AllMet, Entry, Equal, Need, State}
 use Rattle.cl_hierarchy.specs.Imposed.{AreEnough, constraints_above, known_by}
 use Rattle.cl_hierarchy.specs.declared.equalities.Given.{Given}
 use Rattle.cl_hierarchy.specs.declared.equalities.Given.TheVariants as givens
+use Rattle.cl_preparation.specs.Listings.{Listing, and_all, without_repeats}
 
 -- a loader is another than the own one, and none of these (5.3.4)
 abbrev pub is_new : ℕ → List ℕ → ℕ → Bool
@@ -62,10 +63,14 @@ by_superinterfaces imposed c = by_methods (λ j. j) (imposed c) (superinterfaces
 
 -- of the loading constraints that the preparation of a class imposes, in order: none of a loader
 -- with itself, and for each method that it declares each loader once (5.4.2)
-abbrev pub fewer_constraints_of : Kin → List Need
-fewer_constraints_of c =
+abbrev pub fewer_with_repeats : Kin → List Need
+fewer_with_repeats c =
     flat_map (fewer_declared c) c.file.methods
     ++ (if is_interface c.file then [] else by_superinterfaces fewer_inherited c)
+
+-- the same, each constraint once, where it stands first
+abbrev pub fewer_constraints_of : Kin → List Need
+fewer_constraints_of c = without_repeats (fewer_with_repeats c)
 
 -- of these methods, those that are not hidden
 abbrev pub unhidden : (Key → Bool) → List Member → List Member
@@ -78,10 +83,10 @@ IsImposed c hidden j =
     (s : State) → AllMet s (constraints_above c)
     → AllMet s (flat_map (fewer_inherited c j) (unhidden hidden j.file.methods))
 
--- needs that stand for all of these were added, where what the superclass imposes is met (5.4.2)
-pub record AddsLeft (c : Kin) (old all new : List Need) : Type 0 where
+-- needs that stand for all of these were listed, where what the superclass imposes is met (5.4.2)
+pub record AddsLeft (c : Kin) (old : Listing) (all : List Need) (new : Listing) : Type 0 where
   pub added : List Need
-  pub more : new ≡ old ++ added
+  pub more : new ≡ and_all old added
   pub enough : AreEnough (constraints_above c) all added
 
 -- these stand for all, where this is given; where nothing is, they are just the few (5.4.2)

@@ -4,10 +4,12 @@ pub mod Fewer
 pub mod Filters
 pub mod Inherited
 pub mod Listed
+pub mod Listings
 pub mod Methods
 pub mod MethodsAbove
 pub mod Named
 pub mod Nearby
+pub mod Needs
 pub mod Packages
 pub mod Quiet
 pub mod Relatives

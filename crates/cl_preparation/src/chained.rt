@@ -1,19 +1,20 @@
 //! The few loading constraints of a class that is no interface, where what its superclasses declare is kept, and the lineage was
 //! surveyed: one look for each of its methods (JVMS SE 8, 5.3.4, 5.4.2).
 
-ghost use Rattle.std.specs.Prelude.{◌≡◌, ◌++◌, [], Some, filter, flat_map, map, option_map, slice_get, true, IfOk, OnOk};
+ghost use Rattle.std.specs.Prelude.{◌≡◌, [], Some, filter, flat_map, map, option_map, slice_get, true, IfOk, OnOk};
 ghost use Rattle.cl_hierarchy.specs.Imposed.{needs_of};
 ghost use Rattle.cl_hierarchy.specs.Lineages.{kin_of};
+ghost use Rattle.cl_hierarchy.specs.OversAt.{IsSharedIn};
 ghost use Rattle.cl_model.specs.Preparation.{takes_part};
-ghost use Rattle.cl_preparation.specs.Chains.{AreImposed, IsSharedIn, by_row, hidden_by};
+ghost use Rattle.cl_preparation.specs.Chains.{AreImposed, by_row, hidden_by};
 ghost use Rattle.cl_preparation.specs.Fewer.{AddsLeft, AreFew, IsImposed, by_superinterfaces, fewer_declared, fewer_inherited, loaders_over, others_after};
+ghost use Rattle.cl_preparation.specs.Listings.{and_all, once_of};
 ghost use Rattle.cl_preparation.specs.Nearby.{AddLoaders};
 ghost use Rattle.cl_preparation.specs.Relatives.{bare};
 ghost use Rattle.cl_preparation.specs.Walks.{hides};
 
 use crate::away::Away;
 use crate::covered::{class_above, hiding_of};
-use crate::described::{Described, push_equals};
 use crate::hiding::Hiding;
 use crate::inherited::other_than;
 use crate::key::MethodKey;
@@ -21,7 +22,7 @@ use crate::like::rows_like;
 use crate::listed::Listed;
 use crate::method::Method;
 use crate::methods_above::{MethodsAbove, nearest_above, wide_above};
-use crate::plain::push_with;
+use crate::needs::Needs;
 use crate::relative::{Relative, names_interfaces};
 use crate::silent::are_alone;
 use crate::survey::Survey;
@@ -104,13 +105,13 @@ impl<'a, 'b, 'c, 'd, T: Told> Chained<'a, 'b, 'c, 'd, T> {
     fn push_declared(
         &self,
         alloc: Global,
-        needs: &mut Vec<Equality>,
+        needs: &mut Needs,
         over: &Away<'_, T>,
         method: &Method,
     ) -> Result<(), AllocError>
         requires { AddLoaders self.now over.now }
-        ensures { OnOk result (needs_of needs.new.items ≡ needs_of needs.old.items
-            ++ fewer_declared (kin_of self.now) method.now) }
+        ensures { OnOk result (needs.new ≡ and_all needs.old
+            (fewer_declared (kin_of self.now) method.now)) }
     {
         let key = method.key();
         if !self.own.takes_part(key) {
@@ -121,21 +122,20 @@ impl<'a, 'b, 'c, 'd, T: Told> Chained<'a, 'b, 'c, 'd, T> {
             return Ok(());
         }
         let loaders = self.loaders_over(alloc, over, key)?;
-        push_with(alloc, needs, key, self.own.loader(), &loaders)
+        needs.push_with(alloc, key, self.own.loader(), &loaders)
     }
 
     /// Adds what these methods of the class impose.
-    #[tactic(auto, using(crate::proofs::Constraints::pushed_more))]
     fn push_each_declared(
         &self,
         alloc: Global,
-        needs: &mut Vec<Equality>,
+        needs: &mut Needs,
         over: &Away<'_, T>,
         methods: &[Method],
     ) -> Result<(), AllocError>
         requires { AddLoaders self.now over.now }
-        ensures { OnOk result (needs_of needs.new.items ≡ needs_of needs.old.items ++ flat_map
-            (fewer_declared (kin_of self.now)) methods.now) }
+        ensures { OnOk result (needs.new ≡ and_all needs.old
+            (flat_map (fewer_declared (kin_of self.now)) methods.now)) }
     {
         for method in methods {
             self.push_declared(alloc, needs, over, method)?;
@@ -147,11 +147,11 @@ impl<'a, 'b, 'c, 'd, T: Told> Chained<'a, 'b, 'c, 'd, T> {
     fn push_all_declared(
         &self,
         alloc: Global,
-        needs: &mut Vec<Equality>,
+        needs: &mut Needs,
         methods: &[Method],
     ) -> Result<(), AllocError>
-        ensures { OnOk result (needs_of needs.new.items ≡ needs_of needs.old.items ++ flat_map
-            (fewer_declared (kin_of self.now)) methods.now) }
+        ensures { OnOk result (needs.new ≡ and_all needs.old
+            (flat_map (fewer_declared (kin_of self.now)) methods.now)) }
     {
         let is_little = methods.len() <= FEW || self.over.len() <= FEW;
         if is_little || are_alone(alloc, self.survey, &self.own, methods)? {
@@ -169,12 +169,12 @@ impl<'a, 'b, 'c, 'd, T: Told> Chained<'a, 'b, 'c, 'd, T> {
     fn push_method(
         &self,
         alloc: Global,
-        needs: &mut Vec<Equality>,
+        needs: &mut Needs,
         interface: &Relative<T>,
         method: &Method,
     ) -> Result<(), AllocError>
-        ensures { OnOk result (needs_of needs.new.items ≡ needs_of needs.old.items
-            ++ fewer_inherited (kin_of self.now) (bare interface.now) method.now) }
+        ensures { OnOk result (needs.new ≡ and_all needs.old
+            (fewer_inherited (kin_of self.now) (bare interface.now) method.now)) }
     {
         let key = method.key();
         if !interface.takes_part(key) || self.own.has(key) {
@@ -182,25 +182,21 @@ impl<'a, 'b, 'c, 'd, T: Told> Chained<'a, 'b, 'c, 'd, T> {
         }
         let nearest = nearest_above(alloc, self.above, key)?;
         match other_than(interface.loader(), nearest) {
-            Some(loader) => {
-                let described = Described::of(alloc, key)?;
-                push_equals(alloc, needs, &described, loader, interface.loader())
-            }
+            Some(loader) => needs.push_between(alloc, key, loader, interface.loader()),
             None => Ok(()),
         }
     }
 
     /// Adds what these methods of a superinterface impose.
-    #[tactic(auto, using(crate::proofs::Constraints::pushed_more))]
     fn push_methods(
         &self,
         alloc: Global,
-        needs: &mut Vec<Equality>,
+        needs: &mut Needs,
         interface: &Relative<T>,
         methods: &[Method],
     ) -> Result<(), AllocError>
-        ensures { OnOk result (needs_of needs.new.items ≡ needs_of needs.old.items ++ flat_map
-            (fewer_inherited (kin_of self.now) (bare interface.now)) methods.now) }
+        ensures { OnOk result (needs.new ≡ and_all needs.old
+            (flat_map (fewer_inherited (kin_of self.now) (bare interface.now)) methods.now)) }
     {
         for method in methods {
             self.push_method(alloc, needs, interface, method)?;
@@ -212,12 +208,11 @@ impl<'a, 'b, 'c, 'd, T: Told> Chained<'a, 'b, 'c, 'd, T> {
     fn push_row(
         &self,
         alloc: Global,
-        needs: &mut Vec<Equality>,
+        needs: &mut Needs,
         row: &Arc<ClassRow<T>>,
     ) -> Result<(), AllocError>
-        ensures { OnOk result (needs_of needs.new.items ≡ needs_of needs.old.items ++ flat_map
-            (fewer_inherited (kin_of self.now) (bare row.now.value))
-            (bare row.now.value).file.methods) }
+        ensures { OnOk result (needs.new ≡ and_all needs.old
+            (by_row (kin_of self.now) row.now.value)) }
     {
         let interface = Relative::of(alloc, row)?;
         let methods = interface.methods(alloc)?;
@@ -228,12 +223,11 @@ impl<'a, 'b, 'c, 'd, T: Told> Chained<'a, 'b, 'c, 'd, T> {
     fn push_rows(
         &self,
         alloc: Global,
-        needs: &mut Vec<Equality>,
+        needs: &mut Needs,
         rows: &[&Arc<ClassRow<T>>],
     ) -> Result<(), AllocError>
-        ensures { OnOk result (needs_of needs.new.items ≡ needs_of needs.old.items ++ flat_map
-            (λ r. flat_map (fewer_inherited (kin_of self.now) (bare r.now.value))
-            (bare r.now.value).file.methods) rows.now) }
+        ensures { OnOk result (needs.new ≡ and_all needs.old
+            (flat_map (λ r. by_row (kin_of self.now) r.now.value) rows.now)) }
     {
         for row in rows {
             self.push_row(alloc, needs, row)?;
@@ -242,9 +236,9 @@ impl<'a, 'b, 'c, 'd, T: Told> Chained<'a, 'b, 'c, 'd, T> {
     }
 
     /// Adds what is inherited, where superinterfaces of other loaders than what the class inherits may declare it.
-    fn push_over(&self, alloc: Global, needs: &mut Vec<Equality>) -> Result<(), AllocError>
-        ensures { OnOk result (needs_of needs.new.items ≡ needs_of needs.old.items
-            ++ by_superinterfaces fewer_inherited (kin_of self.now)) }
+    fn push_over(&self, alloc: Global, needs: &mut Needs) -> Result<(), AllocError>
+        ensures { OnOk result (needs.new ≡ and_all needs.old
+            (by_superinterfaces fewer_inherited (kin_of self.now))) }
     {
         if self.survey.is_mix_declared(self.own.row()) {
             return Ok(());
@@ -263,13 +257,13 @@ impl<'a, 'b, 'c, 'd, T: Told> Chained<'a, 'b, 'c, 'd, T> {
     fn push_hidden(
         &self,
         alloc: Global,
-        needs: &mut Vec<Equality>,
+        needs: &mut Needs,
         row: &Arc<ClassRow<T>>,
         hiding: &Hiding<T>,
     ) -> Result<(), AllocError>
-        ensures { OnOk result (needs_of needs.new.items ≡ needs_of needs.old.items ++ flat_map
-            (fewer_inherited (kin_of self.now) (bare row.now.value))
-            (filter (λ m. hides m.key (bare hiding.now)) (bare row.now.value).file.methods)) }
+        ensures { OnOk result (needs.new ≡ and_all needs.old
+            (flat_map (fewer_inherited (kin_of self.now) (bare row.now.value))
+            (filter (λ m. hides m.key (bare hiding.now)) (bare row.now.value).file.methods))) }
     {
         let methods = hiding.hidden_of(alloc, row)?;
         let interface = Relative::unfiltered(row)?;
@@ -281,15 +275,15 @@ impl<'a, 'b, 'c, 'd, T: Told> Chained<'a, 'b, 'c, 'd, T> {
     fn push_new_row(
         &self,
         alloc: Global,
-        needs: &mut Vec<Equality>,
+        needs: &mut Needs,
         row: &Arc<ClassRow<T>>,
         is_shared: bool,
         hiding: Option<&Hiding<T>>,
     ) -> Result<(), AllocError>
         requires imposed { is_shared ≡ true → IsImposed (kin_of self.now)
             (hidden_by (option_map (λ h. h.now) hiding)) (bare row.now.value) }
-        ensures { OnOk result (AddsLeft (kin_of self.now) (needs_of needs.old.items)
-            (by_row (kin_of self.now) row.now.value) (needs_of needs.new.items)) }
+        ensures { OnOk result (AddsLeft (kin_of self.now) needs.old
+            (by_row (kin_of self.now) row.now.value) needs.new) }
     {
         if !is_shared {
             return self.push_row(alloc, needs, row);
@@ -304,15 +298,14 @@ impl<'a, 'b, 'c, 'd, T: Told> Chained<'a, 'b, 'c, 'd, T> {
     fn push_new_rows(
         &self,
         alloc: Global,
-        needs: &mut Vec<Equality>,
+        needs: &mut Needs,
         rows: &[&Arc<ClassRow<T>>],
         hiding: Option<&Hiding<T>>,
     ) -> Result<(), AllocError>
         requires { AreImposed (kin_of self.now)
             (hidden_by (option_map (λ h. h.now) hiding)) (map (λ r. r.now.value) rows.now) }
-        ensures { OnOk result (AddsLeft (kin_of self.now) (needs_of needs.old.items)
-            (flat_map (λ r. by_row (kin_of self.now) r.now.value) rows.now)
-            (needs_of needs.new.items)) }
+        ensures { OnOk result (AddsLeft (kin_of self.now) needs.old
+            (flat_map (λ r. by_row (kin_of self.now) r.now.value) rows.now) needs.new) }
     {
         for at in 0..rows.len() {
             self.push_new_row(alloc, needs, rows[at], self.is_shared(at), hiding)?;
@@ -321,9 +314,9 @@ impl<'a, 'b, 'c, 'd, T: Told> Chained<'a, 'b, 'c, 'd, T> {
     }
 
     /// Adds what is left of what superinterfaces impose with what is inherited, where the superclass is prepared.
-    fn push_left(&self, alloc: Global, needs: &mut Vec<Equality>) -> Result<(), AllocError>
-        ensures { OnOk result (AddsLeft (kin_of self.now) (needs_of needs.old.items)
-            (by_superinterfaces fewer_inherited (kin_of self.now)) (needs_of needs.new.items)) }
+    fn push_left(&self, alloc: Global, needs: &mut Needs) -> Result<(), AllocError>
+        ensures { OnOk result (AddsLeft (kin_of self.now) needs.old
+            (by_superinterfaces fewer_inherited (kin_of self.now)) needs.new) }
     {
         // (a look at the superclass's methods is not worth it where there is nothing to leave out)
         if self.over.is_empty() || self.survey.is_mix_declared(self.own.row()) {
@@ -340,12 +333,12 @@ impl<'a, 'b, 'c, 'd, T: Told> Chained<'a, 'b, 'c, 'd, T> {
     fn push_inherited(
         &self,
         alloc: Global,
-        needs: &mut Vec<Equality>,
+        needs: &mut Needs,
         given: Given,
     ) -> Result<(), AllocError>
-        requires declared { needs_of needs.old.items ≡ flat_map
-            (fewer_declared (kin_of self.now)) (kin_of self.now).file.methods }
-        ensures { OnOk result (AreFew given (kin_of self.now) (needs_of needs.new.items)) }
+        requires declared { needs.old ≡ and_all (once_of []) (flat_map
+            (fewer_declared (kin_of self.now)) (kin_of self.now).file.methods) }
+        ensures { OnOk result (AreFew given (kin_of self.now) needs.new.needs) }
     {
         // brings what is kept of the class
         let _ = &self.lineage;
@@ -359,10 +352,10 @@ impl<'a, 'b, 'c, 'd, T: Told> Chained<'a, 'b, 'c, 'd, T> {
     pub fn needs(&self, alloc: Global, given: Given) -> Result<Vec<Equality>, AllocError>
         ensures { IfOk result (λ v. AreFew given (kin_of self.now) (needs_of v.items)) }
     {
-        let mut needs = Vec::new(alloc);
+        let mut needs = Needs::once(alloc, self.lineage.config().seed());
         let methods = self.own.methods(alloc)?;
         self.push_all_declared(alloc, &mut needs, methods.as_slice())?;
         self.push_inherited(alloc, &mut needs, given)?;
-        Ok(needs)
+        needs.into_vec(alloc)
     }
 }

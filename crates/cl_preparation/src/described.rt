@@ -53,7 +53,8 @@ impl Described {
         &self.key
     }
 
-    fn names(&self) -> &[Name]
+    /// The classes that the descriptor names, the return type first.
+    pub fn names(&self) -> &[Name]
         ensures { result.now ≡ class_names self.now.descriptor }
     {
         self.names.as_slice()

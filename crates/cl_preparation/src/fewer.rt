@@ -12,6 +12,7 @@ ghost use Rattle.cl_hierarchy.specs.Lineages.{IsRowIn, Lined, kin_at, kin_of, ot
 ghost use Rattle.cl_hierarchy.specs.OversAt.{AreShared};
 ghost use Rattle.cl_preparation.specs.Chains.{AreOver};
 ghost use Rattle.cl_preparation.specs.Fewer.{AreFew, fewer_constraints_of};
+ghost use Rattle.cl_preparation.specs.Listings.{without_repeats};
 ghost use Rattle.cl_preparation.specs.MethodsAbove.{AreTold};
 ghost use Rattle.cl_preparation.specs.Nearby.{AddAll, near_declared};
 ghost use Rattle.cl_preparation.specs.Relatives.{bare};
@@ -30,6 +31,7 @@ use crate::silent::is_silent;
 use crate::survey::Survey;
 use cl_hierarchy::{ClassAt, ClassRow, Equalities, Given, Lineage, Lineages};
 use cl_model::{Equality, Told};
+use cl_names::Seed;
 use std::alloc::{AllocError, Global};
 use std::sync::Arc;
 
@@ -115,8 +117,7 @@ fn over_at<T: Told>(
 /// Which of these are known to be its superclass's too.
 fn shared_at<T: Told>(whole: &Lineages<T>, place: usize) -> &[bool]
     requires within { place ≤ length whole.now.above }
-    ensures { AreShared (kin_of (lined_at whole.now place))
-        (superinterfaces (kin_of (lined_at whole.now place))) result.now }
+    ensures { AreShared (kin_of (lined_at whole.now place)) result.now }
 {
     match whole.shared_at(place) {
         Some(shared) => shared,
@@ -263,20 +264,22 @@ fn class_needs<T: Told>(
     }
 }
 
-/// What the methods of an interface impose, over these superinterfaces.
+/// What the methods of an interface impose, over these superinterfaces, each equality once.
 fn interface_needs<T: Told>(
     alloc: Global,
+    seed: Seed,
     own: Relative<T>,
     over: Vec<&Arc<ClassRow<T>>>,
 ) -> Result<Vec<Equality>, AllocError>
-    ensures { IfOk result (λ v. needs_of v.items ≡ flat_map (near_declared own []
-        (map (λ r. r.now.value) over.entry.items)) (bare own).file.methods) }
+    ensures { IfOk result (λ v. needs_of v.items ≡ without_repeats (flat_map
+        (near_declared own [] (map (λ r. r.now.value) over.entry.items))
+        (bare own).file.methods)) }
 {
     // (the superclass of an interface is not asked)
     let away = Away::unfiltered(alloc, Vec::new(alloc));
     let over = Away::unfiltered(alloc, over);
     let nearby = Nearby { own, away, over };
-    let needs = nearby.declared(alloc);
+    let needs = nearby.declared(alloc, seed);
     drop(nearby);
     needs
 }
@@ -333,7 +336,8 @@ fn needs_at<T: Told>(
     // (they are kept for the interface below)
     whole.find_superinterfaces(alloc, place)?;
     let over = whole.lineages().superinterfaces_at(alloc, place)?;
-    interface_needs(alloc, own, over)
+    let seed = whole.lineage().config().seed();
+    interface_needs(alloc, seed, own, over)
 }
 
 /// The loading constraints that the preparation of the class at a place of a lineage imposes, in order, but for such as always

@@ -3,19 +3,19 @@
 ghost use Rattle.std.specs.Prelude.{◌≡◌, ◌++◌, false, flat_map, map, IfSome, is_some, OnOk};
 ghost use Rattle.std.specs.List.{list_any};
 ghost use Rattle.cl_model.specs.Lineages.{is_offered};
-ghost use Rattle.cl_hierarchy.specs.Imposed.{needs_of};
 ghost use Rattle.cl_preparation.specs.Inherited.{away_from, first_loader, inherited_by_rows, loader_with, other_than, second_by_rows};
+ghost use Rattle.cl_preparation.specs.Listings.{and_all};
 ghost use Rattle.cl_preparation.specs.Relatives.{bare};
 
 use crate::away::Away;
-use crate::described::{Described, push_equals};
 use crate::key::MethodKey;
 use crate::method::Method;
+use crate::needs::Needs;
 use crate::quiet::any_offers;
 use crate::relative::Relative;
 use crate::walk::inherited_loader;
 use cl_hierarchy::ClassRow;
-use cl_model::{Equality, LoaderId, Told};
+use cl_model::{LoaderId, Told};
 use std::alloc::{AllocError, Global};
 use std::marker::Model;
 use std::sync::Arc;
@@ -101,39 +101,35 @@ impl<'a, T: Told> Inheritance<'a, T> {
     fn push_method(
         &self,
         alloc: Global,
-        needs: &mut Vec<Equality>,
+        needs: &mut Needs,
         interface: &Relative<T>,
         method: &Method,
     ) -> Result<(), AllocError>
-        ensures { OnOk result (needs_of needs.new.items ≡ needs_of needs.old.items
-            ++ inherited_by_rows self.now.few self.now.own self.now.above interface.now
-            method.now) }
+        ensures { OnOk result (needs.new ≡ and_all needs.old
+            (inherited_by_rows self.now.few self.now.own self.now.above interface.now
+            method.now)) }
     {
         let key = method.key();
         if !interface.takes_part(key) || self.own.has(key) {
             return Ok(());
         }
         match self.loader_with(interface.loader(), key) {
-            Some(loader) => {
-                let described = Described::of(alloc, key)?;
-                push_equals(alloc, needs, &described, loader, interface.loader())
-            }
+            Some(loader) => needs.push_between(alloc, key, loader, interface.loader()),
             None => Ok(()),
         }
     }
 
     /// Adds what these methods of a superinterface impose.
-    #[tactic(auto, using(crate::proofs::Constraints::pushed_more))]
     fn push_methods(
         &self,
         alloc: Global,
-        needs: &mut Vec<Equality>,
+        needs: &mut Needs,
         interface: &Relative<T>,
         methods: &[Method],
     ) -> Result<(), AllocError>
-        ensures { OnOk result (needs_of needs.new.items ≡ needs_of needs.old.items ++ flat_map
-            (inherited_by_rows self.now.few self.now.own self.now.above interface.now)
-            methods.now) }
+        ensures { OnOk result (needs.new ≡ and_all needs.old
+            (flat_map (inherited_by_rows self.now.few self.now.own self.now.above interface.now)
+            methods.now)) }
     {
         for method in methods {
             self.push_method(alloc, needs, interface, method)?;
@@ -145,27 +141,26 @@ impl<'a, T: Told> Inheritance<'a, T> {
     fn push_interface(
         &self,
         alloc: Global,
-        needs: &mut Vec<Equality>,
+        needs: &mut Needs,
         interface: &Relative<T>,
     ) -> Result<(), AllocError>
-        ensures { OnOk result (needs_of needs.new.items ≡ needs_of needs.old.items ++ flat_map
-            (inherited_by_rows self.now.few self.now.own self.now.above interface.now)
-            (bare interface.now).file.methods) }
+        ensures { OnOk result (needs.new ≡ and_all needs.old
+            (flat_map (inherited_by_rows self.now.few self.now.own self.now.above interface.now)
+            (bare interface.now).file.methods)) }
     {
         let methods = interface.methods(alloc)?;
         self.push_methods(alloc, needs, interface, methods.as_slice())
     }
 
     /// Adds what the methods of these superinterfaces impose.
-    #[tactic(auto, using(crate::proofs::Constraints::pushed_more))]
     pub fn push_interfaces(
         &self,
         alloc: Global,
-        needs: &mut Vec<Equality>,
+        needs: &mut Needs,
         interfaces: &[Relative<T>],
     ) -> Result<(), AllocError>
-        ensures { OnOk result (needs_of needs.new.items ≡ needs_of needs.old.items
-            ++ second_by_rows self.now.few self.now.own self.now.above interfaces.now) }
+        ensures { OnOk result (needs.new ≡ and_all needs.old
+            (second_by_rows self.now.few self.now.own self.now.above interfaces.now)) }
     {
         for interface in interfaces {
             self.push_interface(alloc, needs, interface)?;
@@ -177,28 +172,27 @@ impl<'a, T: Told> Inheritance<'a, T> {
     fn push_row(
         &self,
         alloc: Global,
-        needs: &mut Vec<Equality>,
+        needs: &mut Needs,
         row: &Arc<ClassRow<T>>,
     ) -> Result<(), AllocError>
-        ensures { OnOk result (needs_of needs.new.items ≡ needs_of needs.old.items ++ flat_map
-            (inherited_by_rows self.now.few self.now.own self.now.above row.now.value)
-            (bare row.now.value).file.methods) }
+        ensures { OnOk result (needs.new ≡ and_all needs.old
+            (flat_map (inherited_by_rows self.now.few self.now.own self.now.above row.now.value)
+            (bare row.now.value).file.methods)) }
     {
         let interface = Relative::of(alloc, row)?;
         self.push_interface(alloc, needs, &interface)
     }
 
     /// Adds what the methods of the superinterfaces of these rows impose.
-    #[tactic(auto, using(crate::proofs::Constraints::pushed_more))]
     pub fn push_rows(
         &self,
         alloc: Global,
-        needs: &mut Vec<Equality>,
+        needs: &mut Needs,
         rows: &[&Arc<ClassRow<T>>],
     ) -> Result<(), AllocError>
-        ensures { OnOk result (needs_of needs.new.items ≡ needs_of needs.old.items
-            ++ second_by_rows self.now.few self.now.own self.now.above
-            (map (λ r. r.now.value) rows.now)) }
+        ensures { OnOk result (needs.new ≡ and_all needs.old
+            (second_by_rows self.now.few self.now.own self.now.above (map (λ r. r.now.value)
+            rows.now))) }
     {
         for row in rows {
             self.push_row(alloc, needs, row)?;

@@ -4,9 +4,11 @@ ghost use Rattle.std.specs.Prelude.{◌≡◌, Some, IfOk, IsSome};
 ghost use Rattle.cl_descriptors.specs.Reading.{whole_method};
 ghost use Rattle.cl_classfile.specs.Files.{method_of};
 ghost use Rattle.cl_model.specs.Preparation.{class_names, is_special};
+ghost use Rattle.cl_preparation.specs.Listings.{IsBetween};
 ghost use Rattle.cl_preparation.specs.Methods.{key_in};
 
 use cl_descriptors::{DescriptorFault, read_method};
+use cl_model::LoaderId;
 use cl_names::Name;
 use std::alloc::{AllocError, Global};
 use std::marker::Model;
@@ -47,6 +49,24 @@ impl Model for MethodKey {
     ghost invariant = { λ k. IsSome (whole_method k.descriptor) };
 }
 
+/// The text of a method's descriptor, between two loaders.
+#[derive(Debug, PartialEq, Eq, Hash)]
+pub(crate) struct Between {
+    descriptor: Name,
+    one: LoaderId,
+    other: LoaderId,
+}
+
+impl Drop for Between {
+    fn drop(self) {
+        let Between {
+            descriptor: _,
+            one: _,
+            other: _,
+        } = self;
+    }
+}
+
 impl MethodKey {
     /// The key of a method of this name and this descriptor.
     pub fn new(alloc: Global, name: &Name, descriptor: &Name) -> Result<MethodKey, AllocError>
@@ -72,6 +92,22 @@ impl MethodKey {
         ensures { method_of self.now.name result.now ≡ Some self.now }
     {
         &self.descriptor
+    }
+
+    /// Its descriptor between two loaders.
+    pub fn between(
+        &self,
+        alloc: Global,
+        one: LoaderId,
+        other: LoaderId,
+    ) -> Result<Between, AllocError>
+        ensures { IfOk result (λ b. IsBetween self.now one other b) }
+    {
+        Ok(Between {
+            descriptor: self.descriptor.try_clone(alloc)?,
+            one,
+            other,
+        })
     }
 
     /// A copy, which shares the bytes.

@@ -18,6 +18,7 @@ mod listed;
 mod method;
 mod methods_above;
 mod near;
+mod needs;
 mod overriding;
 mod packages;
 mod plain;

@@ -1,15 +1,9 @@
 //! Loaders, each listed once (JVMS SE 8, 5.3.4, 5.4.2).
 
-ghost use Rattle.std.specs.Prelude.{◌≡◌, ◌<◌, ◌&&◌, ◌++◌, ◌∷◌, [], ℕ, false, filter, flat_map, get_or, length, map, OnOk};
-ghost use Rattle.cl_model.specs.Preparation.{equals_of, takes_part};
-ghost use Rattle.cl_hierarchy.specs.Imposed.{needs_of};
-ghost use Rattle.cl_preparation.specs.Fewer.{is_new, loaders, others_after};
-ghost use Rattle.cl_preparation.specs.Relatives.{bare};
+ghost use Rattle.std.specs.Prelude.{◌≡◌, ◌<◌, ◌++◌, ◌∷◌, [], ℕ, false, get_or, length, OnOk};
+ghost use Rattle.cl_preparation.specs.Fewer.{is_new};
 
-use crate::described::{Described, push_equals};
-use crate::key::MethodKey;
-use crate::relative::Relative;
-use cl_model::{Equality, LoaderId, Told};
+use cl_model::LoaderId;
 use std::alloc::{AllocError, Global};
 use std::marker::Model;
 
@@ -95,21 +89,4 @@ impl Listed {
         self.is_listed[loader.0 as usize] = true;
         Ok(())
     }
-}
-
-/// Adds what a method of a class of this loader imposes with each of these loaders.
-pub(crate) fn push_listed(
-    alloc: Global,
-    needs: &mut Vec<Equality>,
-    method: &Described,
-    own: LoaderId,
-    listed: &[LoaderId],
-) -> Result<(), AllocError>
-    ensures { OnOk result (needs_of needs.new.items ≡ needs_of needs.old.items ++ flat_map
-        (equals_of method.now own) listed.now) }
-{
-    for loader in listed {
-        push_equals(alloc, needs, method, own, *loader)?;
-    }
-    Ok(())
 }

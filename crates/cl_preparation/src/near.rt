@@ -5,6 +5,7 @@ ghost use Rattle.cl_classfile.specs.Files.{file_of, is_interface};
 ghost use Rattle.cl_hierarchy.specs.Imposed.{needs_of};
 ghost use Rattle.cl_hierarchy.specs.Lineages.{kin_of};
 ghost use Rattle.cl_preparation.specs.Fewer.{by_superinterfaces, fewer_constraints_of, fewer_inherited, loaders, others_after};
+ghost use Rattle.cl_preparation.specs.Listings.{and_all, without_repeats};
 ghost use Rattle.cl_preparation.specs.Nearby.{AreNear, near_declared, near_loaders};
 ghost use Rattle.cl_preparation.specs.Relatives.{bare};
 ghost use Rattle.cl_preparation.specs.Walks.{opens};
@@ -14,11 +15,12 @@ use crate::inherited::Inheritance;
 use crate::key::MethodKey;
 use crate::listed::Listed;
 use crate::method::Method;
-use crate::plain::push_with;
+use crate::needs::Needs;
 use crate::relative::Relative;
 use crate::relatives::all_of;
 use cl_hierarchy::Lineage;
 use cl_model::{Equality, Told};
+use cl_names::Seed;
 use std::alloc::{AllocError, Global};
 
 /// A class with what its methods are looked up in: its superclasses of other loaders than its own, nearest first, of an
@@ -70,30 +72,29 @@ impl<'a, 'b, T: Told> Nearby<'a, 'b, T> {
     fn push_declared(
         &self,
         alloc: Global,
-        needs: &mut Vec<Equality>,
+        needs: &mut Needs,
         method: &Method,
     ) -> Result<(), AllocError>
-        ensures { OnOk result (needs_of needs.new.items ≡ needs_of needs.old.items ++ near_declared
-            self.now.own self.now.away self.now.over method.now) }
+        ensures { OnOk result (needs.new ≡ and_all needs.old
+            (near_declared self.now.own self.now.away self.now.over method.now)) }
     {
         let key = method.key();
         if !self.own.takes_part(key) {
             return Ok(());
         }
         let loaders = self.loaders_over(alloc, key)?;
-        push_with(alloc, needs, key, self.own.loader(), &loaders)
+        needs.push_with(alloc, key, self.own.loader(), &loaders)
     }
 
     /// Adds what these methods of the class impose.
-    #[tactic(auto, using(crate::proofs::Constraints::pushed_more))]
     fn push_each_declared(
         &self,
         alloc: Global,
-        needs: &mut Vec<Equality>,
+        needs: &mut Needs,
         methods: &[Method],
     ) -> Result<(), AllocError>
-        ensures { OnOk result (needs_of needs.new.items ≡ needs_of needs.old.items ++ flat_map
-            (near_declared self.now.own self.now.away self.now.over) methods.now) }
+        ensures { OnOk result (needs.new ≡ and_all needs.old
+            (flat_map (near_declared self.now.own self.now.away self.now.over) methods.now)) }
     {
         for method in methods {
             self.push_declared(alloc, needs, method)?;
@@ -105,14 +106,14 @@ impl<'a, 'b, T: Told> Nearby<'a, 'b, T> {
     fn push_over(
         &self,
         alloc: Global,
-        needs: &mut Vec<Equality>,
+        needs: &mut Needs,
         lineage: &Lineage<T>,
     ) -> Result<(), AllocError>
         requires near { AreNear lineage.now self.now.own self.now.away
             self.now.over }
         requires class { is_interface (file_of self.now.own.file) ≡ false }
-        ensures { OnOk result (needs_of needs.new.items ≡ needs_of needs.old.items
-            ++ by_superinterfaces fewer_inherited (kin_of lineage.now)) }
+        ensures { OnOk result (needs.new ≡ and_all needs.old
+            (by_superinterfaces fewer_inherited (kin_of lineage.now))) }
     {
         // only where a superinterface declares methods is a list of all superclasses made
         if !self.over.any_has_methods() {
@@ -124,18 +125,28 @@ impl<'a, 'b, T: Told> Nearby<'a, 'b, T> {
         inherited.push_rows(alloc, needs, self.over.as_slice())
     }
 
-    /// What the methods of the class impose, each other loader once for a method.
-    pub fn declared(&self, alloc: Global) -> Result<Vec<Equality>, AllocError>
-        ensures { IfOk result (λ v. needs_of v.items ≡ flat_map (near_declared self.now.own
-            self.now.away self.now.over) (bare self.now.own).file.methods) }
+    /// Adds what all methods of the class impose.
+    fn push_all_declared(&self, alloc: Global, needs: &mut Needs) -> Result<(), AllocError>
+        ensures { OnOk result (needs.new ≡ and_all needs.old
+            (flat_map (near_declared self.now.own self.now.away self.now.over)
+            (bare self.now.own).file.methods)) }
     {
-        let mut needs = Vec::new(alloc);
         let methods = self.own.methods(alloc)?;
-        self.push_each_declared(alloc, &mut needs, methods.as_slice())?;
-        Ok(needs)
+        self.push_each_declared(alloc, needs, methods.as_slice())
     }
 
-    /// What the preparation of the class of this lineage imposes, each other loader once for a method.
+    /// What the methods of the class impose, each equality once.
+    pub fn declared(&self, alloc: Global, seed: Seed) -> Result<Vec<Equality>, AllocError>
+        ensures { IfOk result (λ v. needs_of v.items ≡ without_repeats
+            (flat_map (near_declared self.now.own self.now.away self.now.over)
+            (bare self.now.own).file.methods)) }
+    {
+        let mut needs = Needs::once(alloc, seed);
+        self.push_all_declared(alloc, &mut needs)?;
+        needs.into_vec(alloc)
+    }
+
+    /// What the preparation of the class of this lineage imposes, each equality once.
     pub fn needs(&self, alloc: Global, lineage: &Lineage<T>) -> Result<Vec<Equality>, AllocError>
         requires near { AreNear lineage.now self.now.own self.now.away
             self.now.over }
@@ -143,8 +154,9 @@ impl<'a, 'b, T: Told> Nearby<'a, 'b, T> {
         ensures { IfOk result (λ v. needs_of v.items
             ≡ fewer_constraints_of (kin_of lineage.now)) }
     {
-        let mut needs = self.declared(alloc)?;
+        let mut needs = Needs::once(alloc, lineage.config().seed());
+        self.push_all_declared(alloc, &mut needs)?;
         self.push_over(alloc, &mut needs, lineage)?;
-        Ok(needs)
+        needs.into_vec(alloc)
     }
 }

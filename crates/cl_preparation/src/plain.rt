@@ -4,17 +4,17 @@
 ghost use Rattle.std.specs.Prelude.{◌≡◌, ◌&&◌, ◌++◌, ◌∷◌, [], if◌then◌else◌, false, filter, flat_map, true, IfOk, OnOk};
 ghost use Rattle.cl_classfile.specs.Files.{file_of, is_interface};
 ghost use Rattle.cl_model.specs.Lineages.{superclasses, superinterfaces};
-ghost use Rattle.cl_model.specs.Preparation.{equals_of};
 ghost use Rattle.cl_hierarchy.specs.Imposed.{needs_of};
 ghost use Rattle.cl_hierarchy.specs.Lineages.{kin_of};
 ghost use Rattle.cl_preparation.specs.Fewer.{fewer_constraints_of, fewer_declared, is_new, loaders, others_after};
+ghost use Rattle.cl_preparation.specs.Listings.{and_all};
 ghost use Rattle.cl_preparation.specs.Relatives.{bare};
 ghost use Rattle.cl_preparation.specs.Walks.{opens};
 
-use crate::described::Described;
 use crate::key::MethodKey;
-use crate::listed::{Listed, push_listed};
+use crate::listed::Listed;
 use crate::method::Method;
+use crate::needs::Needs;
 use crate::relative::{Relative, is_open};
 use cl_hierarchy::{ClassRow, Lineage};
 use cl_model::{Equality, LoaderId, Told};
@@ -66,29 +66,10 @@ fn loaders_above<T: Told>(
     Ok(listed)
 }
 
-/// Adds what a method with this key of a class of this loader imposes with each of these loaders.
-pub(crate) fn push_with(
-    alloc: Global,
-    needs: &mut Vec<Equality>,
-    key: &MethodKey,
-    own: LoaderId,
-    loaders: &Listed,
-) -> Result<(), AllocError>
-    ensures { OnOk result (needs_of needs.new.items ≡ needs_of needs.old.items ++ flat_map
-        (equals_of key.now own) loaders.now) }
-{
-    // most methods stand over none of another loader
-    if loaders.as_slice().is_empty() {
-        return Ok(());
-    }
-    let described = Described::of(alloc, key)?;
-    push_listed(alloc, needs, &described, own, loaders.as_slice())
-}
-
 /// Adds what a method of a class imposes that has no superinterfaces.
 fn push_declared<T: Told>(
     alloc: Global,
-    needs: &mut Vec<Equality>,
+    needs: &mut Needs,
     lineage: &Lineage<T>,
     own: &Relative<T>,
     method: &Method,
@@ -96,22 +77,21 @@ fn push_declared<T: Told>(
     requires own { own.now ≡ lineage.now.own }
     requires class { is_interface (file_of lineage.now.own.file) ≡ false }
     requires over { [] ≡ superinterfaces (kin_of lineage.now) }
-    ensures { OnOk result (needs_of needs.new.items ≡ needs_of needs.old.items
-        ++ fewer_declared (kin_of lineage.now) method.now) }
+    ensures { OnOk result (needs.new ≡ and_all needs.old
+        (fewer_declared (kin_of lineage.now) method.now)) }
 {
     let key = method.key();
     if !own.takes_part(key) {
         return Ok(());
     }
     let loaders = loaders_above(alloc, lineage, key)?;
-    push_with(alloc, needs, key, own.loader(), &loaders)
+    needs.push_with(alloc, key, own.loader(), &loaders)
 }
 
 /// Adds what these methods of a class impose that has no superinterfaces.
-#[tactic(auto, using(crate::proofs::Constraints::pushed_more))]
 fn push_each_declared<T: Told>(
     alloc: Global,
-    needs: &mut Vec<Equality>,
+    needs: &mut Needs,
     lineage: &Lineage<T>,
     own: &Relative<T>,
     methods: &[Method],
@@ -119,8 +99,8 @@ fn push_each_declared<T: Told>(
     requires own { own.now ≡ lineage.now.own }
     requires class { is_interface (file_of lineage.now.own.file) ≡ false }
     requires over { [] ≡ superinterfaces (kin_of lineage.now) }
-    ensures { OnOk result (needs_of needs.new.items ≡ needs_of needs.old.items ++ flat_map
-        (fewer_declared (kin_of lineage.now)) methods.now) }
+    ensures { OnOk result (needs.new ≡ and_all needs.old
+        (flat_map (fewer_declared (kin_of lineage.now)) methods.now)) }
 {
     for method in methods {
         push_declared(alloc, needs, lineage, own, method)?;
@@ -139,7 +119,7 @@ pub(crate) fn plain_needs<T: Told>(
 {
     let own = Relative::of(alloc, lineage.own())?;
     let methods = own.methods(alloc)?;
-    let mut needs = Vec::new(alloc);
+    let mut needs = Needs::once(alloc, lineage.config().seed());
     push_each_declared(alloc, &mut needs, lineage, &own, methods.as_slice())?;
-    Ok(needs)
+    needs.into_vec(alloc)
 }

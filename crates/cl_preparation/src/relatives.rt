@@ -9,12 +9,14 @@ ghost use Rattle.cl_hierarchy.specs.Imposed.{OfPreparation, needs_of};
 ghost use Rattle.cl_hierarchy.specs.declared.equalities.Given.TheVariants as givens;
 ghost use Rattle.cl_hierarchy.specs.Lineages.{kin_at, kin_of};
 ghost use Rattle.cl_preparation.specs.Fewer.{by_superinterfaces};
+ghost use Rattle.cl_preparation.specs.Listings.{and_all};
 ghost use Rattle.cl_preparation.specs.Relatives.{bare};
 
 use crate::described::Described;
 use crate::inherited::Inheritance;
 use crate::key::MethodKey;
 use crate::method::Method;
+use crate::needs::Needs;
 use crate::relative::{Relative, names_interfaces};
 use crate::walk::{push_above, push_taking};
 use cl_hierarchy::{ClassAt, ClassRow, Equalities, Given, Lineage, Overs};
@@ -200,19 +202,19 @@ impl<T: Told> Relatives<T> {
     }
 
     /// Adds what the methods of the superinterfaces impose.
-    fn push_interfaces(&self, alloc: Global, needs: &mut Vec<Equality>) -> Result<(), AllocError>
-        ensures { OnOk result (needs_of needs.new.items ≡ needs_of needs.old.items
-            ++ by_superinterfaces for_inherited (kin_of self.now)) }
+    fn push_interfaces(&self, alloc: Global, needs: &mut Needs) -> Result<(), AllocError>
+        ensures { OnOk result (needs.new ≡ and_all needs.old
+            (by_superinterfaces for_inherited (kin_of self.now))) }
     {
         let inherited = Inheritance::of(&self.own, self.superclasses.as_slice(), None);
         inherited.push_interfaces(alloc, needs, self.superinterfaces.as_slice())
     }
 
     /// Adds what is inherited where the class is no interface.
-    fn push_second(&self, alloc: Global, needs: &mut Vec<Equality>) -> Result<(), AllocError>
-        ensures { OnOk result (needs_of needs.new.items ≡ needs_of needs.old.items
-            ++ (if is_interface (kin_of self.now).file then [] else by_superinterfaces for_inherited
-            (kin_of self.now))) }
+    fn push_second(&self, alloc: Global, needs: &mut Needs) -> Result<(), AllocError>
+        ensures { OnOk result (needs.new ≡ and_all needs.old
+            (if is_interface (kin_of self.now).file then []
+            else by_superinterfaces for_inherited (kin_of self.now))) }
     {
         if self.own.is_interface() {
             return Ok(());
@@ -221,14 +223,14 @@ impl<T: Told> Relatives<T> {
     }
 
     /// All that the preparation of the class imposes.
-    #[tactic(auto, using(crate::proofs::Constraints::both_halves))]
     fn needs(&self, alloc: Global) -> Result<Vec<Equality>, AllocError>
         ensures { IfOk result (λ v. needs_of v.items ≡ constraints_of (kin_of self.now)) }
     {
-        let mut needs = Vec::new(alloc);
-        self.push_all_declared(alloc, &mut needs)?;
+        let mut declared = Vec::new(alloc);
+        self.push_all_declared(alloc, &mut declared)?;
+        let mut needs = Needs::all(declared);
         self.push_second(alloc, &mut needs)?;
-        Ok(needs)
+        needs.into_vec(alloc)
     }
 }
 

@@ -1,5 +1,4 @@
 use Rattle.std.proofs.Common.{◌≡◌, ◌∙◌, ap, subst, sym}
-use Rattle.cl_model.specs.Lineages.{superinterfaces}
 use Rattle.cl_hierarchy.specs.ClassesAt.{lined_at}
 use Rattle.cl_hierarchy.specs.Imposed.{needs_of}
 use Rattle.cl_hierarchy.specs.Lineages.{Lined, kin_of}
@@ -27,5 +26,5 @@ invariant_of-chained g c =
       above_are = c.requires.above;
       over_are = over.0;
       over_in = over.1;
-      shared_are = subst (λ (x : Lined). AreShared (kin_of x) (superinterfaces (kin_of x)) c.shared_at-shared.result.now) (sym again) c.shared_at-shared.ensures;
+      shared_are = subst (λ (x : Lined). AreShared (kin_of x) c.shared_at-shared.result.now) (sym again) c.shared_at-shared.ensures;
     }

@@ -13,5 +13,5 @@ returns-then-over-place g c =
     let over = c.in_ok-over.over.now in
     let kept : IsOverAt l over = if_some (IsOverAt l) c.self.inside.over over (sym c.in_ok-over.ensures.value) c.self.invariant.1 in
     let order = subst (λ (x : Lined). IsInOrder x) (sym c.self.view_is) c.lineage.ensures.kept.order in
-    subst (λ (x : Lined). AreShared (kin_of (lined_at x c.args.place)) (superinterfaces (kin_of (lined_at x c.args.place))) c.as_slice.result.now) c.self.view_is
+    subst (λ (x : Lined). AreShared (kin_of (lined_at x c.args.place)) c.as_slice.result.now) c.self.view_is
     (shared_there l c.args.place over c.as_slice.result.now order c.if-over-place.true c.as_slice.ensures.value kept)

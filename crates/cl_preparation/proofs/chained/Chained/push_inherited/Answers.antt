@@ -1,7 +1,6 @@
 use Rattle.std.proofs.Common.{subst, sym}
 use Rattle.std.proofs.lemmas.Result.{on_ok_weaker}
 use Rattle.cl_hierarchy.specs.declared.equalities.Given.{Given}
-use Rattle.cl_hierarchy.specs.Imposed.{needs_of}
 use Rattle.cl_hierarchy.specs.Lineages.{Lined, kin_of}
 use Rattle.cl_preparation.specs.Chains.{IsChained}
 use Rattle.cl_preparation.specs.Fewer.{AreFew}
@@ -13,13 +12,13 @@ pub returns-in-Nothing : goal.returns-in-Nothing
 returns-in-Nothing g c =
     let is = subst (λ (l : Lined). IsChained l c.self.inside.own c.self.inside.survey.now c.self.inside.above.now c.self.inside.over c.self.inside.shared.now) c.self.view_is c.self.invariant in
     on_ok_weaker c.push_over.result
-    (λ e. chained_all c.args.self.now c.self.inside.own c.self.inside.survey.now c.self.inside.above.now c.self.inside.over c.self.inside.shared.now is c.args.given (needs_of c.args.needs.now.items) (needs_of c.push_over.new.needs.items) c.requires.declared e)
+    (λ e. chained_all c.args.self.now c.self.inside.own c.self.inside.survey.now c.self.inside.above.now c.self.inside.over c.self.inside.shared.now is c.args.given c.args.needs.now c.push_over.new.needs c.requires.declared e)
     c.push_over.ensures
 
 pub returns-in-Superclass : goal.returns-in-Superclass
 returns-in-Superclass g c =
     let is = subst (λ (l : Lined). IsChained l c.self.inside.own c.self.inside.survey.now c.self.inside.above.now c.self.inside.over c.self.inside.shared.now) c.self.view_is c.self.invariant in
     on_ok_weaker c.push_left.result
-    (λ left. subst (λ (x : Given). AreFew x (kin_of c.args.self.now) (needs_of c.push_left.new.needs.items)) (sym c.in-Superclass.is)
-    (few_left (kin_of c.args.self.now) (needs_of c.args.needs.now.items) (needs_of c.push_left.new.needs.items) is.class c.requires.declared left))
+    (λ left. subst (λ (x : Given). AreFew x (kin_of c.args.self.now) c.push_left.new.needs.needs) (sym c.in-Superclass.is)
+    (few_left (kin_of c.args.self.now) c.args.needs.now c.push_left.new.needs is.class c.requires.declared left))
     c.push_left.ensures

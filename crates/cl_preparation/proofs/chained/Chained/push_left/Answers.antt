@@ -1,7 +1,6 @@
 use Rattle.std.proofs.Common.{List, map, subst, sym}
 use Rattle.std.specs.Prelude.{IfSome}
 use Rattle.std.proofs.lemmas.Result.{on_ok_weaker}
-use Rattle.cl_hierarchy.specs.Imposed.{needs_of}
 use Rattle.cl_hierarchy.specs.Lineages.{Lined, kin_of}
 use Rattle.cl_hierarchy.specs.Rows.{Rowed}
 use Rattle.cl_preparation.specs.Chains.{AreImposed, IsChained, IsClassAbove, hidden_by}
@@ -24,5 +23,5 @@ returns g c =
     let is = subst (λ (l : Lined). IsChained l c.self.inside.own c.self.inside.survey.now c.self.inside.above.now c.self.inside.over c.self.inside.shared.now) c.self.view_is c.self.invariant in
     let l = c.args.self.now in
     on_ok_weaker c.push_new_rows.result
-    (λ left. all_left_rows l c.self.inside.own c.self.inside.over is.class is.over_are (λ r. r.now.value) c.as_slice.result.now (needs_of c.args.needs.now.items) (needs_of c.push_new_rows.new.needs.items) c.as_slice.ensures left)
+    (λ left. all_left_rows l c.self.inside.own c.self.inside.over is.class is.over_are (λ r. r.now.value) c.as_slice.result.now c.args.needs.now c.push_new_rows.new.needs c.as_slice.ensures left)
     c.push_new_rows.ensures

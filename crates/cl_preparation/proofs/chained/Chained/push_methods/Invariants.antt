@@ -1,10 +1,10 @@
-use Rattle.std.proofs.Common.{◌≡◌, ◌++◌, take}
+use Rattle.std.proofs.Common.{◌≡◌, take}
 use Rattle.std.specs.List.{flat_map}
-use Rattle.cl_hierarchy.specs.Imposed.{needs_of}
 use Rattle.cl_hierarchy.specs.Lineages.{kin_of}
 use Rattle.cl_preparation.specs.Fewer.{fewer_inherited}
 use Rattle.cl_preparation.specs.Relatives.{bare}
+use Rattle.cl_preparation.specs.Listings.{and_all}
 use Rattle.cl_preparation.proofs.chained.Chained.push_methods.Given as goal
 
 abbrev pub invariant-loop-method : goal.invariant-loop-method
-invariant-loop-method g l = needs_of l.needs.items ≡ needs_of l.initial.needs.items ++ flat_map (fewer_inherited (kin_of l.self) (bare l.interface)) (take l.method-index l.methods)
+invariant-loop-method g l = l.needs ≡ and_all l.initial.needs (flat_map (fewer_inherited (kin_of l.self) (bare l.interface)) (take l.method-index l.methods))

@@ -1,7 +1,6 @@
 use Rattle.std.proofs.Common.{subst}
 use Rattle.std.specs.Prelude.{flat_map, option_map}
 use Rattle.std.proofs.lemmas.Result.{on_ok_weaker}
-use Rattle.cl_hierarchy.specs.Imposed.{needs_of}
 use Rattle.cl_hierarchy.specs.Lineages.{kin_of}
 use Rattle.cl_model.specs.States.{AllMet}
 use Rattle.cl_preparation.specs.Chains.{by_row, hidden_by}
@@ -19,7 +18,7 @@ returns-in-Some g c =
     let met : IsImposed k (hidden_by (option_map (λ h. h.now) c.args.hiding)) j = c.requires.imposed c.if-not-is_shared.false in
     let known = subst (λ o. IsImposed k (hidden_by (option_map (λ h. h.now) o)) j) c.in-Some.is met in
     on_ok_weaker c.push_hidden.result
-    (λ e. left_picked k (needs_of c.args.needs.now.items) (needs_of c.push_hidden.new.needs.items) (fewer_inherited k j) (λ m. hides m.key (bare c.in-Some.hiding.now)) j.file.methods known e)
+    (λ e. left_picked k c.args.needs.now c.push_hidden.new.needs (fewer_inherited k j) (λ m. hides m.key (bare c.in-Some.hiding.now)) j.file.methods known e)
     c.push_hidden.ensures
 
 pub returns-in-None : goal.returns-in-None
@@ -28,4 +27,4 @@ returns-in-None g c =
     let j = bare c.args.row.now.value in
     let met : IsImposed k (hidden_by (option_map (λ h. h.now) c.args.hiding)) j = c.requires.imposed c.if-not-is_shared.false in
     let known = subst (λ o. IsImposed k (hidden_by (option_map (λ h. h.now) o)) j) c.in-None.is met in
-    left_out k (needs_of c.args.needs.now.items) (by_row k c.args.row.now.value) (λ s h. subst (λ ms. AllMet s (flat_map (fewer_inherited k j) ms)) (all_unhidden j.file.methods) (known s h))
+    left_out k c.args.needs.now (by_row k c.args.row.now.value) (λ s h. subst (λ ms. AllMet s (flat_map (fewer_inherited k j) ms)) (all_unhidden j.file.methods) (known s h))

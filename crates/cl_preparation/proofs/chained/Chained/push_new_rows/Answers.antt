@@ -2,7 +2,6 @@ use Rattle.std.proofs.Common.{◌∙◌, ap, subst}
 use Rattle.std.specs.Prelude.{flat_map, option_map}
 use Rattle.std.proofs.lemmas.Option.{slice_get-map}
 use Rattle.std.proofs.lemmas.Result.{IfOk-at_ok}
-use Rattle.cl_hierarchy.specs.Imposed.{needs_of}
 use Rattle.cl_hierarchy.specs.Lineages.{kin_of}
 use Rattle.cl_preparation.specs.Chains.{by_row}
 use Rattle.cl_preparation.specs.Fewer.{AddsLeft}
@@ -18,10 +17,10 @@ push_new_row-requires g c = record {
 
 pub loop-at-preserved : goal.loop-at-preserved
 loop-at-preserved g c =
-    row_left (λ r. r.now.value) (kin_of c.args.self.now) (needs_of c.args.needs.now.items) (needs_of c.loop-at.needs.items) (needs_of c.push_new_row.new.needs.items) c.args.rows.now c.loop-at.at c.index-rows-at.result c.loop-at-test.true c.index-rows-at.is c.loop-at.invariant
+    row_left (λ r. r.now.value) (kin_of c.args.self.now) c.args.needs.now c.loop-at.needs c.push_new_row.new.needs c.args.rows.now c.loop-at.at c.index-rows-at.result c.loop-at-test.true c.index-rows-at.is c.loop-at.invariant
     (IfOk-at_ok _ c.in_ok-push_new_row.was c.push_new_row.ensures)
 
 pub returns : goal.returns
 returns g c =
     let k = kin_of c.args.self.now in
-    subst (λ rows. AddsLeft k (needs_of c.args.needs.now.items) (flat_map (λ r. by_row k r.now.value) rows) (needs_of c.loop-at.needs.items)) (took_rows c.args.rows.now c.loop-at.at c.loop-at-test.false) c.loop-at.invariant
+    subst (λ rows. AddsLeft k c.args.needs.now (flat_map (λ r. by_row k r.now.value) rows) c.loop-at.needs) (took_rows c.args.rows.now c.loop-at.at c.loop-at-test.false) c.loop-at.invariant

@@ -1,0 +1,226 @@
+-- Loading constraints as a preparation lists them.
+use Rattle.std.proofs.Common.{◌≡◌, ◌<◌, ◌+◌, ℕ, Bool, true, false, ◌&&◌, ◌||◌, if◌then◌else◌, List, [], ◌∷◌, ◌++◌, map, length, refl, ap, sym, subst, ◌∙◌, get_or, take, append-nil, append_assoc, arith}
+use Rattle.std.specs.Prelude.{◌==◌, flat_map, nat_eq, Result, Ok, Err, OnOk}
+use Rattle.std.specs.Cmp.Lexicographic.{bytes_decides, pointwise}
+use Rattle.std.specs.List.{AllByRecursion, list_any}
+use Rattle.std.proofs.lemmas.Bool.{and_parts, eq-eqb, eqb-true}
+use Rattle.std.proofs.lemmas.List.{map_more, map_push, take-map, take_all, take_more}
+use Rattle.std.proofs.lemmas.List.Folds.{list_any-append}
+use Rattle.std.proofs.lemmas.Grind.{flat_map-append}
+use Rattle.cl_classfile.specs.Files.{Key, Name}
+use Rattle.cl_model.specs.declared.need.Equality.{Equality}
+use Rattle.cl_model.specs.Preparation.{equals_of}
+use Rattle.cl_model.specs.States.{Entry, Equal, Need}
+use Rattle.cl_hierarchy.specs.Imposed.{equal_need, needs_of}
+use Rattle.cl_preparation.specs.declared.key.Between.{Between}
+use Rattle.cl_preparation.specs.Listings.{AreAmong, Grows, IsBetween, IsPassed, Listing, all_of, and_all, and_one, is_among, once_of, same_between, same_need}
+use Rattle.cl_preparation.specs.Methods.{key_in}
+
+-- ---- what a call that is done ensures
+
+pub on_done : {A E : Type 0} (P : Type 0) (r : Result A E) → P → OnOk r P
+on_done P (Ok a) p = p
+on_done P (Err e) p = tt
+
+pub on_refused : {A E : Type 0} (P : Type 0) (r : Result A E) (e : E) → r ≡ Err e → OnOk r P
+on_refused P (Ok a) e is = absurd cc
+on_refused P (Err x) e is = tt
+
+-- ---- one list after another
+
+pub all_append : (l : Listing) (xs ys : List Need) → and_all l (xs ++ ys) ≡ and_all (and_all l xs) ys
+all_append l [] ys = refl
+all_append l (x ∷ xs) ys = all_append (and_one l x) xs ys
+
+-- what each item gives, after what was listed before
+pub listed_more : {A : Type 0} (f : A → List Need) (xs : List A) (i : ℕ) (x : A) (first done after : Listing) → i < length xs → x ≡ get_or xs i x
+    → done ≡ and_all first (flat_map f (take i xs)) → after ≡ and_all done (f x) → after ≡ and_all first (flat_map f (take (i + 1) xs))
+listed_more f xs i x first done after h at before more =
+    more ∙ ap (λ l. and_all l (f x)) before ∙ sym (all_append first (flat_map f (take i xs)) (f x))
+    ∙ ap (λ ys. and_all first (flat_map f (take i xs) ++ ys)) (sym (append-nil (f x)))
+    ∙ ap (and_all first) (sym (flat_map-append f (take i xs) (x ∷ [])))
+    ∙ ap (λ y. and_all first (flat_map f (take i xs ++ y ∷ []))) at
+    ∙ ap (λ ys. and_all first (flat_map f ys)) (sym (take_more xs i x h))
+
+-- the same by what the items stand for
+flat_mapped : {A B : Type 0} (f : B → List Need) (v : A → B) (xs : List A) → flat_map f (map v xs) ≡ flat_map (λ x. f (v x)) xs
+flat_mapped f v [] = refl
+flat_mapped f v (x ∷ xs) = ap (λ ns. f (v x) ++ ns) (flat_mapped f v xs)
+
+pub listed_more_of : {A B : Type 0} (f : B → List Need) (v : A → B) (xs : List A) (i : ℕ) (x : A) (first done after : Listing) → i < length xs → x ≡ get_or xs i x
+    → done ≡ and_all first (flat_map f (map v (take i xs))) → after ≡ and_all done (f (v x)) → after ≡ and_all first (flat_map f (map v (take (i + 1) xs)))
+listed_more_of f v xs i x first done after h at before more =
+    listed_more (λ y. f (v y)) xs i x first done after h at (before ∙ ap (and_all first) (flat_mapped f v (take i xs))) more ∙ ap (and_all first) (sym (flat_mapped f v (take (i + 1) xs)))
+
+-- an equality more, of the next name
+pub named_more : {A : Type 0} (f : A → Need) (names : List A) (all : List Need) (i : ℕ) (n : A) (first done after : Listing) (need : Need) → map f names ≡ all → i < length names → n ≡ get_or names i n → need ≡ f n
+    → done ≡ and_all first (take i all) → after ≡ and_one done need → after ≡ and_all first (take (i + 1) all)
+named_more f names all i n first done after need is h at made before more =
+    more ∙ ap (λ (l : Listing). and_one l need) before ∙ sym (all_append first (take i all) (need ∷ []))
+    ∙ ap (and_all first) (
+    ap (λ ns. take i ns ++ need ∷ []) (sym is) ∙ ap (λ ns. ns ++ need ∷ []) (take-map f i names) ∙ ap (λ m. map f (take i names) ++ m ∷ []) (made ∙ ap f at)
+    ∙ sym (map_more f names i n h) ∙ sym (take-map f (i + 1) names) ∙ ap (take (i + 1)) is
+    )
+
+-- each name has given one
+pub named_all : {A : Type 0} (f : A → Need) (names : List A) (all : List Need) (first now : Listing) → map f names ≡ all → now ≡ and_all first (take (length names) all) → now ≡ and_all first all
+named_all f names all first now is e =
+    e ∙ ap (and_all first) (ap (take (length names)) (sym is) ∙ take-map f (length names) names ∙ ap (map f) (take_all (length names) names (omega arith)) ∙ is)
+
+-- ---- lists with repeats
+
+-- what is listed behind, where all are
+-- these needs, behind which all are listed
+abbrev pub behind : List Need → Listing
+behind ns = record { needs = ns; once = false }
+
+pub all_behind : (ns xs : List Need) → and_all (behind ns) xs ≡ behind (ns ++ xs)
+all_behind ns [] = ap behind (sym (append-nil ns))
+all_behind ns (x ∷ xs) =
+    all_behind (ns ++ x ∷ []) xs ∙ ap behind (append_assoc ns (x ∷ []) xs)
+
+pub pushed_all_of : (old new : List Equality) (xs : List Need) → needs_of new ≡ needs_of old ++ xs → all_of new ≡ and_all (all_of old) xs
+pushed_all_of old new xs e = ap behind e ∙ sym (all_behind (needs_of old) xs)
+
+-- ---- lists without
+
+eq_self : (n : ℕ) → (n == n) ≡ true
+eq_self n = eq-eqb n n refl
+
+name_self : (n : Name) → pointwise nat_eq n n ≡ true
+name_self n = (bytes_decides n n).1 refl
+
+both_true : (a b : Bool) → a ≡ true → b ≡ true → (a && b) ≡ true
+both_true true true e f = refl
+both_true true false e f = f
+both_true false b e f = e
+
+same_self : (n : Need) → same_need n n ≡ true
+same_self (Entry l n p) = both_true (l == l) (pointwise nat_eq n n && p == p) (eq_self l) (both_true (pointwise nat_eq n n) (p == p) (name_self n) (eq_self p))
+same_self (Equal n a b) = both_true (pointwise nat_eq n n) (a == a && b == b) (name_self n) (both_true (a == a) (b == b) (eq_self a) (eq_self b))
+
+or_right : (a b : Bool) → b ≡ true → (a || b) ≡ true
+or_right true b e = refl
+or_right false b e = e
+
+or_left : (a b : Bool) → a ≡ true → (a || b) ≡ true
+or_left true b e = refl
+or_left false b e = absurd cc
+
+among_pushed : (n m : Need) (ns : List Need) → is_among n ns ≡ true → is_among n (ns ++ m ∷ []) ≡ true
+among_pushed n m ns h = list_any-append (same_need n) ns (m ∷ []) ∙ or_left (list_any (same_need n) ns) (list_any (same_need n) (m ∷ [])) h
+
+among_last : (n : Need) (ns : List Need) → is_among n (ns ++ n ∷ []) ≡ true
+among_last n ns = list_any-append (same_need n) ns (n ∷ []) ∙ or_right (list_any (same_need n) ns) (list_any (same_need n) (n ∷ [])) (or_left (same_need n n) false (same_self n))
+
+abbrev pushed : Listing → Need → Listing
+pushed l n = record { needs = l.needs ++ n ∷ []; once = l.once }
+
+-- what stood there still does
+one_keeps : (l : Listing) (n m : Need) → is_among n l.needs ≡ true → is_among n (and_one l m).needs ≡ true
+one_keeps l n m h = by (l.once && is_among m l.needs)
+  where
+    by : (b : Bool) → is_among n (if b then l else pushed l m).needs ≡ true
+    by true = h
+    by false = among_pushed n m l.needs h
+
+pub all_keep : (l : Listing) (xs : List Need) → Grows l.needs (and_all l xs).needs
+all_keep l [] = λ n h. h
+all_keep l (x ∷ xs) = λ n h. all_keep (and_one l x) xs n (one_keeps l n x h)
+
+-- what is listed stands there
+one_has : (l : Listing) (n : Need) → is_among n (and_one l n).needs ≡ true
+one_has l n = by (is_among n l.needs) refl l.once
+  where
+    by : (b : Bool) → is_among n l.needs ≡ b → (o : Bool) → is_among n (if o && b then l else pushed l n).needs ≡ true
+    by true e true = e
+    by true e false = among_last n l.needs
+    by false e true = among_last n l.needs
+    by false e false = among_last n l.needs
+
+pub all_there : (l : Listing) (xs : List Need) → AreAmong (and_all l xs).needs xs
+all_there l [] = tt
+all_there l (x ∷ xs) = (all_keep (and_one l x) xs x (one_has l x), all_there (and_one l x) xs)
+
+-- where all stand there, none is listed again
+pub none_more : (l : Listing) (xs : List Need) → l.once ≡ true → AreAmong l.needs xs → l ≡ and_all l xs
+none_more l [] once all = refl
+none_more l (x ∷ xs) once all =
+    let same : and_one l x ≡ l = ap (λ (b : Bool). if b then l else pushed l x) (both_true l.once (is_among x l.needs) once all.0) in
+    subst (λ (m : Listing). l ≡ and_all m xs) (sym same) (none_more l xs once all.1)
+
+pub among_more : (old new ns : List Need) → Grows old new → AreAmong old ns → AreAmong new ns
+among_more old new [] grows all = tt
+among_more old new (n ∷ ns) grows all = (grows n all.0, among_more old new ns grows all.1)
+
+-- ---- the code's set
+
+-- an equality, as a need
+abbrev same_equality : Equality → Equality → Bool
+same_equality a b = pointwise nat_eq a.name b.name && (a.one == b.one && a.other == b.other)
+
+any_equal : (e : Equality) (es : List Equality) → is_among (equal_need e) (needs_of es) ≡ list_any (same_equality e) es
+any_equal e [] = refl
+any_equal e (x ∷ es) = ap (λ (b : Bool). same_equality e x || b) (any_equal e es)
+
+-- an equality that was put into the set
+pub inserted : (old new : List Equality) (e : Equality) → new ≡ (if list_any (same_equality e) old then old else old ++ e ∷ []) → once_of new ≡ and_one (once_of old) (equal_need e)
+inserted old new e made = ap once_of made ∙ by (list_any (same_equality e) old) ∙ ap (λ (b : Bool). if b then once_of old else pushed (once_of old) (equal_need e)) (sym (any_equal e old))
+  where
+    by : (b : Bool) → once_of (if b then old else old ++ e ∷ []) ≡ (if b then once_of old else pushed (once_of old) (equal_need e))
+    by true = refl
+    by false = ap (λ (ns : List Need). let l : Listing = record { needs = ns; once = true } in l) (map_push equal_need old e)
+
+-- what stood in the set still does
+pub kept_by : (old new : List Equality) (xs : List Need) → once_of new ≡ and_all (once_of old) xs → Grows (needs_of old) (needs_of new)
+kept_by old new xs e = λ n h. subst (λ (l : Listing). is_among n l.needs ≡ true) (sym e) (all_keep (once_of old) xs n h)
+
+pub there_by : (old new : List Equality) (xs : List Need) → once_of new ≡ and_all (once_of old) xs → AreAmong (needs_of new) xs
+there_by old new xs e = subst (λ (l : Listing). AreAmong l.needs xs) (sym e) (all_there (once_of old) xs)
+
+-- ---- what is known to be passed
+
+pub between_same : (a b : Between) → same_between a b ≡ true → a ≡ b
+between_same a b e =
+    let both = and_parts (pointwise nat_eq a.descriptor b.descriptor) (a.one == b.one && a.other == b.other) e in
+    let loaders = and_parts (a.one == b.one) (a.other == b.other) both.1 in
+    ap (λ (n : Name). let made : Between = record { descriptor = n; one = a.one; other = a.other } in made) ((bytes_decides a.descriptor b.descriptor).0 both.0)
+    ∙ ap (λ (n : ℕ). let made : Between = record { descriptor = b.descriptor; one = n; other = a.other } in made) (eqb-true a.one b.one loaders.0)
+    ∙ ap (λ (n : ℕ). let made : Between = record { descriptor = b.descriptor; one = b.one; other = n } in made) (eqb-true a.other b.other loaders.1)
+
+-- one that is found among those that are passed is
+found_step : (needs : List Need) (p q : Between) (b c : Bool) → same_between p q ≡ b → (b || c) ≡ true → IsPassed needs q → (c ≡ true → IsPassed needs p) → IsPassed needs p
+found_step needs p q true c same h here rest = subst (IsPassed needs) (sym (between_same p q same)) here
+found_step needs p q false c same h here rest = rest h
+
+pub found_passed : (needs : List Need) (p : Between) (passed : List Between) → AllByRecursion (IsPassed needs) passed → list_any (same_between p) passed ≡ true → IsPassed needs p
+found_passed needs p [] all e = absurd cc
+found_passed needs p (q ∷ passed) all e = found_step needs p q (same_between p q) (list_any (same_between p) passed) refl e all.0 (λ h. found_passed needs p passed all.1 h)
+
+-- they are where more stands
+pub passed_grow : (old new : List Need) (passed : List Between) → Grows old new → AllByRecursion (IsPassed old) passed → AllByRecursion (IsPassed new) passed
+passed_grow old new [] grows all = tt
+passed_grow old new (p ∷ passed) grows all = ((λ name. among_more old new (equals_of (key_in name p.descriptor) p.one p.other) grows (all.0 name)), passed_grow old new passed grows all.1)
+
+-- with one more
+pub passed_more : (needs : List Need) (old new : List Between) (p : Between) → new ≡ (if list_any (same_between p) old then old else old ++ p ∷ []) → IsPassed needs p → AllByRecursion (IsPassed needs) old → AllByRecursion (IsPassed needs) new
+passed_more needs old new p made is all = subst (AllByRecursion (IsPassed needs)) (sym made) (by (list_any (same_between p) old))
+  where
+    push : (ps : List Between) → AllByRecursion (IsPassed needs) ps → AllByRecursion (IsPassed needs) (ps ++ p ∷ [])
+    push [] all = (is, tt)
+    push (q ∷ ps) all = (all.0, push ps all.1)
+
+    by : (b : Bool) → AllByRecursion (IsPassed needs) (if b then old else old ++ p ∷ [])
+    by true = all
+    by false = push old all
+
+-- one that is found tells of a method with its descriptor that what it imposes stands there
+pub known_passed : (es : List Equality) (passed : List Between) (key : Key) (a b : ℕ) (p : Between) → AllByRecursion (IsPassed (needs_of es)) passed → IsBetween key a b p → list_any (same_between p) passed ≡ true
+    → once_of es ≡ and_all (once_of es) (equals_of key a b)
+known_passed es passed key a b p all is found =
+    let needs : List Need = needs_of es in
+    let there : AreAmong needs (equals_of (key_in key.name p.descriptor) p.one p.other) = found_passed needs p passed all found key.name in
+    none_more (once_of es) (equals_of key a b) refl
+    (subst (λ (k : Key). AreAmong needs (equals_of k a b)) is.of
+    (subst (λ (n : ℕ). AreAmong needs (equals_of (key_in key.name p.descriptor) n b)) is.one_is
+    (subst (λ (n : ℕ). AreAmong needs (equals_of (key_in key.name p.descriptor) p.one n)) is.other_is there)))

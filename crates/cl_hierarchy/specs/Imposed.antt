@@ -1,9 +1,8 @@
 -- Lists of loading constraints, with what they were made from (JVMS SE 8, 5.3.4, 5.4.2, 5.4.3).
-use Rattle.std.specs.Prelude.{◌≡◌, ◌≤◌, ℕ, Contains, if◌then◌else◌, List, [], length, map, nat_le, Some}
-use Rattle.std.specs.Option.{option_map_or}
+use Rattle.std.specs.Prelude.{◌≡◌, ◌≤◌, ℕ, Contains, if◌then◌else◌, List, [], flat_map, length, map, nat_le, Some}
 use Rattle.cl_model.specs.declared.need.Equality.{Equality}
 use Rattle.cl_model.specs.declared.need.Need.TheVariants as needs
-use Rattle.cl_model.specs.Lineages.{Kin, first, superclasses}
+use Rattle.cl_model.specs.Lineages.{Kin, superclasses}
 use Rattle.cl_model.specs.Plans.{CitesClass, resolve_in}
 use Rattle.cl_model.specs.Preparation.{constraints_of}
 use Rattle.cl_model.specs.States.{AllMet, Equal, IsNext, Need, State, Verdict}
@@ -61,11 +60,12 @@ pub record AreEnough (known all few : List Need) : Type 0 where
   pub met : (s : State) → AllMet s known → AllMet s few → AllMet s all
   pub next : (s : State) (n : Need) → AllMet s known → IsNext s few n → IsNext s all n
 
--- what the preparation of the superclass of a class imposes, if it has one (5.4.2)
+-- what the preparations of all superclasses of a class impose (5.4.2)
 abbrev pub constraints_above : Kin → List Need
-constraints_above k = option_map_or constraints_of (first (superclasses k)) []
+constraints_above k = flat_map constraints_of (superclasses k)
 
--- what stands where this is given: nothing that is known, or what the superclass imposes (5.4.2)
+-- what stands where this is given: nothing that is known, or what all superclasses impose, since a
+-- class is prepared after its superclass (5.4.2)
 abbrev pub known_by : Given → Kin → List Need
 known_by givens.Nothing k = []
 known_by givens.Superclass k = constraints_above k

@@ -31,8 +31,8 @@ pub fn equality(name: Name, one: LoaderId, other: LoaderId) -> Equality
 pub enum Given {
     /// Nothing: they stand for all that the preparation imposes.
     Nothing,
-    /// That the superclass is prepared, if there is one: they stand for what that one's preparation did not impose (JVMS SE 8,
-    /// 5.4.2).
+    /// That the superclass is prepared, if there is one, and so all superclasses: they stand for what the preparations of these did
+    /// not impose (JVMS SE 8, 5.4.2).
     Superclass,
 }
 

@@ -2,7 +2,6 @@
 use Rattle.std.proofs.Common.{◌≡◌, ◌∙◌, ◌⊎◌, ◌&&◌, ◌++◌, inl, inr, ℕ, Bool, true, false, not, if◌then◌else◌, Option, Some, None, List, [], ◌∷◌, ◌+◌, ◌<◌, ◌≤◌, zero, suc, filter, append-nil, arith, get_or, length, map, take, refl, ap, sym, subst}
 use Rattle.std.specs.Prelude.{Contains, find, flat_map, is_some, option_map, slice_get}
 use Rattle.std.specs.List.{AllByRecursion}
-use Rattle.std.specs.Option.{option_map_or}
 use Rattle.std.proofs.lemmas.Bool.{and_parts}
 use Rattle.std.proofs.lemmas.Grind.{flat_map-append}
 use Rattle.std.proofs.lemmas.List.{take_more}
@@ -10,22 +9,25 @@ use Rattle.std.proofs.lemmas.Option.{same_Some, slice_get-map}
 use Rattle.std.proofs.lemmas.List.Elements.{All-contains, All-from_recursion, Contains-append_left, Contains-append_right}
 use Rattle.cl_classfile.specs.Files.{Key, Member, file_of, is_interface, member, same_key}
 use Rattle.cl_model.specs.declared.class.Class.{Class}
-use Rattle.cl_model.specs.Lineages.{Bare, Forest, Kin, alone, first, if_declared, is_offered, is_virtual, method_of, once, preorder, superinterfaces, upward}
+use Rattle.cl_model.specs.Lineages.{Bare, Forest, Kin, Tree, alone, first, if_declared, is_offered, is_virtual, method_of, once, preorder, superclasses, superinterfaces, upward}
+use Rattle.cl_model.specs.Classes.{same_class}
 use Rattle.cl_model.specs.Preparation.{constraints_of, equals_of, equals_with, for_declared, for_inherited, inherited_from, is_special, overridden, takes_part, with_inherited}
 use Rattle.cl_model.specs.States.{AllMet, Need, State}
 use Rattle.cl_model.proofs.Closed.{met_both}
 use Rattle.cl_model.proofs.Keys.{keys_are_told}
 use Rattle.cl_model.proofs.Progress.{met_split}
+use Rattle.cl_hierarchy.specs.Imposed.{constraints_above}
 use Rattle.cl_hierarchy.specs.Lineages.{Lined, kin_at, kin_of}
 use Rattle.cl_hierarchy.specs.OversAt.{IsOverAbove, IsSharedIn}
 use Rattle.cl_hierarchy.specs.Rows.{Rowed}
-use Rattle.cl_hierarchy.specs.Trees.{forest, in_front, kin_named, kins, superclass_in}
+use Rattle.cl_hierarchy.specs.Trees.{forest, in_front, kin_named, kin_under, kins, kins_after, superclass_in}
 use Rattle.cl_hierarchy.proofs.Ways.{up_class}
 use Rattle.cl_preparation.specs.Listings.{Listing}
 use Rattle.cl_preparation.specs.Chains.{AreImposed, AreOver, CoversHidden, IsClassAbove, by_row, hidden_by}
 use Rattle.cl_preparation.specs.Nearby.{AddAll}
 use Rattle.cl_preparation.specs.Fewer.{AddsLeft, IsImposed, by_methods, by_superinterfaces, fewer_inherited, is_between, unhidden}
-use Rattle.cl_preparation.specs.Relatives.{bare, names_interfaces}
+use Rattle.cl_preparation.specs.Relatives.{bare, names_interfaces, names_over}
+use Rattle.cl_preparation.specs.Settled.{Declared, IsSpared, Settled, Unmixed, is_settled}
 use Rattle.cl_preparation.specs.Surveys.{IsPart, IsUnmixed}
 use Rattle.cl_preparation.specs.Walks.{hides}
 use Rattle.cl_preparation.proofs.Chains.{by_rows, front_is}
@@ -78,6 +80,19 @@ found_has P (x ∷ xs) key m e h = by (same_key x.key key) refl (λ rest. found_
         let one : x ≡ m = cc in
         subst (λ (y : Member). P y × (y.key ≡ key)) one (h.0, (keys_are_told x.key key).0 same)
     by false same more e = more e
+
+met_in : {A : Type 0} (s : State) (f : A → List Need) (xs : List A) (x : A) → AllMet s (flat_map f xs) → Contains xs x → AllMet s (f x)
+met_in {A} s f xs x h there =
+    All-contains (λ y. AllMet s (f y)) xs x (All-from_recursion (λ y. AllMet s (f y)) xs (each xs h)) there
+  where
+    each : (ys : List A) → AllMet s (flat_map f ys) → AllByRecursion (λ y. AllMet s (f y)) ys
+    each [] h = tt
+    each (y ∷ ys) h = let both = met_split s (f y) (flat_map f ys) h in (both.0, each ys both.1)
+
+-- what holds of each that is there
+each_in : {A : Type 0} (P : A → Type 0) (xs : List A) → ((x : A) → Contains xs x → P x) → AllByRecursion P xs
+each_in P [] f = tt
+each_in P (x ∷ xs) f = (f x (0, omega arith, refl), each_in P xs (λ y h. f y (Contains-append_right (x ∷ []) xs y h)))
 
 -- ---- a class that names no superinterface
 
@@ -137,11 +152,11 @@ module _ (k s : Kin) (st : State) (up : k.superclass ≡ alone s) (firsts : AllM
           (All-from_recursion (λ (x : Kin). takes_part key x ≡ true → AllMet st (equals_of key s.class.loader x.class.loader)) (superinterfaces s) each) there part
 
   -- it does not: it declares none, and inherits what the class inherits, or it hides the method
-  hidden_met : (j : Kin) (m : Member) → (hides m.key s ≡ true → fewer_inherited k j m ≡ []) → is_offered m.key s ≡ false → takes_part m.key j ≡ true → AllMet st (for_inherited s j m) → inherited_from k m.key ≡ inherited_from s m.key
-      → AllMet st (with_inherited m.key j (inherited_from k m.key)) ⊎ (fewer_inherited k j m ≡ [])
+  hidden_met : (j : Kin) (m : Member) → (hides m.key s ≡ true → AllMet st (fewer_inherited k j m)) → is_offered m.key s ≡ false → takes_part m.key j ≡ true → AllMet st (for_inherited s j m) → inherited_from k m.key ≡ inherited_from s m.key
+      → AllMet st (with_inherited m.key j (inherited_from k m.key)) ⊎ AllMet st (fewer_inherited k j m)
   hidden_met j m free off part h same = by (method_of s m.key) refl
     where
-      by : (o : Option Member) → method_of s m.key ≡ o → AllMet st (with_inherited m.key j (inherited_from k m.key)) ⊎ (fewer_inherited k j m ≡ [])
+      by : (o : Option Member) → method_of s m.key ≡ o → AllMet st (with_inherited m.key j (inherited_from k m.key)) ⊎ AllMet st (fewer_inherited k j m)
       by None e =
           let list : AllMet st (with_inherited m.key j (inherited_from s m.key)) =
           subst (λ (o : Option Member). AllMet st (if true && not (is_some o) then with_inherited m.key j (inherited_from s m.key) else [])) e
@@ -151,7 +166,7 @@ module _ (k s : Kin) (st : State) (up : k.superclass ≡ alone s) (firsts : AllM
           let hidden : hides m.key s ≡ true = ap (λ (o : Option Member). is_some o && not (is_offered m.key s)) e ∙ ap not off in
           inr (free hidden)
 
-  method_met : (j : Kin) (m : Member) → Contains (superinterfaces s) j → (hides m.key s ≡ true → fewer_inherited k j m ≡ []) → AllMet st (for_inherited s j m) → AllMet st (fewer_inherited k j m)
+  method_met : (j : Kin) (m : Member) → Contains (superinterfaces s) j → (hides m.key s ≡ true → AllMet st (fewer_inherited k j m)) → AllMet st (for_inherited s j m) → AllMet st (fewer_inherited k j m)
   method_met j m there free h = by (takes_part m.key j) (is_some (method_of k m.key)) (is_offered m.key s) refl refl refl
     where
       all : List Need
@@ -171,14 +186,14 @@ module _ (k s : Kin) (st : State) (up : k.superclass ≡ alone s) (firsts : AllM
           let same : inherited_from k m.key ≡ inherited_from s m.key = inherits k s m.key up ∙ ap (λ (b : Bool). if b then Some s else inherited_from s m.key) oe in
           elim (hidden_met j m free oe pe h same) [
             | inl met ↦ subst (AllMet st) (sym (of true false pe he)) (met_filter st is_between all met)
-            | inr none ↦ subst (AllMet st) (sym none) tt
+            | inr met ↦ met
           ]
 
   -- of these methods, all that are not hidden
-  methods_met : (j : Kin) (hidden : Key → Bool) (ms : List Member) → Contains (superinterfaces s) j → ((m : Member) → hides m.key s ≡ true → hidden m.key ≡ false → fewer_inherited k j m ≡ []) → AllMet st (flat_map (for_inherited s j) ms)
+  methods_met : (j : Kin) (hidden : Key → Bool) (ms : List Member) → Contains (superinterfaces s) j → AllByRecursion (λ (m : Member). hides m.key s ≡ true → hidden m.key ≡ false → AllMet st (fewer_inherited k j m)) ms → AllMet st (flat_map (for_inherited s j) ms)
       → AllMet st (flat_map (fewer_inherited k j) (unhidden hidden ms))
   methods_met j hidden [] there free h = tt
-  methods_met j hidden (m ∷ ms) there free h = by (hidden m.key) refl (λ rest. methods_met j hidden ms there free rest)
+  methods_met j hidden (m ∷ ms) there free h = by (hidden m.key) refl (λ rest. methods_met j hidden ms there free.1 rest)
     where
       both : AllMet st (for_inherited s j m) × AllMet st (flat_map (for_inherited s j) ms)
       both = met_split st (for_inherited s j m) (flat_map (for_inherited s j) ms) h
@@ -186,57 +201,184 @@ module _ (k s : Kin) (st : State) (up : k.superclass ≡ alone s) (firsts : AllM
       by : (b : Bool) → hidden m.key ≡ b → (AllMet st (flat_map (for_inherited s j) ms) → AllMet st (flat_map (fewer_inherited k j) (unhidden hidden ms)))
           → AllMet st (flat_map (fewer_inherited k j) (if not b then m ∷ unhidden hidden ms else unhidden hidden ms))
       by true e more = more both.1
-      by false e more = met_both st (fewer_inherited k j m) (flat_map (fewer_inherited k j) (unhidden hidden ms)) (method_met j m there (λ on. free m on e) both.0) (more both.1)
+      by false e more = met_both st (fewer_inherited k j m) (flat_map (fewer_inherited k j) (unhidden hidden ms)) (method_met j m there (λ on. free.0 on e) both.0) (more both.1)
+
+-- ---- what farther superclasses have imposed
+
+-- each of these classes has one superclass at most, and one that names no superinterfaces has none of its own
+abbrev IsStraight : Forest → Type 0
+IsStraight Bare = Unit {0}
+IsStraight (Tree c f sup ints more) = (more ≡ Bare) × (is_some (slice_get f.interfaces 0) ≡ false → ints ≡ Bare) × IsStraight sup
+
+module _ (st : State) (j : Kin) (m : Member) (part : takes_part m.key j ≡ true) (within : Contains j.file.methods m) where
+  -- the first of these has the superinterface
+  abbrev HasFirst : Forest → Type 0
+  HasFirst f = (t : Kin) → Some t ≡ first (upward f) → Contains (superinterfaces t) j
+
+  -- what a class would impose by the method, if it declared none, is met
+  abbrev IsMet : Kin → Type 0
+  IsMet s = AllMet st (with_inherited m.key j (inherited_from s m.key))
+
+  -- the superclass declares the method, and offers it, or declares none
+  shown_met : (s t : Kin) → s.superclass ≡ alone t → is_interface t.file ≡ false → hides m.key t ≡ false → Contains (superinterfaces t) j → AllMet st (constraints_of t) → IsMet s
+  shown_met s t up class shown there mine = by (is_offered m.key t) (method_of t m.key) refl refl
+    where
+      firsts : List Need
+      firsts = flat_map (for_declared t) t.file.methods
+
+      second : List Need
+      second = flat_map (λ (x : Kin). flat_map (for_inherited t x) x.file.methods) (superinterfaces t)
+
+      both : AllMet st firsts × AllMet st (if is_interface t.file then [] else second)
+      both = met_split st firsts (if is_interface t.file then [] else second) mine
+
+      imposed : AllMet st (for_inherited t j m)
+      imposed = met_in st (for_inherited t j) j.file.methods m (met_in st (λ (x : Kin). flat_map (for_inherited t x) x.file.methods) (superinterfaces t) j (subst (λ (b : Bool). AllMet st (if b then [] else second)) class both.1) there) within
+
+      by : (on : Bool) (o : Option Member) → is_offered m.key t ≡ on → method_of t m.key ≡ o → IsMet s
+      by true o on e =
+          subst (λ (x : Option Kin). AllMet st (with_inherited m.key j x)) (sym (inherits s t m.key up ∙ ap (λ (b : Bool). if b then Some t else inherited_from t m.key) on)) (offered_met s t st up both.0 j m.key there part on)
+      by false (Some x) on e = absurd (let no : true ≡ false = sym (ap (λ (o : Option Member). is_some o && not (is_offered m.key t)) e ∙ ap not on) ∙ shown in cc)
+      by false None on e =
+          subst (λ (x : Option Kin). AllMet st (with_inherited m.key j x)) (sym (inherits s t m.key up ∙ ap (λ (b : Bool). if b then Some t else inherited_from t m.key) on))
+          (subst (λ (o : Option Member). AllMet st (if true && not (is_some o) then with_inherited m.key j (inherited_from t m.key) else [])) e
+          (subst (λ (b : Bool). AllMet st (if b && not (is_some (method_of t m.key)) then with_inherited m.key j (inherited_from t m.key) else [])) part imposed))
+
+  -- the superclass of a class that names no superinterfaces has those of that
+  has_next : (t : Kin) (f : Forest) → t.superclass ≡ f → t.interfaces ≡ Bare → IsStraight f → Contains (superinterfaces t) j → HasFirst f
+  has_next t Bare up none one there = λ u is. absurd cc
+  has_next t (Tree c f sup ints more) up none one there = λ u is.
+      let w : Kin = record { class = c; file = f; superclass = sup; interfaces = ints } in
+      subst (λ (x : Kin). Contains (superinterfaces x) j) (sym (same_Some u w is))
+      (subst (λ (ks : List Kin). Contains ks j) (over_same t w (up ∙ ap (λ (x : Forest). Tree c f sup ints x) one.0) none) there)
+
+  settled_step : (s t : Kin) → s.superclass ≡ alone t → (names_over t ≡ false → t.interfaces ≡ Bare) → IsStraight t.superclass → Contains (superinterfaces t) j → is_settled m.key (t ∷ superclasses t) ≡ true
+      → AllMet st (constraints_of t ++ flat_map constraints_of (superclasses t)) → (HasFirst t.superclass → is_settled m.key (superclasses t) ≡ true → AllMet st (flat_map constraints_of (superclasses t)) → IsMet t) → IsMet s
+  settled_step s t up none one there e met rest = by (is_interface t.file) (hides m.key t) (names_over t) (is_settled m.key (superclasses t)) refl refl refl refl e
+    where
+      both : AllMet st (constraints_of t) × AllMet st (flat_map constraints_of (superclasses t))
+      both = met_split st (constraints_of t) (flat_map constraints_of (superclasses t)) met
+
+      by : (c h n r : Bool) → is_interface t.file ≡ c → hides m.key t ≡ h → names_over t ≡ n → is_settled m.key (superclasses t) ≡ r → (not c && (if h then not n && r else true)) ≡ true → IsMet s
+      by true h n r ce he ne re e = absurd cc
+      by false false n r ce he ne re e = shown_met s t up ce he there both.0
+      by false true true r ce he ne re e = absurd cc
+      by false true false false ce he ne re e = absurd cc
+      by false true false true ce he ne re e =
+          let off : is_offered m.key t ≡ false = unoffered (is_some (method_of t m.key)) (is_offered m.key t) he in
+          subst (λ (x : Option Kin). AllMet st (with_inherited m.key j x)) (sym (inherits s t m.key up ∙ ap (λ (b : Bool). if b then Some t else inherited_from t m.key) off))
+          (rest (has_next t t.superclass refl (none ne) one there) re both.1)
+        where
+          unoffered : (a b : Bool) → (a && not b) ≡ true → b ≡ false
+          unoffered true true h = absurd cc
+          unoffered true false h = refl
+          unoffered false b h = absurd cc
+
+  settled_met : (s : Kin) (f : Forest) → s.superclass ≡ f → IsStraight f → HasFirst f → is_settled m.key (upward f) ≡ true → AllMet st (flat_map constraints_of (upward f)) → IsMet s
+  settled_met s Bare up one there e met = absurd cc
+  settled_met s (Tree c f sup ints more) up one there e met =
+      let t : Kin = record { class = c; file = f; superclass = sup; interfaces = ints } in
+      settled_step s t (up ∙ ap (λ (x : Forest). Tree c f sup ints x) one.0) one.1 one.2 (there t refl) e met (λ there e met. settled_met t sup refl one.2 there e met)
+
+-- what a class itself imposes by the method is met, whether it declares it or not
+spared_met : (st : State) (j : Kin) (m : Member) (k : Kin) → (takes_part m.key j ≡ true → AllMet st (with_inherited m.key j (inherited_from k m.key))) → AllMet st (fewer_inherited k j m)
+spared_met st j m k met = met_filter st is_between (for_inherited k j m) (by (takes_part m.key j) (is_some (method_of k m.key)) refl)
+  where
+    by : (part has : Bool) → takes_part m.key j ≡ part → AllMet st (if part && not has then with_inherited m.key j (inherited_from k m.key) else [])
+    by false has e = tt
+    by true true e = tt
+    by true false e = met e
+
+declared_met_too : (st : State) (j : Kin) (m : Member) (k : Kin) → is_some (method_of k m.key) ≡ true → AllMet st (fewer_inherited k j m)
+declared_met_too st j m k has = met_filter st is_between (for_inherited k j m) (by (takes_part m.key j) (is_some (method_of k m.key)) has)
+  where
+    by : (part has : Bool) → has ≡ true → AllMet st (if part && not has then with_inherited m.key j (inherited_from k m.key) else [])
+    by false has e = tt
+    by true true e = tt
+    by true false e = absurd cc
 
 -- ---- a superinterface that the superclass has too
 
 -- of a list by items, that of one item
-met_in : (s : State) (f : Kin → List Need) (xs : List Kin) (x : Kin) → AllMet s (flat_map f xs) → Contains xs x → AllMet s (f x)
-met_in s f xs x h there =
-    All-contains (λ (y : Kin). AllMet s (f y)) xs x (All-from_recursion (λ (y : Kin). AllMet s (f y)) xs (each xs h)) there
-  where
-    each : (ys : List Kin) → AllMet s (flat_map f ys) → AllByRecursion (λ (y : Kin). AllMet s (f y)) ys
-    each [] h = tt
-    each (y ∷ ys) h = let both = met_split s (f y) (flat_map f ys) h in (both.0, each ys both.1)
-
 -- what a class would impose with each superinterface that its superclass has too is imposed, but for these methods
 abbrev pub ImposesShared : Kin → (Key → Bool) → Type 0
 ImposesShared c hidden = (j : Kin) → IsOverAbove c j → Contains (superinterfaces c) j → IsImposed c hidden j
 
--- the superclass is no interface, and of the methods that it hides nothing follows from those that are not among these
+-- the superclass is no interface, and of the methods that it hides those that are not among these are spared
 imposes : (U : Key → Type 0) (hidden : Key → Bool) (k s : Kin) → k.superclass ≡ alone s → is_interface s.file ≡ false → ((key : Key) → hides key s ≡ true → (hidden key ≡ true) ⊎ U key)
-    → AllByRecursion (λ (j : Kin). (m : Member) → U m.key → fewer_inherited k j m ≡ []) (superinterfaces k) → ImposesShared k hidden
-imposes U hidden k s up class told unmixed = λ j over among st h.
+    → ((st : State) (j : Kin) (m : Member) → AllMet st (constraints_above k) → Contains (superinterfaces s) j → Contains (superinterfaces k) j → Contains j.file.methods m → U m.key → AllMet st (fewer_inherited k j m)) → ImposesShared k hidden
+imposes U hidden k s up class told spared = λ j over among st h.
     let firsts : List Need = flat_map (for_declared s) s.file.methods in
     let second : List Need = flat_map (λ (x : Kin). flat_map (for_inherited s x) x.file.methods) (superinterfaces s) in
-    let mine : AllMet st (constraints_of s) = subst (λ (f : Forest). AllMet st (option_map_or constraints_of (first (upward f)) [])) up h in
-    let both = met_split st firsts (if is_interface s.file then [] else second) mine in
+    let all : AllMet st (constraints_of s ++ flat_map constraints_of (superclasses s)) = subst (λ (f : Forest). AllMet st (flat_map constraints_of (upward f))) up h in
+    let both = met_split st firsts (if is_interface s.file then [] else second) (met_split st (constraints_of s) (flat_map constraints_of (superclasses s)) all).0 in
     let seconds : AllMet st second = subst (λ (b : Bool). AllMet st (if b then [] else second)) class both.1 in
     let same : over.above ≡ s = same_Some over.above s (over.up ∙ ap (λ (f : Forest). first (upward f)) up) in
     let there : Contains (superinterfaces s) j = subst (λ (x : Kin). Contains (superinterfaces x) j) same over.over in
-    let apart = All-contains (λ (x : Kin). (m : Member) → U m.key → fewer_inherited k x m ≡ []) (superinterfaces k) j (All-from_recursion (λ (x : Kin). (m : Member) → U m.key → fewer_inherited k x m ≡ []) (superinterfaces k) unmixed) among in
-    let free : (m : Member) → hides m.key s ≡ true → hidden m.key ≡ false → fewer_inherited k j m ≡ [] = λ m on off. none m (told m.key on) off (apart m) in
+    let free : AllByRecursion (λ (m : Member). hides m.key s ≡ true → hidden m.key ≡ false → AllMet st (fewer_inherited k j m)) j.file.methods =
+    each_in (λ (m : Member). hides m.key s ≡ true → hidden m.key ≡ false → AllMet st (fewer_inherited k j m)) j.file.methods (λ m within on off. one m (told m.key on) off (spared st j m h there among within)) in
     methods_met k s st up both.0 j hidden j.file.methods there free (met_in st (λ (x : Kin). flat_map (for_inherited s x) x.file.methods) (superinterfaces s) j seconds there)
   where
-    none : {A : Type 0} (m : Member) → (hidden m.key ≡ true) ⊎ U m.key → hidden m.key ≡ false → (U m.key → A) → A
-    none m (inl on) off f = absurd (let no : true ≡ false = sym on ∙ off in cc)
-    none m (inr one) off f = f one
+    one : {A : Type 0} (m : Member) → (hidden m.key ≡ true) ⊎ U m.key → hidden m.key ≡ false → (U m.key → A) → A
+    one m (inl on) off f = absurd (let no : true ≡ false = sym on ∙ off in cc)
+    one m (inr u) off f = f u
 
 -- ---- as rows tell it
 
--- the superclass of the class of a lineage imposes so, but for what it hides
-pub imposes_at : (l : Lined) (up : Rowed) (rows : List Rowed) (hidden : Key → Bool) → IsPart rows l → IsClassAbove l up → CoversHidden rows (bare up) hidden → ImposesShared (kin_of l) hidden
+-- a class that is so, and what stands above it
+abbrev IsSingle : Kin → Type 0
+IsSingle k = (names_over k ≡ false → k.interfaces ≡ Bare) × IsStraight k.superclass
+
+found_single : (known : List Kin) (c : Class) (k : Kin) → AllByRecursion IsSingle known → kin_named known c ≡ Some k → IsSingle k
+found_single [] c k all e = absurd cc
+found_single (x ∷ known) c k all e = by (same_class c x.class) e (λ h. found_single known c k all.1 h)
+  where
+    by : (b : Bool) → (if b then Some x else kin_named known c) ≡ Some k → (kin_named known c ≡ Some k → IsSingle k) → IsSingle k
+    by true h rest = subst IsSingle (same_Some x k h) all.0
+    by false h rest = rest h
+
+straight_of : (known : List Kin) (cs : List Class) → AllByRecursion IsSingle known → IsFew cs → IsStraight (forest known cs)
+straight_of known cs all (inl none) = subst (λ (xs : List Class). IsStraight (forest known xs)) (sym none) tt
+straight_of known cs all (inr one) = subst (λ (xs : List Class). IsStraight (forest known xs)) (sym one.1) (by (kin_named known one.0) refl)
+  where
+    by : (o : Option Kin) → kin_named known one.0 ≡ o → IsStraight (in_front o Bare)
+    by None e = tt
+    by (Some k) e = let is = found_single known one.0 k all e in (refl, is.0, is.1)
+
+single_under : (known : List Kin) (r : Rowed) → AllByRecursion IsSingle known → IsSingle (kin_under known r)
+single_under known r all = (λ none. ap (λ (cs : List Class). forest known cs) (none_over r none), straight_of known (superclass_in r) all (few_superclasses r))
+
+single_after : (known : List Kin) (rows : List Rowed) → AllByRecursion IsSingle known → AllByRecursion IsSingle (kins_after known rows)
+single_after known [] all = all
+single_after known (r ∷ rows) all = single_after (kin_under known r ∷ known) rows (single_under known r all, all)
+
+-- what is spared is met
+spared_at : (l : Lined) (rows : List Rowed) (s : Kin) → IsPart rows l → (kin_of l).superclass ≡ alone s → (st : State) (j : Kin) (m : Member) → AllMet st (constraints_above (kin_of l)) → Contains (superinterfaces s) j → Contains (superinterfaces (kin_of l)) j
+    → Contains j.file.methods m → IsSpared l rows m.key → AllMet st (fewer_inherited (kin_of l) j m)
+spared_at l rows s part up st j m met there among within (Unmixed is) =
+    let k : Kin = kin_of l in
+    let each = All-contains (λ (x : Kin). (y : Member) → IsUnmixed rows y.key → fewer_inherited k x y ≡ []) (superinterfaces k) j (All-from_recursion (λ (x : Kin). (y : Member) → IsUnmixed rows y.key → fewer_inherited k x y ≡ []) (superinterfaces k) (over_unmixed l rows part)) among in
+    subst (AllMet st) (sym (each m is)) tt
+spared_at l rows s part up st j m met there among within (Declared has) = declared_met_too st j m (kin_of l) has
+spared_at l rows s part up st j m met there among within (Settled e) =
+    let k : Kin = kin_of l in
+    let straight : IsStraight k.superclass = (single_under (kins l.above) l.own (single_after [] l.above tt)).1 in
+    spared_met st j m k
+    (λ takes. settled_met st j m takes within k k.superclass refl straight (λ t is. subst (λ (x : Kin). Contains (superinterfaces x) j) (sym (same_Some t s (is ∙ ap (λ (f : Forest). first (upward f)) up))) there) e met)
+
+-- superclasses of the class of a lineage impose so, but for what the nearest hides
+pub imposes_at : (l : Lined) (up : Rowed) (rows : List Rowed) (hidden : Key → Bool) → IsPart rows l → IsClassAbove l up → CoversHidden l rows (bare up) hidden → ImposesShared (kin_of l) hidden
 imposes_at l up rows hidden part is told =
     let known : List Kin = kins l.above in
     let s : Kin = kin_at l up in
     let front : kin_named known s.class ≡ Some s = front_is (kin_named known s.class) s (is.above ∙ ap (λ (cs : List Class). first (upward (forest known cs))) (up_class known l.own s is.above)) in
     let one : (kin_of l).superclass ≡ alone s = ap (λ (cs : List Class). forest known cs) (up_class known l.own s is.above) ∙ ap (λ (o : Option Kin). in_front o Bare) front in
-    imposes (IsUnmixed rows) hidden (kin_of l) s one is.class told (over_unmixed l rows part)
+    imposes (IsSpared l rows) hidden (kin_of l) s one is.class told (spared_at l rows s part one)
 
--- a class of which each method is seen to be offered or unmixed hides none that is mixed
-pub none_hidden : (rows : List Rowed) (up : Rowed) (ms : List Member) → ms ≡ (file_of up.file).methods → AllByRecursion (λ (m : Member). (is_offered m.key (bare up) ≡ true) ⊎ IsUnmixed rows m.key) ms → CoversHidden rows (bare up) (hidden_by None)
-none_hidden rows up ms made seen = λ key on.
-    inr (hidden_has (IsUnmixed rows) (bare up) (subst (λ (xs : List Member). AllByRecursion (λ (m : Member). (is_offered m.key (bare up) ≡ true) ⊎ IsUnmixed rows m.key) xs) made seen) key on)
+-- a class of which each method is offered or spared hides none that is not
+pub none_hidden : (l : Lined) (rows : List Rowed) (up : Rowed) (ms : List Member) → ms ≡ (file_of up.file).methods → AllByRecursion (λ (m : Member). (is_offered m.key (bare up) ≡ true) ⊎ IsSpared l rows m.key) ms → CoversHidden l rows (bare up) (hidden_by None)
+none_hidden l rows up ms made seen = λ key on.
+    inr (hidden_has (IsSpared l rows) (bare up) (subst (λ (xs : List Member). AllByRecursion (λ (m : Member). (is_offered m.key (bare up) ≡ true) ⊎ IsSpared l rows m.key) xs) made seen) key on)
 
 -- of methods of which none is hidden all are left
 pub all_unhidden : (ms : List Member) → unhidden (hidden_by None) ms ≡ ms

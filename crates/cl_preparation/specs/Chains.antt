@@ -16,7 +16,8 @@ use Rattle.cl_preparation.specs.Fewer.{IsImposed, fewer_inherited}
 use Rattle.cl_preparation.specs.MethodsAbove.{AreTold}
 use Rattle.cl_preparation.specs.Nearby.{AddAll}
 use Rattle.cl_preparation.specs.Relatives.{bare}
-use Rattle.cl_preparation.specs.Surveys.{IsUnmixed, Surveys}
+use Rattle.cl_preparation.specs.Settled.{IsSpared}
+use Rattle.cl_preparation.specs.Surveys.{Surveys}
 use Rattle.cl_preparation.specs.Walks.{hides}
 use Rattle.indexmap.specs.IndexMap.{IndexMap}
 
@@ -49,12 +50,12 @@ abbrev pub hidden_by : Option Rowed → Key → Bool
 hidden_by None key = false
 hidden_by (Some r) key = hides key (bare r)
 
--- all mixed methods that a class hides are among these (5.4.2, 5.4.5)
-abbrev pub CoversHidden : List Rowed → Kin → (Key → Bool) → Type 0
-CoversHidden rows k hidden =
-    (key : Key) → hides key k ≡ true → (hidden key ≡ true) ⊎ IsUnmixed rows key
+-- all methods that the superclass of the class of a lineage hides are among these, or spared (5.4.2)
+abbrev pub CoversHidden : Lined → List Rowed → Kin → (Key → Bool) → Type 0
+CoversHidden l rows k hidden =
+    (key : Key) → hides key k ≡ true → (hidden key ≡ true) ⊎ IsSpared l rows key
 
--- what these rows impose, but for these methods, is met where what the superclass imposes is, of each that
+-- what these rows impose, but for these methods, is met where what superclasses impose is, of each that
 -- is its superclass's too (5.4.2)
 abbrev pub AreImposed : Kin → (Key → Bool) → List Rowed → Type 0
 AreImposed c hidden rows =

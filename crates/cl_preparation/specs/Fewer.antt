@@ -77,13 +77,13 @@ abbrev pub unhidden : (Key → Bool) → List Member → List Member
 unhidden hidden ms = filter (λ m. not (hidden m.key)) ms
 
 -- what the methods of a superinterface j of a class impose with what it inherits, but for these, is met
--- where what its superclass imposes is (5.4.2)
+-- where what its superclasses impose is (5.4.2)
 abbrev pub IsImposed : Kin → (Key → Bool) → Kin → Type 0
 IsImposed c hidden j =
     (s : State) → AllMet s (constraints_above c)
     → AllMet s (flat_map (fewer_inherited c j) (unhidden hidden j.file.methods))
 
--- needs that stand for all of these were listed, where what the superclass imposes is met (5.4.2)
+-- needs that stand for all of these were listed, where what superclasses impose is met (5.4.2)
 pub record AddsLeft (c : Kin) (old : Listing) (all : List Need) (new : Listing) : Type 0 where
   pub added : List Need
   pub more : new ≡ and_all old added

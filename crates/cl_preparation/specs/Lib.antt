@@ -13,5 +13,6 @@ pub mod Needs
 pub mod Packages
 pub mod Quiet
 pub mod Relatives
+pub mod Settled
 pub mod Surveys
 pub mod Walks

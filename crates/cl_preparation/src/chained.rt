@@ -325,7 +325,7 @@ impl<'a, 'b, 'c, 'd, T: Told> Chained<'a, 'b, 'c, 'd, T> {
         let Some(above) = class_above(self.lineage)? else {
             return self.push_over(alloc, needs);
         };
-        let hiding = hiding_of(alloc, self.survey, above)?;
+        let hiding = hiding_of(alloc, self.survey, self.lineage, above)?;
         self.push_new_rows(alloc, needs, self.over.as_slice(), hiding.as_ref())
     }
 

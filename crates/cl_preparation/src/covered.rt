@@ -1,50 +1,93 @@
-//! What the preparation of a class's superclass imposes of that which is to be imposed with what the class inherits (JVMS SE 8, 5.4.2).
+//! What the preparations of a class's superclasses impose of that which is to be imposed with what the class inherits (JVMS SE 8,
+//! 5.4.2).
 
-ghost use Rattle.std.specs.Prelude.{◌≡◌, ◌⊎◌, List, true, IfOk, IfSome};
+ghost use Rattle.std.specs.Prelude.{◌≡◌, ◌⊎◌, List, is_some, true, IfOk, IfSome};
 ghost use Rattle.std.specs.List.{AllByRecursion};
+ghost use Rattle.cl_hierarchy.specs.Lineages.{kin_of};
 ghost use Rattle.cl_hierarchy.specs.Rows.{Rowed};
-ghost use Rattle.cl_model.specs.Lineages.{is_offered};
+ghost use Rattle.cl_model.specs.Lineages.{is_offered, method_of, superclasses};
 ghost use Rattle.cl_preparation.specs.Chains.{CoversHidden, IsClassAbove, hidden_by};
 ghost use Rattle.cl_preparation.specs.Relatives.{bare};
-ghost use Rattle.cl_preparation.specs.Surveys.{IsSurvey, IsUnmixed};
+ghost use Rattle.cl_preparation.specs.Settled.{IsSpared, is_settled};
+ghost use Rattle.cl_preparation.specs.Surveys.{IsSurvey};
 
 use crate::hiding::Hiding;
+use crate::key::MethodKey;
 use crate::method::Method;
-use crate::relative::Relative;
+use crate::relative::{Relative, flags_with, is_hidden, names_interfaces};
 use crate::survey::Survey;
-use cl_hierarchy::Lineage;
+use cl_hierarchy::{ClassRow, Lineage};
 use cl_model::Told;
 use std::alloc::{AllocError, Global};
 
-/// Whether a method of a class is neither private nor static, or the superinterfaces that declare it are of the loader of all that do.
+/// Whether a class declares a method with this key.
+#[tactic(auto, using(crate::proofs::Declared::flags_stand))]
+fn declares<T: Told>(row: &ClassRow<T>, key: &MethodKey) -> bool
+    ensures { result ≡ is_some (method_of (bare row.now) key.now) }
+{
+    flags_with(row, None, key).is_some()
+}
+
+/// Whether a superclass of the class of a lineage has imposed what that would impose with a method of the superinterfaces of its
+/// superclass: the nearest that does not hide the method, where those below it name no superinterfaces, and so have the same.
+fn is_settled<T: Told>(lineage: &Lineage<T>, key: &MethodKey) -> bool
+    ensures { result ≡ is_settled key.now (superclasses (kin_of lineage.now)) }
+{
+    let mut climb = lineage.climb();
+    while let Some(row) = climb.next() {
+        if row.file().is_interface() {
+            return false;
+        }
+        if !is_hidden(row, None, key) {
+            return true;
+        }
+        if names_interfaces(row) {
+            return false;
+        }
+    }
+    false
+}
+
+/// Whether a method of the superclass of the class of a lineage is neither private nor static, or spared.
 fn is_seen<T: Told>(
     alloc: Global,
     survey: &Survey,
-    own: &Relative<T>,
+    lineage: &Lineage<T>,
+    above: &Relative<T>,
     method: &Method,
 ) -> Result<bool, AllocError>
     ensures { (rows : List Rowed) → IsSurvey rows survey.now → IfOk result (λ b. b ≡ true
-        → (is_offered method.now.key (bare own.now) ≡ true) ⊎ IsUnmixed rows method.now.key) }
+        → (is_offered method.now.key (bare above.now) ≡ true)
+        ⊎ IsSpared lineage.now rows method.now.key) }
 {
-    if own.offers(method.key()) {
+    let key = method.key();
+    if above.offers(key) {
         return Ok(true);
     }
-    survey.is_unmixed(alloc, method.key())
+    // mostly: no superinterface of another loader than a class declares it
+    if survey.is_unmixed(alloc, key)? {
+        return Ok(true);
+    }
+    if declares(lineage.own(), key) {
+        return Ok(true);
+    }
+    Ok(is_settled(lineage, key))
 }
 
 /// Whether it is so of each of these.
 fn are_seen<T: Told>(
     alloc: Global,
     survey: &Survey,
-    own: &Relative<T>,
+    lineage: &Lineage<T>,
+    above: &Relative<T>,
     methods: &[Method],
 ) -> Result<bool, AllocError>
     ensures { (rows : List Rowed) → IsSurvey rows survey.now → IfOk result (λ b. b ≡ true
-        → AllByRecursion (λ m. (is_offered m.key (bare own.now) ≡ true)
-        ⊎ IsUnmixed rows m.key) methods.now) }
+        → AllByRecursion (λ m. (is_offered m.key (bare above.now) ≡ true)
+        ⊎ IsSpared lineage.now rows m.key) methods.now) }
 {
     for method in methods {
-        if !is_seen(alloc, survey, own, method)? {
+        if !is_seen(alloc, survey, lineage, above, method)? {
             return Ok(false);
         }
     }
@@ -66,17 +109,19 @@ pub(crate) fn class_above<T: Told>(lineage: &Lineage<T>) -> Result<Option<Relati
     Ok(Some(above))
 }
 
-/// The class, if it hides methods from which, by a survey, constraints with superinterfaces may follow.
+/// The superclass of the class of a lineage, if it hides methods of which not all are spared: from these, constraints with superinterfaces
+/// may follow that no superclass has imposed.
 pub(crate) fn hiding_of<T: Told>(
     alloc: Global,
     survey: &Survey,
+    lineage: &Lineage<T>,
     above: Relative<T>,
 ) -> Result<Option<Hiding<T>>, AllocError>
-    ensures { (rows : List Rowed) → IsSurvey rows survey.now → IfOk result (λ o. CoversHidden rows
-        (bare above) (hidden_by o)) }
+    ensures { (rows : List Rowed) → IsSurvey rows survey.now → IfOk result (λ o.
+        CoversHidden lineage.now rows (bare above) (hidden_by o)) }
 {
     let methods = above.methods(alloc)?;
-    if are_seen(alloc, survey, &above, methods.as_slice())? {
+    if are_seen(alloc, survey, lineage, &above, methods.as_slice())? {
         return Ok(None);
     }
     Ok(Some(Hiding::of(alloc, above)?))

@@ -120,6 +120,23 @@ pub(crate) fn is_open<T: Told>(
     }
 }
 
+/// Whether a class declares a method with this key that is private or static (JVMS SE 8, 5.4.5). A filter, where there is one, is of
+/// its methods' names.
+#[tactic(auto, using(crate::proofs::Declared::flags_hide))]
+pub(crate) fn is_hidden<T: Told>(
+    row: &ClassRow<T>,
+    names: Option<&NameFilter>,
+    key: &MethodKey,
+) -> bool
+    requires { AreNames (file_of row.now.file).methods (option_map (λ f. f.now) names) }
+    ensures { result ≡ hides key.now (bare row.now) }
+{
+    match flags_with(row, names, key) {
+        Some(flags) => !is_virtual(flags),
+        None => false,
+    }
+}
+
 impl<T: Told> Relative<T> {
     /// The class of a row.
     pub fn of(alloc: Global, row: &Arc<ClassRow<T>>) -> Result<Relative<T>, AllocError>
@@ -224,14 +241,10 @@ impl<T: Told> Relative<T> {
     }
 
     /// Whether it declares a method with this key that is private or static (JVMS SE 8, 5.4.5).
-    #[tactic(auto, using(crate::proofs::Declared::flags_hide))]
     pub fn hides(&self, key: &MethodKey) -> bool
         ensures { result ≡ hides key.now (bare self.now) }
     {
-        match self.flags(key) {
-            Some(flags) => !is_virtual(flags),
-            None => false,
-        }
+        is_hidden(&self.row, self.names.as_ref(), key)
     }
 
     /// Of its method with this key that takes part in overriding, if it declares one: whether that is public or protected

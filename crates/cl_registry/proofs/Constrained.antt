@@ -5,7 +5,7 @@ use Rattle.cl_classfile.specs.Files.{file_of}
 use Rattle.cl_model.specs.declared.class.Class.{Class}
 use Rattle.cl_model.specs.declared.need.Equality.{Equality}
 use Rattle.cl_model.specs.Content.{Content}
-use Rattle.cl_model.specs.Classes.{Above, AllAtHome, superclass_of, superinterfaces_of, supers}
+use Rattle.cl_model.specs.Classes.{Above, AllAtHome, AtHome, superclass_of, superinterfaces_of, supers}
 use Rattle.cl_model.specs.Lineages.{Kin, IsLineage}
 use Rattle.cl_model.specs.Preparation.{constraints_of}
 use Rattle.cl_model.specs.States.{State, Need, Keeps, Met, Refused, AllMet, IsNext}
@@ -64,13 +64,23 @@ prepared_met content x k kept lin h =
     let is = (runs_are_sound (setting_of x.config x.script content) (steps x) kept.run).prepared k.class h in
     subst (λ (b : Kin). AllMet (state_of x) (constraints_of b)) (one_lineage w k.class is.kin k is.lineage (lineage_is_derived w k lin)) is.imposed
 
--- and so those of a superclass that is
+-- its superclass is prepared too
+prepared_up : (content : Content) (x : Shown) (k : Kin) → IsKept (Some content) x → IsLineage (world_of x.config content) k → Contains (state_of x).prepared k.class
+    → AllAtHome (world_of x.config content) k.class (Contains (state_of x).prepared) (superclass_of k.file)
+prepared_up content x k kept lin h =
+    let w = world_of x.config content in
+    let P : Class → Type 0 = Contains (state_of x).prepared in
+    let is = (runs_are_sound (setting_of x.config x.script content) (steps x) kept.run).prepared k.class h in
+    let all = subst (λ (b : Kin). AllAtHome w k.class P (supers b.file)) (one_lineage w k.class is.kin k is.lineage (lineage_is_derived w k lin)) is.above in
+    all_left (λ (a : Above). AtHome w k.class P a.name) (superclass_of k.file) (superinterfaces_of k.file) all
+
+-- and so those of all superclasses are, where the nearest is
 pub above_met : (content : Content) (x : Shown) (l : Lined) → IsKept (Some content) x → IsLined (Some content) l → l.config ≡ x.config → ArePreparedAbove x l.own.class (superclass_of (file_of l.own.file))
     → AllMet (state_of x) (constraints_above (kin_of l))
 above_met content x l kept lined config h =
     let w = world_of x.config content in
     let lin = subst (λ (c : Configured). IsLineage (world_of c content) (kin_of l)) config lined.lineage in
-    met_above w (state_of x) (Contains (state_of x).prepared) (kin_of l) (λ b one there. prepared_met content x b kept one there) lin
+    met_above w (state_of x) (Contains (state_of x).prepared) (λ b one there. prepared_met content x b kept one there) (λ b one there. prepared_up content x b kept one there) (kin_of l) lin
     (prepared_at_home content x l.own.class (superclass_of (file_of l.own.file)) (closed_of content x kept) h)
 
 -- what is known where that is given holds

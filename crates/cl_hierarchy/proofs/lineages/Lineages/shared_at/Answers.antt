@@ -1,5 +1,4 @@
 use Rattle.std.proofs.Common.{subst, sym}
-use Rattle.cl_model.specs.Lineages.{superinterfaces}
 use Rattle.cl_hierarchy.specs.ClassesAt.{lined_at}
 use Rattle.cl_hierarchy.specs.Lineages.{IsInOrder, Lined, kin_of}
 use Rattle.cl_hierarchy.specs.OversAt.{AreShared, IsOverAt}

@@ -20,6 +20,7 @@
   slotted       turning, all methods of which have names of one length and one last letter
   broad         3,000 classes like those of turning, under an interface of 12,000 methods, two of which the first class has
   veiled        800 classes of app, of which each second hides the method that 800 interfaces of boot and the first class have
+  draped        the same, each of which hides it names one more such interface
   scanned       600 classes of app over one another, each with ten methods that the last of 1,500 superinterfaces of boot has
   described     a class of app over one of boot, each with 7,500 methods of 75 descriptors that name 254 classes each, as @hex
   offered       500 abstract classes of app under a superinterface of boot with 500 methods, none of which a class declares
@@ -41,7 +42,7 @@
   blocks        2,000 classes over one another, in blocks of 63 loaders, each with the same method; the last is linked
 
 and of overriding, plain, topped, distinct, many, inherited, naming, interfaces, beside, comb, fringe, twos, combs, blocks, repeated,
-halves, crowned, paired, against, inherits, renamed, hiding, turning, slotted, broad, veiled, scanned, offered, crossed and fans one more with so many classes that it has about a megabyte, as plain_mb.
+halves, crowned, paired, against, inherits, renamed, hiding, turning, slotted, broad, veiled, draped, scanned, offered, crossed and fans one more with so many classes that it has about a megabyte, as plain_mb.
 
 Each is a bundle: classlink bundle < FILE.
 """
@@ -204,13 +205,21 @@ def broad(path, count=3000):
     bundle(path, TWO, [TOP, over, first, *below], [f"link app {names[-1]}\n"])
 
 
-def veiled(path, count=800):
+def veiled(path, count=800, named=lambda _: []):
     over = [f"p/I{n}" for n in range(count)]
-    classes = [TOP, *(with_lines(section("boot", name, flags="0601"), ["method 0401 m (Lp/T;)V"]) for name in over)]
+    more = [name for place in range(1, count, 2) for name in named(place)]
+    classes = [TOP, *(with_lines(section("boot", name, flags="0601"), ["method 0401 m (Lp/T;)V"]) for name in [*over, *more])]
     classes.append(with_lines(section("app", "q/C", interfaces=over), ["method 0001 m (Lp/T;)V"]))
-    names = [f"q/C{n}" for n in range(count)]
-    below = over_one_another(names, lambda place: ["method 0002 m (Lp/T;)V"] if place % 2 else [], top="q/C")
-    bundle(path, TWO, [*classes, *below], [f"link app {names[-1]}\n"])
+    above = "q/C"
+    for place in range(count):
+        over_it = named(place) if place % 2 else []
+        classes.append(with_lines(section("app", f"q/C{place}", above, interfaces=over_it), ["method 0002 m (Lp/T;)V"] if place % 2 else []))
+        above = f"q/C{place}"
+    bundle(path, TWO, classes, [f"link app {above}\n"])
+
+
+def draped(path, count=800):
+    veiled(path, count, lambda place: [f"p/J{place}"])
 
 
 def scanned(path, count=600):
@@ -387,12 +396,12 @@ def blocks(path, count=2000):
 def main(folder):
     os.makedirs(folder, exist_ok=True)
     references = methods, settled, constraints, refused, described
-    chains = overriding, repeated, halves, crowned, paired, against, inherits, renamed, hiding, turning, slotted, broad, veiled, scanned, offered, crossed, fans, plain, topped, wide, distinct, many, inherited, naming, interfaces, beside, comb, fringe, twos, combs, blocks
+    chains = overriding, repeated, halves, crowned, paired, against, inherits, renamed, hiding, turning, slotted, broad, veiled, draped, scanned, offered, crossed, fans, plain, topped, wide, distinct, many, inherited, naming, interfaces, beside, comb, fringe, twos, combs, blocks
     for make in *references, ladder, links, *chains:
         make(f"{folder}/{make.__name__}")
     counts = {overriding: 15000, plain: 22000, topped: 22000, distinct: 15000, many: 1000, inherited: 14000, naming: 17000}
     for make, count in {**counts, interfaces: 14000, beside: 7000, comb: 6500, fringe: 6500, twos: 11000, combs: 5000, blocks: 14000, repeated: 7500, halves: 7000,
-        crowned: 7000, paired: 7000, against: 12000, inherits: 7000, renamed: 7000, hiding: 7000, turning: 7000, slotted: 7000, broad: 6000, veiled: 6000, scanned: 2300, offered: 10000, crossed: 11000, fans: 6700}.items():
+        crowned: 7000, paired: 7000, against: 12000, inherits: 7000, renamed: 7000, hiding: 7000, turning: 7000, slotted: 7000, broad: 6000, veiled: 6000, draped: 4500, scanned: 2300, offered: 10000, crossed: 11000, fans: 6700}.items():
         make(f"{folder}/{make.__name__}_mb", count)
 
 

@@ -28,13 +28,13 @@ use Rattle.cl_preparation.specs.Declarers.{same_texts}
 use Rattle.cl_preparation.specs.Chains.{IsChained, IsKept, IsUnder}
 use Rattle.cl_preparation.specs.Fewer.{AreFew, by_methods, by_superinterfaces, fewer_declared, fewer_inherited, loaders, loaders_over, others_after}
 use Rattle.cl_preparation.specs.Inherited.{equals_from, other_than}
-use Rattle.cl_preparation.specs.Listings.{Listing, and_all, once_of, without_repeats}
+use Rattle.cl_preparation.specs.Listings.{Listing, with_all, once_of, without_repeats}
 use Rattle.cl_preparation.specs.MethodsAbove.{AreTold, Tells}
 use Rattle.cl_preparation.specs.Nearby.{AddLoaders, AreLike}
 use Rattle.cl_preparation.specs.Relatives.{bare}
 use Rattle.cl_preparation.specs.Surveys.{IsAlone, IsSurvey}
 use Rattle.cl_preparation.specs.Walks.{opens}
-use Rattle.cl_preparation.proofs.Listings.{all_append}
+use Rattle.cl_preparation.proofs.Listings.{all_append, listed_once}
 use Rattle.cl_preparation.proofs.MethodsAbove.{tree_told}
 use Rattle.cl_preparation.proofs.Nearby.{inherited_is, own_known}
 use Rattle.cl_preparation.proofs.Reached.{overridden_is_walked}
@@ -135,38 +135,38 @@ module _ {S : Type 0} (l : Lined) (own : Rowed) (survey : Survey) (above : Index
       ∙ ap (λ (xs : List ℕ). xs ++ others_after l.own.class.loader xs taking) ups ∙ sym (others_both l.own.class.loader [] tree taking)
 
   pub chained_declared : (m : Member) (key : Key) (needs new : Listing) (listed : List ℕ) (loader : ℕ) → key ≡ m.key → takes_part key (bare own) ≡ true → loader ≡ own.class.loader → listed ≡ others_after l.own.class.loader [] (loaders_over (kin_of l) key)
-      → new ≡ and_all needs (flat_map (equals_of key loader) listed) → new ≡ and_all needs (fewer_declared (kin_of l) m)
+      → new ≡ with_all needs (flat_map (equals_of key loader) listed) → new ≡ with_all needs (fewer_declared (kin_of l) m)
   chained_declared m key needs new listed loader ke tp le are made =
       let c : Kin = kin_of l in
       let part : takes_part m.key c ≡ true = ap (λ (k : Key). takes_part k (bare l.own)) (sym ke) ∙ ap (λ (r : Rowed). takes_part key (bare r)) (sym is.own_is) ∙ tp in
-      made ∙ ap (and_all needs)
+      made ∙ ap (with_all needs)
       (ap (λ (n : ℕ). flat_map (equals_of key n) listed) (le ∙ ap (λ (r : Rowed). r.class.loader) is.own_is) ∙ ap (flat_map (equals_of key l.own.class.loader)) are
       ∙ ap (λ (k : Key). flat_map (equals_of k l.own.class.loader) (others_after l.own.class.loader [] (loaders_over c k))) ke
       ∙ sym (ap (λ (b : Bool). if b then flat_map (equals_of m.key l.own.class.loader) (others_after l.own.class.loader [] (loaders_over c m.key)) else []) part))
 
   -- a method that takes no part
-  pub chained_past : (m : Member) (key : Key) (needs : Listing) → key ≡ m.key → takes_part key (bare own) ≡ false → needs ≡ and_all needs (fewer_declared (kin_of l) m)
+  pub chained_past : (m : Member) (key : Key) (needs : Listing) → key ≡ m.key → takes_part key (bare own) ≡ false → needs ≡ with_all needs (fewer_declared (kin_of l) m)
   chained_past m key needs ke off =
       let c : Kin = kin_of l in
       let part : takes_part m.key c ≡ false = ap (λ (k : Key). takes_part k (bare l.own)) (sym ke) ∙ ap (λ (r : Rowed). takes_part key (bare r)) (sym is.own_is) ∙ off in
-      sym (ap (λ (b : Bool). and_all needs (if b then flat_map (equals_of m.key l.own.class.loader) (others_after l.own.class.loader [] (loaders_over c m.key)) else [])) part)
+      sym (ap (λ (b : Bool). with_all needs (if b then flat_map (equals_of m.key l.own.class.loader) (others_after l.own.class.loader [] (loaders_over c m.key)) else [])) part)
 
   -- a method that classes of one loader alone declare
-  pub chained_alone : (m : Member) (key : Key) (needs : Listing) → key ≡ m.key → ((rows : List Rowed) → IsSurvey rows survey → IsAlone rows key) → needs ≡ and_all needs (fewer_declared (kin_of l) m)
+  pub chained_alone : (m : Member) (key : Key) (needs : Listing) → key ≡ m.key → ((rows : List Rowed) → IsSurvey rows survey → IsAlone rows key) → needs ≡ with_all needs (fewer_declared (kin_of l) m)
   chained_alone m key needs ke alone =
       let one : IsAlone is.surveyed.rows m.key = subst (λ (k : Key). IsAlone is.surveyed.rows k) ke (alone is.surveyed.rows is.surveyed.is) in
-      sym (ap (and_all needs) (alone_none l is.surveyed.rows is.surveyed.part m (λ tp. one)))
+      sym (ap (with_all needs) (alone_none l is.surveyed.rows is.surveyed.part m (λ tp. one)))
 
   -- ---- the second half
 
   pub chained_inherited : (j : Rowed) (m : Member) (key : Key) (nearest found : Option ℕ) (of : ℕ) (needs new : Listing) → key ≡ m.key → takes_part key (bare j) ≡ true → is_some (method_of (bare own) key) ≡ false → of ≡ j.class.loader
-      → nearest ≡ option_map (λ (k : Kin). k.class.loader) (inherited_from (kin_of l) key) → found ≡ other_than of nearest → new ≡ and_all needs (equals_from key of found) → new ≡ and_all needs (fewer_inherited (kin_of l) (bare j) m)
+      → nearest ≡ option_map (λ (k : Kin). k.class.loader) (inherited_from (kin_of l) key) → found ≡ other_than of nearest → new ≡ with_all needs (equals_from key of found) → new ≡ with_all needs (fewer_inherited (kin_of l) (bare j) m)
   chained_inherited j m key nearest found of needs new ke tp gone oe ne fe made =
       let c : Kin = kin_of l in
       let has : is_some (method_of c m.key) ≡ false = ap (λ (k : Key). is_some (method_of (bare l.own) k)) (sym ke) ∙ ap (λ (r : Rowed). is_some (method_of (bare r) key)) (sym is.own_is) ∙ gone in
       let part : takes_part m.key (bare j) ≡ true = ap (λ (k : Key). takes_part k (bare j)) (sym ke) ∙ tp in
       let given : Option ℕ → List Need = λ o. equals_from m.key j.class.loader (other_than j.class.loader o) in
-      made ∙ ap (and_all needs)
+      made ∙ ap (with_all needs)
       (ap (equals_from key of) (fe ∙ ap (other_than of) ne) ∙ ap (λ (n : ℕ). equals_from key n (other_than n (option_map (λ (k : Kin). k.class.loader) (inherited_from c key)))) oe
       ∙ ap (λ (k : Key). equals_from k j.class.loader (other_than j.class.loader (option_map (λ (x : Kin). x.class.loader) (inherited_from c k)))) ke
       ∙ sym (inherited_is c (bare j) m
@@ -174,38 +174,39 @@ module _ {S : Type 0} (l : Lined) (own : Rowed) (survey : Survey) (above : Index
       ∙ ap (λ (b : Bool). if true && not b then given (option_map (λ (x : Kin). x.class.loader) (inherited_from c m.key)) else []) has))
 
   -- a method that takes no part, or that the class declares
-  pub chained_passed : (j : Rowed) (m : Member) (key : Key) (needs : Listing) → key ≡ m.key → (takes_part key (bare j) && not (is_some (method_of (bare own) key))) ≡ false → needs ≡ and_all needs (fewer_inherited (kin_of l) (bare j) m)
+  pub chained_passed : (j : Rowed) (m : Member) (key : Key) (needs : Listing) → key ≡ m.key → (takes_part key (bare j) && not (is_some (method_of (bare own) key))) ≡ false → needs ≡ with_all needs (fewer_inherited (kin_of l) (bare j) m)
   chained_passed j m key needs ke off =
       let c : Kin = kin_of l in
       let none : (takes_part m.key (bare j) && not (is_some (method_of c m.key))) ≡ false =
       ap (λ (k : Key). takes_part k (bare j) && not (is_some (method_of (bare l.own) k))) (sym ke) ∙ ap (λ (r : Rowed). takes_part key (bare j) && not (is_some (method_of (bare r) key))) (sym is.own_is) ∙ off in
       let given : List Need = equals_from m.key j.class.loader (other_than j.class.loader (option_map (λ (x : Kin). x.class.loader) (inherited_from c m.key))) in
-      sym (ap (and_all needs) (inherited_is c (bare j) m ∙ ap (λ (b : Bool). if b then given else []) none))
+      sym (ap (with_all needs) (inherited_is c (bare j) m ∙ ap (λ (b : Bool). if b then given else []) none))
 
-  pub chained_none : (row : Rowed) (needs : Listing) → row ≡ own → list_all (λ t. is_some (method_named (file_of row.file) t.name t.descriptor)) survey.mixed.items ≡ true → needs ≡ and_all needs (by_superinterfaces fewer_inherited (kin_of l))
-  chained_none row needs same all = ap (and_all needs) (none_inherited l survey row (same ∙ is.own_is) all is.surveyed)
+  pub chained_none : (row : Rowed) (needs : Listing) → row ≡ own → list_all (λ t. is_some (method_named (file_of row.file) t.name t.descriptor)) survey.mixed.items ≡ true → needs ≡ with_all needs (by_superinterfaces fewer_inherited (kin_of l))
+  chained_none row needs same all = ap (with_all needs) (none_inherited l survey row (same ∙ is.own_is) all is.surveyed)
 
-  pub chained_second : {A : Type 0} (v : A → Rowed) (rows : List A) (needs new : Listing) → map v rows ≡ over → new ≡ and_all needs (flat_map (λ x. flat_map (fewer_inherited (kin_of l) (bare (v x))) (bare (v x)).file.methods) rows)
-      → new ≡ and_all needs (by_superinterfaces fewer_inherited (kin_of l))
+  pub chained_second : {A : Type 0} (v : A → Rowed) (rows : List A) (needs new : Listing) → map v rows ≡ over → new ≡ with_all needs (flat_map (λ x. flat_map (fewer_inherited (kin_of l) (bare (v x))) (bare (v x)).file.methods) rows)
+      → new ≡ with_all needs (by_superinterfaces fewer_inherited (kin_of l))
   chained_second v rows needs new same made =
-      made ∙ ap (and_all needs)
+      made ∙ ap (with_all needs)
       (by_rows v (kin_of l) rows ∙ ap (by_methods bare (λ j. fewer_inherited (kin_of l) (bare j))) same ∙ is.over_are.second_are is.class)
 
   -- ---- all
 
-  pub chained_first : (ms xs : List Member) (none one : Listing) → ms ≡ (bare own).file.methods → xs ≡ ms → none ≡ once_of [] → one ≡ and_all none (flat_map (fewer_declared (kin_of l)) xs)
-      → one ≡ and_all (once_of []) (flat_map (fewer_declared (kin_of l)) (kin_of l).file.methods)
+  pub chained_first : (ms xs : List Member) (none one : Listing) → ms ≡ (bare own).file.methods → xs ≡ ms → none ≡ once_of [] → one ≡ with_all none (flat_map (fewer_declared (kin_of l)) xs)
+      → one ≡ with_all (once_of []) (flat_map (fewer_declared (kin_of l)) (kin_of l).file.methods)
   chained_first ms xs none one made same empty first =
       let c : Kin = kin_of l in
-      first ∙ ap (λ (n : Listing). and_all n (flat_map (fewer_declared c) xs)) empty ∙ ap (λ (ys : List Member). and_all (once_of []) (flat_map (fewer_declared c) ys)) (same ∙ made ∙ ap (λ (r : Rowed). (bare r).file.methods) is.own_is)
+      first ∙ ap (λ (n : Listing). with_all n (flat_map (fewer_declared c) xs)) empty ∙ ap (λ (ys : List Member). with_all (once_of []) (flat_map (fewer_declared c) ys)) (same ∙ made ∙ ap (λ (r : Rowed). (bare r).file.methods) is.own_is)
 
-  pub chained_all : (given : Given) (one all : Listing) → one ≡ and_all (once_of []) (flat_map (fewer_declared (kin_of l)) (kin_of l).file.methods) → all ≡ and_all one (by_superinterfaces fewer_inherited (kin_of l)) → AreFew given (kin_of l) all.needs
+  pub chained_all : (given : Given) (one all : Listing) → one ≡ with_all (once_of []) (flat_map (fewer_declared (kin_of l)) (kin_of l).file.methods) → all ≡ with_all one (by_superinterfaces fewer_inherited (kin_of l)) → AreFew given (kin_of l) all.needs
   chained_all given one all first second =
       let c : Kin = kin_of l in
       let declared : List Need = flat_map (fewer_declared c) c.file.methods in
       few_given given c all.needs
       (ap (λ (n : Listing). n.needs)
-      (second ∙ ap (λ (n : Listing). and_all n (by_superinterfaces fewer_inherited c)) first ∙ sym (all_append (once_of []) declared (by_superinterfaces fewer_inherited c)))
+      (second ∙ ap (λ (n : Listing). with_all n (by_superinterfaces fewer_inherited c)) first ∙ sym (all_append (once_of []) declared (by_superinterfaces fewer_inherited c)))
+      ∙ listed_once (declared ++ by_superinterfaces fewer_inherited c)
       ∙ ap without_repeats (sym (ap (λ (b : Bool). declared ++ (if b then [] else by_superinterfaces fewer_inherited c)) is.class)))
 
 -- those of the superinterfaces that may declare what the class does add the same loaders

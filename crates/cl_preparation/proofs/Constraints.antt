@@ -18,7 +18,7 @@ use Rattle.cl_hierarchy.specs.Lineages.{IsRowIn, Lined, kin_at, kin_of, rows_in}
 use Rattle.cl_hierarchy.proofs.Told.{all_forth}
 use Rattle.cl_preparation.specs.Fewer.{by_superinterfaces}
 use Rattle.cl_preparation.specs.Inherited.{Inherited, equals_from, first_loader, inherited_by_rows, second_by_rows}
-use Rattle.cl_preparation.specs.Listings.{Listing, and_all}
+use Rattle.cl_preparation.specs.Listings.{Listing, with_all}
 use Rattle.cl_preparation.specs.Relatives.{AreRelatives, bare, of_superclasses}
 use Rattle.cl_preparation.specs.Walks.{is_overridden, opened_by, walked}
 use Rattle.cl_preparation.proofs.Listings.{all_behind, behind}
@@ -248,10 +248,10 @@ relatives_are l m own above over e o a b = subst (λ (x : Lined). AreRelatives x
 -- ---- the whole list
 
 pub both_halves : (c : Kin) (first middle all : List Need) (start new : Listing) → first ≡ [] → middle ≡ first ++ flat_map (for_declared c) c.file.methods → start ≡ behind middle
-    → new ≡ and_all start (if is_interface c.file then [] else by_superinterfaces for_inherited c) → all ≡ new.needs → all ≡ constraints_of c
+    → new ≡ with_all start (if is_interface c.file then [] else by_superinterfaces for_inherited c) → all ≡ new.needs → all ≡ constraints_of c
 both_halves c first middle all start new empty one begun two told =
     let second : List Need = if is_interface c.file then [] else by_superinterfaces for_inherited c in
-    told ∙ ap (λ (l : Listing). l.needs) (two ∙ ap (λ (l : Listing). and_all l second) begun ∙ all_behind middle second)
+    told ∙ ap (λ (l : Listing). l.needs) (two ∙ ap (λ (l : Listing). with_all l second) begun ∙ all_behind middle second)
     ∙ ap (λ ns. ns ++ second) (one ∙ ap (λ ns. ns ++ flat_map (for_declared c) c.file.methods) empty)
 
 -- the methods of the class, as a row and in the tree

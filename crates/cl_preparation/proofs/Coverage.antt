@@ -27,7 +27,7 @@ use Rattle.cl_preparation.specs.Chains.{AreImposed, AreOver, CoversHidden, IsCla
 use Rattle.cl_preparation.specs.Nearby.{AddAll}
 use Rattle.cl_preparation.specs.Fewer.{AddsLeft, IsImposed, by_methods, by_superinterfaces, fewer_inherited, is_between, unhidden}
 use Rattle.cl_preparation.specs.Relatives.{bare, names_interfaces, names_over}
-use Rattle.cl_preparation.specs.Settled.{Declared, IsSpared, Settled, Unmixed, is_settled}
+use Rattle.cl_preparation.specs.Spared.{Declared, IsSpared, MetAbove, Unmixed, is_met_above}
 use Rattle.cl_preparation.specs.Surveys.{IsPart, IsUnmixed}
 use Rattle.cl_preparation.specs.Walks.{hides}
 use Rattle.cl_preparation.proofs.Chains.{by_rows, front_is}
@@ -252,14 +252,14 @@ module _ (st : State) (j : Kin) (m : Member) (part : takes_part m.key j ≡ true
       subst (λ (x : Kin). Contains (superinterfaces x) j) (sym (same_Some u w is))
       (subst (λ (ks : List Kin). Contains ks j) (over_same t w (up ∙ ap (λ (x : Forest). Tree c f sup ints x) one.0) none) there)
 
-  settled_step : (s t : Kin) → s.superclass ≡ alone t → (names_over t ≡ false → t.interfaces ≡ Bare) → IsStraight t.superclass → Contains (superinterfaces t) j → is_settled m.key (t ∷ superclasses t) ≡ true
-      → AllMet st (constraints_of t ++ flat_map constraints_of (superclasses t)) → (HasFirst t.superclass → is_settled m.key (superclasses t) ≡ true → AllMet st (flat_map constraints_of (superclasses t)) → IsMet t) → IsMet s
-  settled_step s t up none one there e met rest = by (is_interface t.file) (hides m.key t) (names_over t) (is_settled m.key (superclasses t)) refl refl refl refl e
+  far_step : (s t : Kin) → s.superclass ≡ alone t → (names_over t ≡ false → t.interfaces ≡ Bare) → IsStraight t.superclass → Contains (superinterfaces t) j → is_met_above m.key (t ∷ superclasses t) ≡ true
+      → AllMet st (constraints_of t ++ flat_map constraints_of (superclasses t)) → (HasFirst t.superclass → is_met_above m.key (superclasses t) ≡ true → AllMet st (flat_map constraints_of (superclasses t)) → IsMet t) → IsMet s
+  far_step s t up none one there e met rest = by (is_interface t.file) (hides m.key t) (names_over t) (is_met_above m.key (superclasses t)) refl refl refl refl e
     where
       both : AllMet st (constraints_of t) × AllMet st (flat_map constraints_of (superclasses t))
       both = met_split st (constraints_of t) (flat_map constraints_of (superclasses t)) met
 
-      by : (c h n r : Bool) → is_interface t.file ≡ c → hides m.key t ≡ h → names_over t ≡ n → is_settled m.key (superclasses t) ≡ r → (not c && (if h then not n && r else true)) ≡ true → IsMet s
+      by : (c h n r : Bool) → is_interface t.file ≡ c → hides m.key t ≡ h → names_over t ≡ n → is_met_above m.key (superclasses t) ≡ r → (not c && (if h then not n && r else true)) ≡ true → IsMet s
       by true h n r ce he ne re e = absurd cc
       by false false n r ce he ne re e = shown_met s t up ce he there both.0
       by false true true r ce he ne re e = absurd cc
@@ -274,11 +274,11 @@ module _ (st : State) (j : Kin) (m : Member) (part : takes_part m.key j ≡ true
           unoffered true false h = refl
           unoffered false b h = absurd cc
 
-  settled_met : (s : Kin) (f : Forest) → s.superclass ≡ f → IsStraight f → HasFirst f → is_settled m.key (upward f) ≡ true → AllMet st (flat_map constraints_of (upward f)) → IsMet s
-  settled_met s Bare up one there e met = absurd cc
-  settled_met s (Tree c f sup ints more) up one there e met =
+  far_met : (s : Kin) (f : Forest) → s.superclass ≡ f → IsStraight f → HasFirst f → is_met_above m.key (upward f) ≡ true → AllMet st (flat_map constraints_of (upward f)) → IsMet s
+  far_met s Bare up one there e met = absurd cc
+  far_met s (Tree c f sup ints more) up one there e met =
       let t : Kin = record { class = c; file = f; superclass = sup; interfaces = ints } in
-      settled_step s t (up ∙ ap (λ (x : Forest). Tree c f sup ints x) one.0) one.1 one.2 (there t refl) e met (λ there e met. settled_met t sup refl one.2 there e met)
+      far_step s t (up ∙ ap (λ (x : Forest). Tree c f sup ints x) one.0) one.1 one.2 (there t refl) e met (λ there e met. far_met t sup refl one.2 there e met)
 
 -- what a class itself imposes by the method is met, whether it declares it or not
 spared_met : (st : State) (j : Kin) (m : Member) (k : Kin) → (takes_part m.key j ≡ true → AllMet st (with_inherited m.key j (inherited_from k m.key))) → AllMet st (fewer_inherited k j m)
@@ -299,7 +299,6 @@ declared_met_too st j m k has = met_filter st is_between (for_inherited k j m) (
 
 -- ---- a superinterface that the superclass has too
 
--- of a list by items, that of one item
 -- what a class would impose with each superinterface that its superclass has too is imposed, but for these methods
 abbrev pub ImposesShared : Kin → (Key → Bool) → Type 0
 ImposesShared c hidden = (j : Kin) → IsOverAbove c j → Contains (superinterfaces c) j → IsImposed c hidden j
@@ -360,11 +359,11 @@ spared_at l rows s part up st j m met there among within (Unmixed is) =
     let each = All-contains (λ (x : Kin). (y : Member) → IsUnmixed rows y.key → fewer_inherited k x y ≡ []) (superinterfaces k) j (All-from_recursion (λ (x : Kin). (y : Member) → IsUnmixed rows y.key → fewer_inherited k x y ≡ []) (superinterfaces k) (over_unmixed l rows part)) among in
     subst (AllMet st) (sym (each m is)) tt
 spared_at l rows s part up st j m met there among within (Declared has) = declared_met_too st j m (kin_of l) has
-spared_at l rows s part up st j m met there among within (Settled e) =
+spared_at l rows s part up st j m met there among within (MetAbove e) =
     let k : Kin = kin_of l in
     let straight : IsStraight k.superclass = (single_under (kins l.above) l.own (single_after [] l.above tt)).1 in
     spared_met st j m k
-    (λ takes. settled_met st j m takes within k k.superclass refl straight (λ t is. subst (λ (x : Kin). Contains (superinterfaces x) j) (sym (same_Some t s (is ∙ ap (λ (f : Forest). first (upward f)) up))) there) e met)
+    (λ takes. far_met st j m takes within k k.superclass refl straight (λ t is. subst (λ (x : Kin). Contains (superinterfaces x) j) (sym (same_Some t s (is ∙ ap (λ (f : Forest). first (upward f)) up))) there) e met)
 
 -- superclasses of the class of a lineage impose so, but for what the nearest hides
 pub imposes_at : (l : Lined) (up : Rowed) (rows : List Rowed) (hidden : Key → Bool) → IsPart rows l → IsClassAbove l up → CoversHidden l rows (bare up) hidden → ImposesShared (kin_of l) hidden

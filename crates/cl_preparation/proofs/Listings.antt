@@ -9,11 +9,12 @@ use Rattle.std.proofs.lemmas.List.Folds.{list_any-append}
 use Rattle.std.proofs.lemmas.Grind.{flat_map-append}
 use Rattle.cl_classfile.specs.Files.{Key, Name}
 use Rattle.cl_model.specs.declared.need.Equality.{Equality}
+use Rattle.cl_model.specs.Once.{NoneTwice, firsts}
 use Rattle.cl_model.specs.Preparation.{equals_of}
 use Rattle.cl_model.specs.States.{Entry, Equal, Need}
 use Rattle.cl_hierarchy.specs.Imposed.{equal_need, needs_of}
 use Rattle.cl_preparation.specs.declared.key.Between.{Between}
-use Rattle.cl_preparation.specs.Listings.{AreAmong, Grows, IsBetween, IsPassed, Listing, all_of, and_all, and_one, is_among, once_of, same_between, same_need}
+use Rattle.cl_preparation.specs.Listings.{AreAmong, Grows, IsOfDescriptor, IsPassed, Listing, all_listed, has_need, once_of, same_need, with_all, with_one, without_repeats}
 use Rattle.cl_preparation.specs.Methods.{key_in}
 
 -- ---- what a call that is done ensures
@@ -28,19 +29,19 @@ on_refused P (Err x) e is = tt
 
 -- ---- one list after another
 
-pub all_append : (l : Listing) (xs ys : List Need) → and_all l (xs ++ ys) ≡ and_all (and_all l xs) ys
+pub all_append : (l : Listing) (xs ys : List Need) → with_all l (xs ++ ys) ≡ with_all (with_all l xs) ys
 all_append l [] ys = refl
-all_append l (x ∷ xs) ys = all_append (and_one l x) xs ys
+all_append l (x ∷ xs) ys = all_append (with_one l x) xs ys
 
 -- what each item gives, after what was listed before
 pub listed_more : {A : Type 0} (f : A → List Need) (xs : List A) (i : ℕ) (x : A) (first done after : Listing) → i < length xs → x ≡ get_or xs i x
-    → done ≡ and_all first (flat_map f (take i xs)) → after ≡ and_all done (f x) → after ≡ and_all first (flat_map f (take (i + 1) xs))
+    → done ≡ with_all first (flat_map f (take i xs)) → after ≡ with_all done (f x) → after ≡ with_all first (flat_map f (take (i + 1) xs))
 listed_more f xs i x first done after h at before more =
-    more ∙ ap (λ l. and_all l (f x)) before ∙ sym (all_append first (flat_map f (take i xs)) (f x))
-    ∙ ap (λ ys. and_all first (flat_map f (take i xs) ++ ys)) (sym (append-nil (f x)))
-    ∙ ap (and_all first) (sym (flat_map-append f (take i xs) (x ∷ [])))
-    ∙ ap (λ y. and_all first (flat_map f (take i xs ++ y ∷ []))) at
-    ∙ ap (λ ys. and_all first (flat_map f ys)) (sym (take_more xs i x h))
+    more ∙ ap (λ l. with_all l (f x)) before ∙ sym (all_append first (flat_map f (take i xs)) (f x))
+    ∙ ap (λ ys. with_all first (flat_map f (take i xs) ++ ys)) (sym (append-nil (f x)))
+    ∙ ap (with_all first) (sym (flat_map-append f (take i xs) (x ∷ [])))
+    ∙ ap (λ y. with_all first (flat_map f (take i xs ++ y ∷ []))) at
+    ∙ ap (λ ys. with_all first (flat_map f ys)) (sym (take_more xs i x h))
 
 -- the same by what the items stand for
 flat_mapped : {A B : Type 0} (f : B → List Need) (v : A → B) (xs : List A) → flat_map f (map v xs) ≡ flat_map (λ x. f (v x)) xs
@@ -48,39 +49,39 @@ flat_mapped f v [] = refl
 flat_mapped f v (x ∷ xs) = ap (λ ns. f (v x) ++ ns) (flat_mapped f v xs)
 
 pub listed_more_of : {A B : Type 0} (f : B → List Need) (v : A → B) (xs : List A) (i : ℕ) (x : A) (first done after : Listing) → i < length xs → x ≡ get_or xs i x
-    → done ≡ and_all first (flat_map f (map v (take i xs))) → after ≡ and_all done (f (v x)) → after ≡ and_all first (flat_map f (map v (take (i + 1) xs)))
+    → done ≡ with_all first (flat_map f (map v (take i xs))) → after ≡ with_all done (f (v x)) → after ≡ with_all first (flat_map f (map v (take (i + 1) xs)))
 listed_more_of f v xs i x first done after h at before more =
-    listed_more (λ y. f (v y)) xs i x first done after h at (before ∙ ap (and_all first) (flat_mapped f v (take i xs))) more ∙ ap (and_all first) (sym (flat_mapped f v (take (i + 1) xs)))
+    listed_more (λ y. f (v y)) xs i x first done after h at (before ∙ ap (with_all first) (flat_mapped f v (take i xs))) more ∙ ap (with_all first) (sym (flat_mapped f v (take (i + 1) xs)))
 
 -- an equality more, of the next name
 pub named_more : {A : Type 0} (f : A → Need) (names : List A) (all : List Need) (i : ℕ) (n : A) (first done after : Listing) (need : Need) → map f names ≡ all → i < length names → n ≡ get_or names i n → need ≡ f n
-    → done ≡ and_all first (take i all) → after ≡ and_one done need → after ≡ and_all first (take (i + 1) all)
+    → done ≡ with_all first (take i all) → after ≡ with_one done need → after ≡ with_all first (take (i + 1) all)
 named_more f names all i n first done after need is h at made before more =
-    more ∙ ap (λ (l : Listing). and_one l need) before ∙ sym (all_append first (take i all) (need ∷ []))
-    ∙ ap (and_all first) (
+    more ∙ ap (λ (l : Listing). with_one l need) before ∙ sym (all_append first (take i all) (need ∷ []))
+    ∙ ap (with_all first) (
     ap (λ ns. take i ns ++ need ∷ []) (sym is) ∙ ap (λ ns. ns ++ need ∷ []) (take-map f i names) ∙ ap (λ m. map f (take i names) ++ m ∷ []) (made ∙ ap f at)
     ∙ sym (map_more f names i n h) ∙ sym (take-map f (i + 1) names) ∙ ap (take (i + 1)) is
     )
 
 -- each name has given one
-pub named_all : {A : Type 0} (f : A → Need) (names : List A) (all : List Need) (first now : Listing) → map f names ≡ all → now ≡ and_all first (take (length names) all) → now ≡ and_all first all
+pub named_all : {A : Type 0} (f : A → Need) (names : List A) (all : List Need) (first now : Listing) → map f names ≡ all → now ≡ with_all first (take (length names) all) → now ≡ with_all first all
 named_all f names all first now is e =
-    e ∙ ap (and_all first) (ap (take (length names)) (sym is) ∙ take-map f (length names) names ∙ ap (map f) (take_all (length names) names (omega arith)) ∙ is)
+    e ∙ ap (with_all first) (ap (take (length names)) (sym is) ∙ take-map f (length names) names ∙ ap (map f) (take_all (length names) names (omega arith)) ∙ is)
 
 -- ---- lists with repeats
 
--- what is listed behind, where all are
 -- these needs, behind which all are listed
 abbrev pub behind : List Need → Listing
 behind ns = record { needs = ns; once = false }
 
-pub all_behind : (ns xs : List Need) → and_all (behind ns) xs ≡ behind (ns ++ xs)
+-- what is listed behind these
+pub all_behind : (ns xs : List Need) → with_all (behind ns) xs ≡ behind (ns ++ xs)
 all_behind ns [] = ap behind (sym (append-nil ns))
 all_behind ns (x ∷ xs) =
     all_behind (ns ++ x ∷ []) xs ∙ ap behind (append_assoc ns (x ∷ []) xs)
 
-pub pushed_all_of : (old new : List Equality) (xs : List Need) → needs_of new ≡ needs_of old ++ xs → all_of new ≡ and_all (all_of old) xs
-pushed_all_of old new xs e = ap behind e ∙ sym (all_behind (needs_of old) xs)
+pub pushed_all_listed : (old new : List Equality) (xs : List Need) → needs_of new ≡ needs_of old ++ xs → all_listed new ≡ with_all (all_listed old) xs
+pushed_all_listed old new xs e = ap behind e ∙ sym (all_behind (needs_of old) xs)
 
 -- ---- lists without
 
@@ -107,51 +108,115 @@ or_left : (a b : Bool) → a ≡ true → (a || b) ≡ true
 or_left true b e = refl
 or_left false b e = absurd cc
 
-among_pushed : (n m : Need) (ns : List Need) → is_among n ns ≡ true → is_among n (ns ++ m ∷ []) ≡ true
+among_pushed : (n m : Need) (ns : List Need) → has_need ns n ≡ true → has_need (ns ++ m ∷ []) n ≡ true
 among_pushed n m ns h = list_any-append (same_need n) ns (m ∷ []) ∙ or_left (list_any (same_need n) ns) (list_any (same_need n) (m ∷ [])) h
 
-among_last : (n : Need) (ns : List Need) → is_among n (ns ++ n ∷ []) ≡ true
+among_last : (n : Need) (ns : List Need) → has_need (ns ++ n ∷ []) n ≡ true
 among_last n ns = list_any-append (same_need n) ns (n ∷ []) ∙ or_right (list_any (same_need n) ns) (list_any (same_need n) (n ∷ [])) (or_left (same_need n n) false (same_self n))
 
 abbrev pushed : Listing → Need → Listing
 pushed l n = record { needs = l.needs ++ n ∷ []; once = l.once }
 
 -- what stood there still does
-one_keeps : (l : Listing) (n m : Need) → is_among n l.needs ≡ true → is_among n (and_one l m).needs ≡ true
-one_keeps l n m h = by (l.once && is_among m l.needs)
+one_keeps : (l : Listing) (n m : Need) → has_need l.needs n ≡ true → has_need (with_one l m).needs n ≡ true
+one_keeps l n m h = by (l.once && has_need l.needs m)
   where
-    by : (b : Bool) → is_among n (if b then l else pushed l m).needs ≡ true
+    by : (b : Bool) → has_need (if b then l else pushed l m).needs n ≡ true
     by true = h
     by false = among_pushed n m l.needs h
 
-pub all_keep : (l : Listing) (xs : List Need) → Grows l.needs (and_all l xs).needs
+pub all_keep : (l : Listing) (xs : List Need) → Grows l.needs (with_all l xs).needs
 all_keep l [] = λ n h. h
-all_keep l (x ∷ xs) = λ n h. all_keep (and_one l x) xs n (one_keeps l n x h)
+all_keep l (x ∷ xs) = λ n h. all_keep (with_one l x) xs n (one_keeps l n x h)
 
 -- what is listed stands there
-one_has : (l : Listing) (n : Need) → is_among n (and_one l n).needs ≡ true
-one_has l n = by (is_among n l.needs) refl l.once
+one_has : (l : Listing) (n : Need) → has_need (with_one l n).needs n ≡ true
+one_has l n = by (has_need l.needs n) refl l.once
   where
-    by : (b : Bool) → is_among n l.needs ≡ b → (o : Bool) → is_among n (if o && b then l else pushed l n).needs ≡ true
+    by : (b : Bool) → has_need l.needs n ≡ b → (o : Bool) → has_need (if o && b then l else pushed l n).needs n ≡ true
     by true e true = e
     by true e false = among_last n l.needs
     by false e true = among_last n l.needs
     by false e false = among_last n l.needs
 
-pub all_there : (l : Listing) (xs : List Need) → AreAmong (and_all l xs).needs xs
+pub all_there : (l : Listing) (xs : List Need) → AreAmong (with_all l xs).needs xs
 all_there l [] = tt
-all_there l (x ∷ xs) = (all_keep (and_one l x) xs x (one_has l x), all_there (and_one l x) xs)
+all_there l (x ∷ xs) = (all_keep (with_one l x) xs x (one_has l x), all_there (with_one l x) xs)
 
 -- where all stand there, none is listed again
-pub none_more : (l : Listing) (xs : List Need) → l.once ≡ true → AreAmong l.needs xs → l ≡ and_all l xs
+pub none_more : (l : Listing) (xs : List Need) → l.once ≡ true → AreAmong l.needs xs → l ≡ with_all l xs
 none_more l [] once all = refl
 none_more l (x ∷ xs) once all =
-    let same : and_one l x ≡ l = ap (λ (b : Bool). if b then l else pushed l x) (both_true l.once (is_among x l.needs) once all.0) in
-    subst (λ (m : Listing). l ≡ and_all m xs) (sym same) (none_more l xs once all.1)
+    let same : with_one l x ≡ l = ap (λ (b : Bool). if b then l else pushed l x) (both_true l.once (has_need l.needs x) once all.0) in
+    subst (λ (m : Listing). l ≡ with_all m xs) (sym same) (none_more l xs once all.1)
 
 pub among_more : (old new ns : List Need) → Grows old new → AreAmong old ns → AreAmong new ns
 among_more old new [] grows all = tt
 among_more old new (n ∷ ns) grows all = (grows n all.0, among_more old new ns grows all.1)
+
+-- ---- each at its first place alone
+
+-- a need is the same as one that stands there
+pub same_is : (n m : Need) → same_need n m ≡ true → n ≡ m
+same_is (Entry l n p) (Entry m o q) e =
+    let one = and_parts (l == m) (pointwise nat_eq n o && p == q) e in
+    let two_ = and_parts (pointwise nat_eq n o) (p == q) one.1 in
+    ap (λ (x : ℕ). Entry x n p) (eqb-true l m one.0) ∙ ap (λ (x : Name). Entry m x p) ((bytes_decides n o).0 two_.0) ∙ ap (λ (x : ℕ). Entry m o x) (eqb-true p q two_.1)
+same_is (Entry l n p) (Equal o c d) e = absurd cc
+same_is (Equal n a b) (Entry m o q) e = absurd cc
+same_is (Equal n a b) (Equal o c d) e =
+    let one = and_parts (pointwise nat_eq n o) (a == c && b == d) e in
+    let two_ = and_parts (a == c) (b == d) one.1 in
+    ap (λ (x : Name). Equal x a b) ((bytes_decides n o).0 one.0) ∙ ap (λ (x : ℕ). Equal o x b) (eqb-true a c two_.0) ∙ ap (λ (x : ℕ). Equal o c x) (eqb-true b d two_.1)
+
+-- of these, what was not seen
+abbrev pub unseen : List Need → List Need → List Need
+unseen seen ns = firsts (λ n. n) has_need seen ns
+
+either : (a b : Bool) → (a || (b || false)) ≡ (b || a)
+either true true = refl
+either true false = refl
+either false true = refl
+either false false = refl
+
+listed_step : (listed seen ns : List Need) (x : Need) (b : Bool) → has_need listed x ≡ b → ((n : Need) → has_need listed n ≡ has_need seen n)
+    → ((before known : List Need) → ((n : Need) → has_need before n ≡ has_need known n) → (with_all (record { needs = before; once = true }) ns).needs ≡ before ++ unseen known ns)
+    → (with_all (if b then (record { needs = listed; once = true }) else (record { needs = listed ++ x ∷ []; once = true })) ns).needs ≡ listed ++ (if b then unseen seen ns else x ∷ unseen (x ∷ seen) ns)
+listed_step listed seen ns x true e same rest = rest listed seen same
+listed_step listed seen ns x false e same rest =
+    rest (listed ++ x ∷ []) (x ∷ seen)
+    (λ n. list_any-append (same_need n) listed (x ∷ []) ∙ either (has_need listed n) (same_need n x) ∙ ap (λ (b : Bool). same_need n x || b) (same n))
+    ∙ append_assoc listed (x ∷ []) (unseen (x ∷ seen) ns)
+
+listed_unseen : (listed seen ns : List Need) → ((n : Need) → has_need listed n ≡ has_need seen n) → (with_all (record { needs = listed; once = true }) ns).needs ≡ listed ++ unseen seen ns
+listed_unseen listed seen [] same = sym (append-nil listed)
+listed_unseen listed seen (x ∷ ns) same =
+    listed_step listed seen ns x (has_need listed x) refl same (λ before known is. listed_unseen before known ns is)
+    ∙ ap (λ (b : Bool). listed ++ (if b then unseen seen ns else x ∷ unseen (x ∷ seen) ns)) (same x)
+
+-- what is listed, each once, are these without repeats
+pub listed_once : (ns : List Need) → (with_all (once_of []) ns).needs ≡ without_repeats ns
+listed_once ns = listed_unseen [] [] ns (λ n. refl)
+
+apart_step : (seen xs : List Need) (n x : Need) (b c : Bool) → has_need seen x ≡ b → same_need n x ≡ c → has_need seen n ≡ true → has_need (unseen seen xs) n ≡ false → has_need (unseen (x ∷ seen) xs) n ≡ false
+    → has_need (if b then unseen seen xs else x ∷ unseen (x ∷ seen) xs) n ≡ false
+apart_step seen xs n x true c be ce h one two_ = one
+apart_step seen xs n x false true be ce h one two_ = absurd (let no : true ≡ false = sym h ∙ ap (has_need seen) (same_is n x ce) ∙ be in cc)
+apart_step seen xs n x false false be ce h one two_ = rw ce two_
+
+-- what was seen is none of them
+unseen_apart : (seen xs : List Need) (n : Need) → has_need seen n ≡ true → has_need (unseen seen xs) n ≡ false
+unseen_apart seen [] n h = refl
+unseen_apart seen (x ∷ xs) n h =
+    apart_step seen xs n x (has_need seen x) (same_need n x) refl refl h (unseen_apart seen xs n h) (unseen_apart (x ∷ seen) xs n (or_right (same_need n x) (has_need seen n) h))
+
+once_step : (seen xs : List Need) (x : Need) (b : Bool) → NoneTwice has_need (unseen seen xs) → NoneTwice has_need (unseen (x ∷ seen) xs) → NoneTwice has_need (if b then unseen seen xs else x ∷ unseen (x ∷ seen) xs)
+once_step seen xs x true one two_ = one
+once_step seen xs x false one two_ = (unseen_apart (x ∷ seen) xs x (or_left (same_need x x) (has_need seen x) (same_self x)), two_)
+
+pub unseen_once : (seen xs : List Need) → NoneTwice has_need (unseen seen xs)
+unseen_once seen [] = tt
+unseen_once seen (x ∷ xs) = once_step seen xs x (has_need seen x) (unseen_once seen xs) (unseen_once (x ∷ seen) xs)
 
 -- ---- the code's set
 
@@ -159,12 +224,12 @@ among_more old new (n ∷ ns) grows all = (grows n all.0, among_more old new ns 
 abbrev same_equality : Equality → Equality → Bool
 same_equality a b = pointwise nat_eq a.name b.name && (a.one == b.one && a.other == b.other)
 
-any_equal : (e : Equality) (es : List Equality) → is_among (equal_need e) (needs_of es) ≡ list_any (same_equality e) es
+any_equal : (e : Equality) (es : List Equality) → has_need (needs_of es) (equal_need e) ≡ list_any (same_equality e) es
 any_equal e [] = refl
 any_equal e (x ∷ es) = ap (λ (b : Bool). same_equality e x || b) (any_equal e es)
 
 -- an equality that was put into the set
-pub inserted : (old new : List Equality) (e : Equality) → new ≡ (if list_any (same_equality e) old then old else old ++ e ∷ []) → once_of new ≡ and_one (once_of old) (equal_need e)
+pub inserted : (old new : List Equality) (e : Equality) → new ≡ (if list_any (same_equality e) old then old else old ++ e ∷ []) → once_of new ≡ with_one (once_of old) (equal_need e)
 inserted old new e made = ap once_of made ∙ by (list_any (same_equality e) old) ∙ ap (λ (b : Bool). if b then once_of old else pushed (once_of old) (equal_need e)) (sym (any_equal e old))
   where
     by : (b : Bool) → once_of (if b then old else old ++ e ∷ []) ≡ (if b then once_of old else pushed (once_of old) (equal_need e))
@@ -172,15 +237,19 @@ inserted old new e made = ap once_of made ∙ by (list_any (same_equality e) old
     by false = ap (λ (ns : List Need). let l : Listing = record { needs = ns; once = true } in l) (map_push equal_need old e)
 
 -- what stood in the set still does
-pub kept_by : (old new : List Equality) (xs : List Need) → once_of new ≡ and_all (once_of old) xs → Grows (needs_of old) (needs_of new)
-kept_by old new xs e = λ n h. subst (λ (l : Listing). is_among n l.needs ≡ true) (sym e) (all_keep (once_of old) xs n h)
+pub kept_by : (old new : List Equality) (xs : List Need) → once_of new ≡ with_all (once_of old) xs → Grows (needs_of old) (needs_of new)
+kept_by old new xs e = λ n h. subst (λ (l : Listing). has_need l.needs n ≡ true) (sym e) (all_keep (once_of old) xs n h)
 
-pub there_by : (old new : List Equality) (xs : List Need) → once_of new ≡ and_all (once_of old) xs → AreAmong (needs_of new) xs
+pub there_by : (old new : List Equality) (xs : List Need) → once_of new ≡ with_all (once_of old) xs → AreAmong (needs_of new) xs
 there_by old new xs e = subst (λ (l : Listing). AreAmong l.needs xs) (sym e) (all_there (once_of old) xs)
 
 -- ---- what is known to be passed
 
-pub between_same : (a b : Between) → same_between a b ≡ true → a ≡ b
+-- the same descriptor and loaders
+abbrev same_between : Between → Between → Bool
+same_between a b = pointwise nat_eq a.descriptor b.descriptor && (a.one == b.one && a.other == b.other)
+
+between_same : (a b : Between) → same_between a b ≡ true → a ≡ b
 between_same a b e =
     let both = and_parts (pointwise nat_eq a.descriptor b.descriptor) (a.one == b.one && a.other == b.other) e in
     let loaders = and_parts (a.one == b.one) (a.other == b.other) both.1 in
@@ -215,8 +284,8 @@ passed_more needs old new p made is all = subst (AllByRecursion (IsPassed needs)
     by false = push old all
 
 -- one that is found tells of a method with its descriptor that what it imposes stands there
-pub known_passed : (es : List Equality) (passed : List Between) (key : Key) (a b : ℕ) (p : Between) → AllByRecursion (IsPassed (needs_of es)) passed → IsBetween key a b p → list_any (same_between p) passed ≡ true
-    → once_of es ≡ and_all (once_of es) (equals_of key a b)
+pub known_passed : (es : List Equality) (passed : List Between) (key : Key) (a b : ℕ) (p : Between) → AllByRecursion (IsPassed (needs_of es)) passed → IsOfDescriptor key a b p → list_any (same_between p) passed ≡ true
+    → once_of es ≡ with_all (once_of es) (equals_of key a b)
 known_passed es passed key a b p all is found =
     let needs : List Need = needs_of es in
     let there : AreAmong needs (equals_of (key_in key.name p.descriptor) p.one p.other) = found_passed needs p passed all found key.name in

@@ -12,8 +12,8 @@ use Rattle.cl_model.specs.States.{Equal, Need}
 use Rattle.cl_hierarchy.specs.Rows.{Rowed}
 use Rattle.cl_hierarchy.specs.Lineages.{IsRowIn, Lined, is_of_other, kin_at, kin_of, others_of, row_of, rows_in}
 use Rattle.cl_hierarchy.specs.Trees.{kin_under, kins}
-use Rattle.cl_preparation.specs.Listings.{Listing, and_all, once_of, without_repeats}
-use Rattle.cl_preparation.proofs.Listings.{all_append}
+use Rattle.cl_preparation.specs.Listings.{Listing, with_all, once_of, without_repeats}
+use Rattle.cl_preparation.proofs.Listings.{all_append, listed_once}
 use Rattle.cl_preparation.specs.Fewer.{by_superinterfaces, fewer_constraints_of, fewer_declared, fewer_inherited, is_between, is_new, loaders, loaders_over, others_after}
 use Rattle.cl_preparation.specs.Inherited.{away_from, equals_from, first_loader, inherited_by_rows, other_than, second_by_rows}
 use Rattle.cl_preparation.specs.Nearby.{AddAll, AreNear, near_declared, near_loaders}
@@ -252,10 +252,10 @@ class_of : (l : Lined) (own : Rowed) → own ≡ l.own → is_interface (file_of
 class_of l own same class = ap (λ (r : Rowed). is_interface (file_of r.file)) (sym same) ∙ class
 
 -- what the methods of a class impose
-pub each_told : (own : Rowed) (away over : List Rowed) (ms xs : List Member) (old new : Listing) → ms ≡ (bare own).file.methods → xs ≡ ms → new ≡ and_all old (flat_map (near_declared own away over) xs)
-    → new ≡ and_all old (flat_map (near_declared own away over) (bare own).file.methods)
+pub each_told : (own : Rowed) (away over : List Rowed) (ms xs : List Member) (old new : Listing) → ms ≡ (bare own).file.methods → xs ≡ ms → new ≡ with_all old (flat_map (near_declared own away over) xs)
+    → new ≡ with_all old (flat_map (near_declared own away over) (bare own).file.methods)
 each_told own away over ms xs old new made same first =
-    first ∙ ap (λ (ys : List Member). and_all old (flat_map (near_declared own away over) ys)) (same ∙ made)
+    first ∙ ap (λ (ys : List Member). with_all old (flat_map (near_declared own away over) ys)) (same ∙ made)
 
 -- all that an interface imposes
 pub interface_told : (l : Lined) (own : Rowed) (away over : List Rowed) (all : List Need) → AreNear l own away over → is_interface (file_of l.own.file) ≡ true → all ≡ without_repeats (flat_map (near_declared own away over) (bare own).file.methods) → all ≡ fewer_constraints_of (kin_of l)
@@ -268,13 +268,14 @@ interface_told l own away over all near inter first =
 
 -- and all that another class does
 pub class_told : (l : Lined) (own : Rowed) (away over : List Rowed) (none one all : Listing) → AreNear l own away over → is_interface (file_of own.file) ≡ false → none ≡ once_of []
-    → one ≡ and_all none (flat_map (near_declared own away over) (bare own).file.methods) → all ≡ and_all one (by_superinterfaces fewer_inherited (kin_of l)) → all.needs ≡ fewer_constraints_of (kin_of l)
+    → one ≡ with_all none (flat_map (near_declared own away over) (bare own).file.methods) → all ≡ with_all one (by_superinterfaces fewer_inherited (kin_of l)) → all.needs ≡ fewer_constraints_of (kin_of l)
 class_told l own away over none one all near class empty first second =
     let c = kin_of l in
     let declared : List Need = flat_map (fewer_declared c) c.file.methods in
     ap (λ (n : Listing). n.needs)
-    (second ∙ ap (λ (n : Listing). and_all n (by_superinterfaces fewer_inherited c)) (first ∙ ap (λ (n : Listing). and_all n (flat_map (near_declared own away over) (bare own).file.methods)) empty ∙ ap (and_all (once_of [])) (declared_near l own away over near))
+    (second ∙ ap (λ (n : Listing). with_all n (by_superinterfaces fewer_inherited c)) (first ∙ ap (λ (n : Listing). with_all n (flat_map (near_declared own away over) (bare own).file.methods)) empty ∙ ap (with_all (once_of [])) (declared_near l own away over near))
     ∙ sym (all_append (once_of []) declared (by_superinterfaces fewer_inherited c)))
+    ∙ listed_once (declared ++ by_superinterfaces fewer_inherited c)
     ∙ ap without_repeats (sym (ap (λ (b : Bool). declared ++ (if b then [] else by_superinterfaces fewer_inherited c)) (class_of l own near.own_is class)))
 
 -- and so with the rows of its superclasses

@@ -1,14 +1,14 @@
 -- The few equalities of a preparation stand for all of them.
-use Rattle.std.proofs.Common.{◌≡◌, inl, inr, ◌≤◌, ℕ, Bool, true, false, ◌&&◌, ◌||◌, not, if◌then◌else◌, List, [], ◌∷◌, ◌++◌, map, filter, length, refl, ap, sym, subst, ◌∙◌, arith, append-nil, append_assoc, length-append}
-use Rattle.std.specs.Prelude.{◌==◌, flat_map, nat_eq, nat_le}
-use Rattle.std.specs.Cmp.Lexicographic.{bytes_decides, pointwise}
+use Rattle.std.proofs.Common.{◌≡◌, inl, inr, ◌≤◌, ℕ, Bool, true, false, ◌&&◌, ◌||◌, not, if◌then◌else◌, List, [], ◌∷◌, ◌++◌, map, filter, length, refl, ap, sym, subst, ◌∙◌, arith, length-append}
+use Rattle.std.specs.Prelude.{◌==◌, flat_map, nat_le}
 use Rattle.std.specs.List.{Contains, list_any}
-use Rattle.std.proofs.lemmas.Bool.{and_parts, eqb-true}
+use Rattle.std.proofs.lemmas.Bool.{eqb-true}
 use Rattle.std.proofs.lemmas.List.Folds.{list_any-append}
 use Rattle.std.proofs.lemmas.List.Elements.{Contains-append_cases, Contains-append_left, Contains-append_right}
 use Rattle.std.proofs.lemmas.Grind.{flat_map-append}
 use Rattle.cl_classfile.specs.Files.{Name, Key, Member, is_interface}
 use Rattle.cl_model.specs.Lineages.{Kin, superinterfaces}
+use Rattle.cl_model.specs.Once.{NoneTwice}
 use Rattle.cl_model.specs.Preparation.{class_names, constraints_of, equals_of, equals_with, for_declared, for_inherited, overridden, takes_part}
 use Rattle.cl_model.specs.States.{AllMet, Entry, Equal, IsNext, Met, Need, State}
 use Rattle.cl_model.proofs.Aims.{next_left, next_right}
@@ -19,8 +19,8 @@ use Rattle.cl_hierarchy.specs.Imposed.{AreEnough, constraints_above, known_by}
 use Rattle.cl_hierarchy.specs.declared.equalities.Given.{Given}
 use Rattle.cl_hierarchy.specs.declared.equalities.Given.TheVariants as givens
 use Rattle.cl_preparation.specs.Fewer.{AddsLeft, AreFew, by_superinterfaces, fewer_constraints_of, fewer_declared, fewer_inherited, fewer_with_repeats, is_between, is_new, loaders, loaders_over, others_after}
-use Rattle.cl_preparation.specs.Listings.{Listing, and_all, is_among, once_of, same_need, without_repeats}
-use Rattle.cl_preparation.proofs.Listings.{all_append}
+use Rattle.cl_preparation.specs.Listings.{Listing, has_need, once_of, same_need, with_all, without_repeats}
+use Rattle.cl_preparation.proofs.Listings.{all_append, listed_once, same_is, unseen, unseen_once}
 
 -- ---- few that stand for all where this holds
 
@@ -204,61 +204,32 @@ second_stand c false =
 
 -- ---- each once
 
--- a need is the same as one that stands there, which is met
-same_is : (n m : Need) → same_need n m ≡ true → n ≡ m
-same_is (Entry l n p) (Entry m o q) e =
-    let one = and_parts (l == m) (pointwise nat_eq n o && p == q) e in
-    let two_ = and_parts (pointwise nat_eq n o) (p == q) one.1 in
-    ap (λ (x : ℕ). Entry x n p) (eqb-true l m one.0) ∙ ap (λ (x : Name). Entry m x p) ((bytes_decides n o).0 two_.0) ∙ ap (λ (x : ℕ). Entry m o x) (eqb-true p q two_.1)
-same_is (Entry l n p) (Equal o c d) e = absurd cc
-same_is (Equal n a b) (Entry m o q) e = absurd cc
-same_is (Equal n a b) (Equal o c d) e =
-    let one = and_parts (pointwise nat_eq n o) (a == c && b == d) e in
-    let two_ = and_parts (a == c) (b == d) one.1 in
-    ap (λ (x : Name). Equal x a b) ((bytes_decides n o).0 one.0) ∙ ap (λ (x : ℕ). Equal o x b) (eqb-true a c two_.0) ∙ ap (λ (x : ℕ). Equal o c x) (eqb-true b d two_.1)
-
-among_step : (s : State) (n m : Need) (ns : List Need) (b : Bool) → same_need n m ≡ b → (b || is_among n ns) ≡ true → Met s m → (is_among n ns ≡ true → Met s n) → Met s n
+among_step : (s : State) (n m : Need) (ns : List Need) (b : Bool) → same_need n m ≡ b → (b || has_need ns n) ≡ true → Met s m → (has_need ns n ≡ true → Met s n) → Met s n
 among_step s n m ns true same e here rest = subst (Met s) (sym (same_is n m same)) here
 among_step s n m ns false same e here rest = rest e
 
-among_met : (s : State) (n : Need) (ns : List Need) → is_among n ns ≡ true → AllMet s ns → Met s n
+-- what stands among needs that are met is met
+among_met : (s : State) (n : Need) (ns : List Need) → has_need ns n ≡ true → AllMet s ns → Met s n
 among_met s n [] e all = absurd cc
 among_met s n (m ∷ ns) e all = among_step s n m ns (same_need n m) refl e all.0 (λ h. among_met s n ns h all.1)
 
-abbrev once_with : List Need → Listing
-once_with ns = record { needs = ns; once = true }
+unseen_step : (seen ns : List Need) (n : Need) (b : Bool) → has_need seen n ≡ b → Stand (λ s. AllMet s seen) ns (unseen seen ns) → Stand (λ s. AllMet s (n ∷ seen)) ns (unseen (n ∷ seen) ns)
+    → Stand (λ s. AllMet s seen) (n ∷ ns) (if b then unseen seen ns else n ∷ unseen (n ∷ seen) ns)
+unseen_step seen ns n true e one two_ =
+    stand_both (λ s. AllMet s seen) (n ∷ []) ns [] (unseen seen ns) (stand_left (λ s. AllMet s seen) (n ∷ []) (λ s k. (among_met s n seen e k, tt)))
+    (stand_where (λ s. AllMet s seen) (λ s. AllMet s seen × AllMet s []) ns (unseen seen ns) (λ s k. k.0) one)
+unseen_step seen ns n false e one two_ =
+    stand_both (λ s. AllMet s seen) (n ∷ []) ns (n ∷ []) (unseen (n ∷ seen) ns) (stand_same (λ s. AllMet s seen) (n ∷ []))
+    (stand_where (λ s. AllMet s (n ∷ seen)) (λ s. AllMet s seen × AllMet s (n ∷ [])) ns (unseen (n ∷ seen) ns) (λ s k. (k.1.0, k.0)) two_)
 
--- what is left of these needs where others were listed, each once
-abbrev left_of : List Need → List Need → List Need
-left_of listed [] = []
-left_of listed (n ∷ ns) = if is_among n listed then left_of listed ns else n ∷ left_of (listed ++ n ∷ []) ns
-
-behind_step : (listed ns : List Need) (n : Need) (b : Bool) → ((before : List Need) → (and_all (once_with before) ns).needs ≡ before ++ left_of before ns)
-    → (and_all (if b then once_with listed else once_with (listed ++ n ∷ [])) ns).needs ≡ listed ++ (if b then left_of listed ns else n ∷ left_of (listed ++ n ∷ []) ns)
-behind_step listed ns n true rest = rest listed
-behind_step listed ns n false rest = rest (listed ++ n ∷ []) ∙ append_assoc listed (n ∷ []) (left_of (listed ++ n ∷ []) ns)
-
-left_behind : (listed ns : List Need) → (and_all (once_with listed) ns).needs ≡ listed ++ left_of listed ns
-left_behind listed [] = sym (append-nil listed)
-left_behind listed (n ∷ ns) = behind_step listed ns n (is_among n listed) (λ before. left_behind before ns)
-
--- they stand for all where what was listed is met
-left_step : (listed ns : List Need) (n : Need) (b : Bool) → is_among n listed ≡ b → ((before : List Need) → Stand (λ s. AllMet s before) ns (left_of before ns))
-    → Stand (λ s. AllMet s listed) (n ∷ ns) (if b then left_of listed ns else n ∷ left_of (listed ++ n ∷ []) ns)
-left_step listed ns n true e rest =
-    stand_both (λ s. AllMet s listed) (n ∷ []) ns [] (left_of listed ns) (stand_left (λ s. AllMet s listed) (n ∷ []) (λ s k. (among_met s n listed e k, tt)))
-    (stand_where (λ s. AllMet s listed) (λ s. AllMet s listed × AllMet s []) ns (left_of listed ns) (λ s k. k.0) (rest listed))
-left_step listed ns n false e rest =
-    stand_both (λ s. AllMet s listed) (n ∷ []) ns (n ∷ []) (left_of (listed ++ n ∷ []) ns) (stand_same (λ s. AllMet s listed) (n ∷ []))
-    (stand_where (λ s. AllMet s (listed ++ n ∷ [])) (λ s. AllMet s listed × AllMet s (n ∷ [])) ns (left_of (listed ++ n ∷ []) ns) (λ s k. met_both s listed (n ∷ []) k.0 k.1) (rest (listed ++ n ∷ [])))
-
-left_stand : (listed ns : List Need) → Stand (λ s. AllMet s listed) ns (left_of listed ns)
-left_stand listed [] = stand_same (λ s. AllMet s listed) []
-left_stand listed (n ∷ ns) = left_step listed ns n (is_among n listed) refl (λ before. left_stand before ns)
+-- they stand for all where what was seen is met
+unseen_stand : (seen ns : List Need) → Stand (λ s. AllMet s seen) ns (unseen seen ns)
+unseen_stand seen [] = stand_same (λ s. AllMet s seen) []
+unseen_stand seen (n ∷ ns) = unseen_step seen ns n (has_need seen n) refl (unseen_stand seen ns) (unseen_stand (n ∷ seen) ns)
 
 -- needs without repeats stand for all
 once_stand : (ns : List Need) → Stand Any ns (without_repeats ns)
-once_stand ns = subst (Stand Any ns) (sym (left_behind [] ns)) (stand_where (λ s. AllMet s []) Any ns (left_of [] ns) (λ s k. tt) (left_stand [] ns))
+once_stand ns = stand_where (λ s. AllMet s []) Any ns (without_repeats ns) (λ s k. tt) (unseen_stand [] ns)
 
 -- some of the few, by way of these
 stand_through : (known : State → Type 0) (all mid few : List Need) → Stand known all mid → Stand known mid few → Stand known all few
@@ -295,6 +266,7 @@ pub few_given : (given : Given) (c : Kin) (needs : List Need) → needs ≡ fewe
 few_given given c needs e = record {
   enough = subst (λ (ns : List Need). AreEnough (known_by given c) (constraints_of c) ns) (sym e) (fewer_stand (known_by given c) c);
   exactly = λ none. e;
+  once = subst (NoneTwice has_need) (sym e) (unseen_once [] (fewer_with_repeats c));
 }
 
 -- ---- what the superclass imposes
@@ -329,7 +301,7 @@ picked_stand known f p (m ∷ ms) met = by (p m) (λ h. picked_stand known f p m
         (stand_where known (λ s. known s × AllMet s []) (flat_map f ms) (flat_map f (filter p ms)) (λ s k. k.0) (more (λ s k. (met_split s (f m) (flat_map f rest) (met s k)).1)))
 
 -- those that a test picks were added
-pub left_picked : (c : Kin) (old new : Listing) (f : Member → List Need) (p : Member → Bool) (ms : List Member) → ((s : State) → AllMet s (constraints_above c) → AllMet s (flat_map f (filter (λ m. not (p m)) ms))) → new ≡ and_all old (flat_map f (filter p ms)) → AddsLeft c old (flat_map f ms) new
+pub left_picked : (c : Kin) (old new : Listing) (f : Member → List Need) (p : Member → Bool) (ms : List Member) → ((s : State) → AllMet s (constraints_above c) → AllMet s (flat_map f (filter (λ m. not (p m)) ms))) → new ≡ with_all old (flat_map f (filter p ms)) → AddsLeft c old (flat_map f ms) new
 left_picked c old new f p ms met e = record {
   added = flat_map f (filter p ms);
   more = e;
@@ -344,7 +316,7 @@ left_more c old mid new xs ys first second =
     let b = enough_stand (constraints_above c) ys second.added second.enough in
     record {
       added = first.added ++ second.added;
-      more = second.more ∙ ap (λ (l : Listing). and_all l second.added) first.more ∙ sym (all_append old first.added second.added);
+      more = second.more ∙ ap (λ (l : Listing). with_all l second.added) first.more ∙ sym (all_append old first.added second.added);
       enough =
           stand_enough (constraints_above c) (xs ++ ys) (first.added ++ second.added)
           (stand_both known xs ys first.added second.added a (stand_where known (λ s. known s × AllMet s first.added) ys second.added (λ s k. k.0) b));
@@ -354,7 +326,7 @@ not_nothing : givens.Superclass ≡ givens.Nothing → ⊥
 not_nothing e = cc
 
 -- what is left of what a class inherits, behind what it declares
-pub few_left : (c : Kin) (first needs : Listing) → is_interface c.file ≡ false → first ≡ and_all (once_of []) (flat_map (fewer_declared c) c.file.methods) → AddsLeft c first (by_superinterfaces fewer_inherited c) needs → AreFew givens.Superclass c needs.needs
+pub few_left : (c : Kin) (first needs : Listing) → is_interface c.file ≡ false → first ≡ with_all (once_of []) (flat_map (fewer_declared c) c.file.methods) → AddsLeft c first (by_superinterfaces fewer_inherited c) needs → AreFew givens.Superclass c needs.needs
 few_left c first needs class e left =
     let known : State → Type 0 = λ s. AllMet s (constraints_above c) in
     let all : List Need = flat_map (for_declared c) c.file.methods in
@@ -367,6 +339,6 @@ few_left c first needs class e left =
     let both : Stand known (all ++ rest) (few ++ left.added) = stand_both known all rest few left.added one (stand_where known (λ s. known s × AllMet s few) rest left.added (λ s k. k.0) two_) in
     let are : Stand known (constraints_of c) (few ++ left.added) = subst (λ (b : Bool). Stand known (all ++ (if b then [] else rest)) (few ++ left.added)) (sym class) both in
     let once : Stand known (few ++ left.added) (without_repeats (few ++ left.added)) = stand_where Any known (few ++ left.added) (without_repeats (few ++ left.added)) (λ s k. tt) (once_stand (few ++ left.added)) in
-    let is : without_repeats (few ++ left.added) ≡ needs.needs = ap (λ (l : Listing). l.needs) (all_append (once_of []) few left.added ∙ sym (left.more ∙ ap (λ (l : Listing). and_all l left.added) e)) in
+    let is : without_repeats (few ++ left.added) ≡ needs.needs = sym (listed_once (few ++ left.added)) ∙ ap (λ (l : Listing). l.needs) (all_append (once_of []) few left.added ∙ sym (left.more ∙ ap (λ (l : Listing). with_all l left.added) e)) in
     let st : Stand known (constraints_of c) needs.needs = subst (λ (ns : List Need). Stand known (constraints_of c) ns) is (stand_through known (constraints_of c) (few ++ left.added) (without_repeats (few ++ left.added)) are once) in
-    record { enough = stand_enough (constraints_above c) (constraints_of c) needs.needs st; exactly = λ none. absurd (not_nothing none) }
+    record { enough = stand_enough (constraints_above c) (constraints_of c) needs.needs st; exactly = λ none. absurd (not_nothing none); once = subst (NoneTwice has_need) is (unseen_once [] (few ++ left.added)) }

@@ -11,10 +11,11 @@ use Rattle.cl_hierarchy.specs.Climbs.{IsTop}
 use Rattle.cl_hierarchy.specs.Lineages.{Lined, kin_of, others_of}
 use Rattle.cl_hierarchy.specs.Rows.{Rowed}
 use Rattle.cl_hierarchy.specs.Trees.{kin_under}
-use Rattle.cl_preparation.specs.Listings.{Listing, and_all, once_of, without_repeats}
+use Rattle.cl_preparation.specs.Listings.{Listing, with_all, once_of, without_repeats}
 use Rattle.cl_preparation.specs.Fewer.{by_superinterfaces, fewer_constraints_of, fewer_declared, fewer_inherited, is_new, loaders, loaders_over, others_after}
 use Rattle.cl_preparation.specs.Relatives.{bare}
 use Rattle.cl_preparation.specs.Walks.{opens}
+use Rattle.cl_preparation.proofs.Listings.{listed_once}
 use Rattle.cl_preparation.proofs.Nearby.{kin_listed, own_known, still_of}
 use Rattle.cl_preparation.proofs.Reached.{overridden_is_walked}
 use Rattle.cl_preparation.proofs.Silence.{is_on}
@@ -102,17 +103,17 @@ plain_declared l m tp class over =
     ap (flat_map (equals_of m.key l.own.class.loader)) (over_plain m.key l tp class over)
     ∙ ap (λ (b : Bool). if b then flat_map (equals_of m.key l.own.class.loader) (others_after l.own.class.loader [] (loaders_over (kin_of l) m.key)) else []) (sym tp)
 
-pub plain_passed : (l : Lined) (m : Member) (ns : Listing) → takes_part m.key (kin_of l) ≡ false → ns ≡ and_all ns (fewer_declared (kin_of l) m)
+pub plain_passed : (l : Lined) (m : Member) (ns : Listing) → takes_part m.key (kin_of l) ≡ false → ns ≡ with_all ns (fewer_declared (kin_of l) m)
 plain_passed l m ns off =
-    ap (λ (b : Bool). and_all ns (if b then flat_map (equals_of m.key l.own.class.loader) (others_after l.own.class.loader [] (loaders_over (kin_of l) m.key)) else [])) (sym off)
+    ap (λ (b : Bool). with_all ns (if b then flat_map (equals_of m.key l.own.class.loader) (others_after l.own.class.loader [] (loaders_over (kin_of l) m.key)) else [])) (sym off)
 
 -- all that the class imposes
 pub plain_told : (l : Lined) (ms xs : List Member) (none all : Listing) → is_interface (file_of l.own.file) ≡ false → [] ≡ superinterfaces (kin_of l) → ms ≡ (file_of l.own.file).methods → xs ≡ ms → none ≡ once_of []
-    → all ≡ and_all none (flat_map (fewer_declared (kin_of l)) xs) → all.needs ≡ fewer_constraints_of (kin_of l)
+    → all ≡ with_all none (flat_map (fewer_declared (kin_of l)) xs) → all.needs ≡ fewer_constraints_of (kin_of l)
 plain_told l ms xs none all class over made same empty first =
     let c = kin_of l in
     let declared : List Need = flat_map (fewer_declared c) c.file.methods in
-    ap (λ (n : Listing). n.needs) (first ∙ ap (λ n. and_all n (flat_map (fewer_declared c) xs)) empty) ∙ ap without_repeats (ap (flat_map (fewer_declared c)) (same ∙ made)
+    ap (λ (n : Listing). n.needs) (first ∙ ap (λ n. with_all n (flat_map (fewer_declared c) xs)) empty) ∙ listed_once (flat_map (fewer_declared c) xs) ∙ ap without_repeats (ap (flat_map (fewer_declared c)) (same ∙ made)
     ∙ sym (append-nil declared)
     ∙ ap (λ (ks : List Kin). declared ++ flat_map (λ (j : Kin). flat_map (fewer_inherited c j) j.file.methods) ks) over
     ∙ sym (ap (λ (b : Bool). declared ++ (if b then [] else by_superinterfaces fewer_inherited c)) class))

@@ -16,7 +16,7 @@ use Rattle.cl_preparation.specs.Fewer.{IsImposed, fewer_inherited}
 use Rattle.cl_preparation.specs.MethodsAbove.{AreTold}
 use Rattle.cl_preparation.specs.Nearby.{AddAll}
 use Rattle.cl_preparation.specs.Relatives.{bare}
-use Rattle.cl_preparation.specs.Settled.{IsSpared}
+use Rattle.cl_preparation.specs.Spared.{IsSpared}
 use Rattle.cl_preparation.specs.Surveys.{Surveys}
 use Rattle.cl_preparation.specs.Walks.{hides}
 use Rattle.indexmap.specs.IndexMap.{IndexMap}
@@ -50,7 +50,8 @@ abbrev pub hidden_by : Option Rowed → Key → Bool
 hidden_by None key = false
 hidden_by (Some r) key = hides key (bare r)
 
--- all methods that the superclass of the class of a lineage hides are among these, or spared (5.4.2)
+-- all methods that this superclass of the class of a lineage hides are among these, or spared
+-- (5.4.2)
 abbrev pub CoversHidden : Lined → List Rowed → Kin → (Key → Bool) → Type 0
 CoversHidden l rows k hidden =
     (key : Key) → hides key k ≡ true → (hidden key ≡ true) ⊎ IsSpared l rows key

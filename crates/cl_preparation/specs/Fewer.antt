@@ -8,7 +8,8 @@ use Rattle.cl_model.specs.States.{AllMet, Entry, Equal, Need, State}
 use Rattle.cl_hierarchy.specs.Imposed.{AreEnough, constraints_above, known_by}
 use Rattle.cl_hierarchy.specs.declared.equalities.Given.{Given}
 use Rattle.cl_hierarchy.specs.declared.equalities.Given.TheVariants as givens
-use Rattle.cl_preparation.specs.Listings.{Listing, and_all, without_repeats}
+use Rattle.cl_model.specs.Once.{NoneTwice}
+use Rattle.cl_preparation.specs.Listings.{Listing, has_need, with_all, without_repeats}
 
 -- a loader is another than the own one, and none of these (5.3.4)
 abbrev pub is_new : ℕ → List ℕ → ℕ → Bool
@@ -86,10 +87,11 @@ IsImposed c hidden j =
 -- needs that stand for all of these were listed, where what superclasses impose is met (5.4.2)
 pub record AddsLeft (c : Kin) (old : Listing) (all : List Need) (new : Listing) : Type 0 where
   pub added : List Need
-  pub more : new ≡ and_all old added
+  pub more : new ≡ with_all old added
   pub enough : AreEnough (constraints_above c) all added
 
--- these stand for all, where this is given; where nothing is, they are just the few (5.4.2)
+-- these stand for all, where this is given, none twice; where nothing is, they are just the few (5.4.2)
 pub record AreFew (given : Given) (c : Kin) (needs : List Need) : Type 0 where
   pub enough : AreEnough (known_by given c) (constraints_of c) needs
   pub exactly : given ≡ givens.Nothing → needs ≡ fewer_constraints_of c
+  pub once : NoneTwice has_need needs

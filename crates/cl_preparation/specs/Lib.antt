@@ -13,6 +13,6 @@ pub mod Needs
 pub mod Packages
 pub mod Quiet
 pub mod Relatives
-pub mod Settled
+pub mod Spared
 pub mod Surveys
 pub mod Walks

@@ -36,7 +36,7 @@ AreFilters [] rs = ⊤
 AreFilters (f ∷ fs) [] = ⊤
 AreFilters (f ∷ fs) (r ∷ rs) = AreNames (file_of r.file).methods f × AreFilters fs rs
 
--- the class of a row names a superinterface (4.1, interfaces)
+-- a class names a superinterface (4.1, interfaces)
 abbrev pub names_over : Kin → Bool
 names_over k = is_some (slice_get k.file.interfaces 0)
 

@@ -8,7 +8,7 @@ ghost use Rattle.cl_hierarchy.specs.OversAt.{IsSharedIn};
 ghost use Rattle.cl_model.specs.Preparation.{takes_part};
 ghost use Rattle.cl_preparation.specs.Chains.{AreImposed, by_row, hidden_by};
 ghost use Rattle.cl_preparation.specs.Fewer.{AddsLeft, AreFew, IsImposed, by_superinterfaces, fewer_declared, fewer_inherited, loaders_over, others_after};
-ghost use Rattle.cl_preparation.specs.Listings.{and_all, once_of};
+ghost use Rattle.cl_preparation.specs.Listings.{with_all, once_of};
 ghost use Rattle.cl_preparation.specs.Nearby.{AddLoaders};
 ghost use Rattle.cl_preparation.specs.Relatives.{bare};
 ghost use Rattle.cl_preparation.specs.Walks.{hides};
@@ -110,7 +110,7 @@ impl<'a, 'b, 'c, 'd, T: Told> Chained<'a, 'b, 'c, 'd, T> {
         method: &Method,
     ) -> Result<(), AllocError>
         requires { AddLoaders self.now over.now }
-        ensures { OnOk result (needs.new ≡ and_all needs.old
+        ensures { OnOk result (needs.new ≡ with_all needs.old
             (fewer_declared (kin_of self.now) method.now)) }
     {
         let key = method.key();
@@ -134,7 +134,7 @@ impl<'a, 'b, 'c, 'd, T: Told> Chained<'a, 'b, 'c, 'd, T> {
         methods: &[Method],
     ) -> Result<(), AllocError>
         requires { AddLoaders self.now over.now }
-        ensures { OnOk result (needs.new ≡ and_all needs.old
+        ensures { OnOk result (needs.new ≡ with_all needs.old
             (flat_map (fewer_declared (kin_of self.now)) methods.now)) }
     {
         for method in methods {
@@ -150,7 +150,7 @@ impl<'a, 'b, 'c, 'd, T: Told> Chained<'a, 'b, 'c, 'd, T> {
         needs: &mut Needs,
         methods: &[Method],
     ) -> Result<(), AllocError>
-        ensures { OnOk result (needs.new ≡ and_all needs.old
+        ensures { OnOk result (needs.new ≡ with_all needs.old
             (flat_map (fewer_declared (kin_of self.now)) methods.now)) }
     {
         let is_little = methods.len() <= FEW || self.over.len() <= FEW;
@@ -173,7 +173,7 @@ impl<'a, 'b, 'c, 'd, T: Told> Chained<'a, 'b, 'c, 'd, T> {
         interface: &Relative<T>,
         method: &Method,
     ) -> Result<(), AllocError>
-        ensures { OnOk result (needs.new ≡ and_all needs.old
+        ensures { OnOk result (needs.new ≡ with_all needs.old
             (fewer_inherited (kin_of self.now) (bare interface.now) method.now)) }
     {
         let key = method.key();
@@ -195,7 +195,7 @@ impl<'a, 'b, 'c, 'd, T: Told> Chained<'a, 'b, 'c, 'd, T> {
         interface: &Relative<T>,
         methods: &[Method],
     ) -> Result<(), AllocError>
-        ensures { OnOk result (needs.new ≡ and_all needs.old
+        ensures { OnOk result (needs.new ≡ with_all needs.old
             (flat_map (fewer_inherited (kin_of self.now) (bare interface.now)) methods.now)) }
     {
         for method in methods {
@@ -211,7 +211,7 @@ impl<'a, 'b, 'c, 'd, T: Told> Chained<'a, 'b, 'c, 'd, T> {
         needs: &mut Needs,
         row: &Arc<ClassRow<T>>,
     ) -> Result<(), AllocError>
-        ensures { OnOk result (needs.new ≡ and_all needs.old
+        ensures { OnOk result (needs.new ≡ with_all needs.old
             (by_row (kin_of self.now) row.now.value)) }
     {
         let interface = Relative::of(alloc, row)?;
@@ -226,7 +226,7 @@ impl<'a, 'b, 'c, 'd, T: Told> Chained<'a, 'b, 'c, 'd, T> {
         needs: &mut Needs,
         rows: &[&Arc<ClassRow<T>>],
     ) -> Result<(), AllocError>
-        ensures { OnOk result (needs.new ≡ and_all needs.old
+        ensures { OnOk result (needs.new ≡ with_all needs.old
             (flat_map (λ r. by_row (kin_of self.now) r.now.value) rows.now)) }
     {
         for row in rows {
@@ -237,7 +237,7 @@ impl<'a, 'b, 'c, 'd, T: Told> Chained<'a, 'b, 'c, 'd, T> {
 
     /// Adds what is inherited, where superinterfaces of other loaders than what the class inherits may declare it.
     fn push_over(&self, alloc: Global, needs: &mut Needs) -> Result<(), AllocError>
-        ensures { OnOk result (needs.new ≡ and_all needs.old
+        ensures { OnOk result (needs.new ≡ with_all needs.old
             (by_superinterfaces fewer_inherited (kin_of self.now))) }
     {
         if self.survey.is_mix_declared(self.own.row()) {
@@ -261,7 +261,7 @@ impl<'a, 'b, 'c, 'd, T: Told> Chained<'a, 'b, 'c, 'd, T> {
         row: &Arc<ClassRow<T>>,
         hiding: &Hiding<T>,
     ) -> Result<(), AllocError>
-        ensures { OnOk result (needs.new ≡ and_all needs.old
+        ensures { OnOk result (needs.new ≡ with_all needs.old
             (flat_map (fewer_inherited (kin_of self.now) (bare row.now.value))
             (filter (λ m. hides m.key (bare hiding.now)) (bare row.now.value).file.methods))) }
     {
@@ -294,7 +294,7 @@ impl<'a, 'b, 'c, 'd, T: Told> Chained<'a, 'b, 'c, 'd, T> {
         }
     }
 
-    /// Adds what the methods of the superinterfaces of these rows impose, so far as the superclass has not.
+    /// Adds what the methods of the superinterfaces of these rows impose, so far as superclasses have not.
     fn push_new_rows(
         &self,
         alloc: Global,
@@ -336,7 +336,7 @@ impl<'a, 'b, 'c, 'd, T: Told> Chained<'a, 'b, 'c, 'd, T> {
         needs: &mut Needs,
         given: Given,
     ) -> Result<(), AllocError>
-        requires declared { needs.old ≡ and_all (once_of []) (flat_map
+        requires declared { needs.old ≡ with_all (once_of []) (flat_map
             (fewer_declared (kin_of self.now)) (kin_of self.now).file.methods) }
         ensures { OnOk result (AreFew given (kin_of self.now) needs.new.needs) }
     {

@@ -1,37 +1,30 @@
 //! What the preparations of a class's superclasses impose of that which is to be imposed with what the class inherits (JVMS SE 8,
 //! 5.4.2).
 
-ghost use Rattle.std.specs.Prelude.{◌≡◌, ◌⊎◌, List, is_some, true, IfOk, IfSome};
+ghost use Rattle.std.specs.Prelude.{◌≡◌, ◌⊎◌, List, true, IfOk, IfSome};
 ghost use Rattle.std.specs.List.{AllByRecursion};
 ghost use Rattle.cl_hierarchy.specs.Lineages.{kin_of};
 ghost use Rattle.cl_hierarchy.specs.Rows.{Rowed};
-ghost use Rattle.cl_model.specs.Lineages.{is_offered, method_of, superclasses};
+ghost use Rattle.cl_model.specs.Lineages.{is_offered, superclasses};
 ghost use Rattle.cl_preparation.specs.Chains.{CoversHidden, IsClassAbove, hidden_by};
 ghost use Rattle.cl_preparation.specs.Relatives.{bare};
-ghost use Rattle.cl_preparation.specs.Settled.{IsSpared, is_settled};
+ghost use Rattle.cl_preparation.specs.Spared.{IsSpared, is_met_above};
 ghost use Rattle.cl_preparation.specs.Surveys.{IsSurvey};
 
 use crate::hiding::Hiding;
 use crate::key::MethodKey;
 use crate::method::Method;
-use crate::relative::{Relative, flags_with, is_hidden, names_interfaces};
+use crate::relative::{Relative, declares, is_hidden, names_interfaces};
 use crate::survey::Survey;
-use cl_hierarchy::{ClassRow, Lineage};
+use cl_hierarchy::Lineage;
 use cl_model::Told;
 use std::alloc::{AllocError, Global};
 
-/// Whether a class declares a method with this key.
-#[tactic(auto, using(crate::proofs::Declared::flags_stand))]
-fn declares<T: Told>(row: &ClassRow<T>, key: &MethodKey) -> bool
-    ensures { result ≡ is_some (method_of (bare row.now) key.now) }
-{
-    flags_with(row, None, key).is_some()
-}
-
 /// Whether a superclass of the class of a lineage has imposed what that would impose with a method of the superinterfaces of its
-/// superclass: the nearest that does not hide the method, where those below it name no superinterfaces, and so have the same.
-fn is_settled<T: Told>(lineage: &Lineage<T>, key: &MethodKey) -> bool
-    ensures { result ≡ is_settled key.now (superclasses (kin_of lineage.now)) }
+/// superclass: the nearest that does not hide the method, where those below it name no superinterfaces, and so have the same
+/// (JVMS SE 8, 5.4.2, 5.4.5).
+fn is_met_above<T: Told>(lineage: &Lineage<T>, key: &MethodKey) -> bool
+    ensures { result ≡ is_met_above key.now (superclasses (kin_of lineage.now)) }
 {
     let mut climb = lineage.climb();
     while let Some(row) = climb.next() {
@@ -49,7 +42,7 @@ fn is_settled<T: Told>(lineage: &Lineage<T>, key: &MethodKey) -> bool
 }
 
 /// Whether a method of the superclass of the class of a lineage is neither private nor static, or spared.
-fn is_seen<T: Told>(
+fn is_covered<T: Told>(
     alloc: Global,
     survey: &Survey,
     lineage: &Lineage<T>,
@@ -68,14 +61,14 @@ fn is_seen<T: Told>(
     if survey.is_unmixed(alloc, key)? {
         return Ok(true);
     }
-    if declares(lineage.own(), key) {
+    if declares(lineage.own(), None, key) {
         return Ok(true);
     }
-    Ok(is_settled(lineage, key))
+    Ok(is_met_above(lineage, key))
 }
 
 /// Whether it is so of each of these.
-fn are_seen<T: Told>(
+fn are_covered<T: Told>(
     alloc: Global,
     survey: &Survey,
     lineage: &Lineage<T>,
@@ -87,7 +80,7 @@ fn are_seen<T: Told>(
         ⊎ IsSpared lineage.now rows m.key) methods.now) }
 {
     for method in methods {
-        if !is_seen(alloc, survey, lineage, above, method)? {
+        if !is_covered(alloc, survey, lineage, above, method)? {
             return Ok(false);
         }
     }
@@ -121,7 +114,7 @@ pub(crate) fn hiding_of<T: Told>(
         CoversHidden lineage.now rows (bare above) (hidden_by o)) }
 {
     let methods = above.methods(alloc)?;
-    if are_seen(alloc, survey, lineage, &above, methods.as_slice())? {
+    if are_covered(alloc, survey, lineage, &above, methods.as_slice())? {
         return Ok(None);
     }
     Ok(Some(Hiding::of(alloc, above)?))

@@ -4,6 +4,7 @@ ghost use Rattle.std.specs.Prelude.{◌≡◌, ◌≤◌, [], Some, false, true,
 ghost use Rattle.std.specs.List.{AllByRecursion};
 ghost use Rattle.cl_classfile.specs.Files.{file_of, is_interface};
 ghost use Rattle.cl_model.specs.Lineages.{superclasses, superinterfaces};
+ghost use Rattle.cl_model.specs.Once.{NoneTwice};
 ghost use Rattle.cl_model.specs.Preparation.{constraints_of};
 ghost use Rattle.cl_hierarchy.specs.ClassesAt.{lined_at};
 ghost use Rattle.cl_hierarchy.specs.Imposed.{AreEnough, OfPreparation, known_by, needs_of};
@@ -12,7 +13,7 @@ ghost use Rattle.cl_hierarchy.specs.Lineages.{IsRowIn, Lined, kin_at, kin_of, ot
 ghost use Rattle.cl_hierarchy.specs.OversAt.{AreShared};
 ghost use Rattle.cl_preparation.specs.Chains.{AreOver};
 ghost use Rattle.cl_preparation.specs.Fewer.{AreFew, fewer_constraints_of};
-ghost use Rattle.cl_preparation.specs.Listings.{without_repeats};
+ghost use Rattle.cl_preparation.specs.Listings.{has_need, without_repeats};
 ghost use Rattle.cl_preparation.specs.MethodsAbove.{AreTold};
 ghost use Rattle.cl_preparation.specs.Nearby.{AddAll, near_declared};
 ghost use Rattle.cl_preparation.specs.Relatives.{bare};
@@ -341,9 +342,9 @@ fn needs_at<T: Told>(
 }
 
 /// The loading constraints that the preparation of the class at a place of a lineage imposes, in order, but for such as always
-/// stand where those before them do: those of a loader with itself, and those of a method of the class with a loader that a
-/// step before named for that method. Where it is given that the superclass is prepared, those with what the class inherits may be
-/// left out too, which that one's preparation imposed. Where the next of the few has to stand, it is the next of `constraints_of`
+/// stand where those before them do: those of a loader with itself, and those that the list has. Where it is given that the
+/// superclass is prepared, those with what the class inherits may be left out too, which the preparations of superclasses imposed.
+/// Where the next of the few has to stand, it is the next of `constraints_of`
 /// that does not yet; and all of these stand where the few do. Only memory refuses it (JVMS SE 8, 5.3.4, 5.4.2).
 pub fn fewer_constraints_of<T: Told>(
     alloc: Global,
@@ -356,6 +357,7 @@ pub fn fewer_constraints_of<T: Told>(
     ensures few { IfOk result (λ e. AreEnough
         (known_by given (kin_of (lined_at whole.old place)))
         (constraints_of (kin_of (lined_at whole.old place))) (needs_of e.needs)) }
+    ensures once { IfOk result (λ e. NoneTwice has_need (needs_of e.needs)) }
     ensures exactly { IfOk result (λ e. given ≡ givens.Nothing → needs_of e.needs
         ≡ fewer_constraints_of (kin_of (lined_at whole.old place))) }
     ensures origin { IfOk result (λ e. e.origin

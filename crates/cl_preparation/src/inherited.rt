@@ -4,7 +4,7 @@ ghost use Rattle.std.specs.Prelude.{◌≡◌, ◌++◌, false, flat_map, map, I
 ghost use Rattle.std.specs.List.{list_any};
 ghost use Rattle.cl_model.specs.Lineages.{is_offered};
 ghost use Rattle.cl_preparation.specs.Inherited.{away_from, first_loader, inherited_by_rows, loader_with, other_than, second_by_rows};
-ghost use Rattle.cl_preparation.specs.Listings.{and_all};
+ghost use Rattle.cl_preparation.specs.Listings.{with_all};
 ghost use Rattle.cl_preparation.specs.Relatives.{bare};
 
 use crate::away::Away;
@@ -105,7 +105,7 @@ impl<'a, T: Told> Inheritance<'a, T> {
         interface: &Relative<T>,
         method: &Method,
     ) -> Result<(), AllocError>
-        ensures { OnOk result (needs.new ≡ and_all needs.old
+        ensures { OnOk result (needs.new ≡ with_all needs.old
             (inherited_by_rows self.now.few self.now.own self.now.above interface.now
             method.now)) }
     {
@@ -127,7 +127,7 @@ impl<'a, T: Told> Inheritance<'a, T> {
         interface: &Relative<T>,
         methods: &[Method],
     ) -> Result<(), AllocError>
-        ensures { OnOk result (needs.new ≡ and_all needs.old
+        ensures { OnOk result (needs.new ≡ with_all needs.old
             (flat_map (inherited_by_rows self.now.few self.now.own self.now.above interface.now)
             methods.now)) }
     {
@@ -144,7 +144,7 @@ impl<'a, T: Told> Inheritance<'a, T> {
         needs: &mut Needs,
         interface: &Relative<T>,
     ) -> Result<(), AllocError>
-        ensures { OnOk result (needs.new ≡ and_all needs.old
+        ensures { OnOk result (needs.new ≡ with_all needs.old
             (flat_map (inherited_by_rows self.now.few self.now.own self.now.above interface.now)
             (bare interface.now).file.methods)) }
     {
@@ -159,7 +159,7 @@ impl<'a, T: Told> Inheritance<'a, T> {
         needs: &mut Needs,
         interfaces: &[Relative<T>],
     ) -> Result<(), AllocError>
-        ensures { OnOk result (needs.new ≡ and_all needs.old
+        ensures { OnOk result (needs.new ≡ with_all needs.old
             (second_by_rows self.now.few self.now.own self.now.above interfaces.now)) }
     {
         for interface in interfaces {
@@ -175,7 +175,7 @@ impl<'a, T: Told> Inheritance<'a, T> {
         needs: &mut Needs,
         row: &Arc<ClassRow<T>>,
     ) -> Result<(), AllocError>
-        ensures { OnOk result (needs.new ≡ and_all needs.old
+        ensures { OnOk result (needs.new ≡ with_all needs.old
             (flat_map (inherited_by_rows self.now.few self.now.own self.now.above row.now.value)
             (bare row.now.value).file.methods)) }
     {
@@ -190,7 +190,7 @@ impl<'a, T: Told> Inheritance<'a, T> {
         needs: &mut Needs,
         rows: &[&Arc<ClassRow<T>>],
     ) -> Result<(), AllocError>
-        ensures { OnOk result (needs.new ≡ and_all needs.old
+        ensures { OnOk result (needs.new ≡ with_all needs.old
             (second_by_rows self.now.few self.now.own self.now.above (map (λ r. r.now.value)
             rows.now))) }
     {

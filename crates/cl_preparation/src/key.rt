@@ -4,7 +4,7 @@ ghost use Rattle.std.specs.Prelude.{◌≡◌, Some, IfOk, IsSome};
 ghost use Rattle.cl_descriptors.specs.Reading.{whole_method};
 ghost use Rattle.cl_classfile.specs.Files.{method_of};
 ghost use Rattle.cl_model.specs.Preparation.{class_names, is_special};
-ghost use Rattle.cl_preparation.specs.Listings.{IsBetween};
+ghost use Rattle.cl_preparation.specs.Listings.{IsOfDescriptor};
 ghost use Rattle.cl_preparation.specs.Methods.{key_in};
 
 use cl_descriptors::{DescriptorFault, read_method};
@@ -49,7 +49,7 @@ impl Model for MethodKey {
     ghost invariant = { λ k. IsSome (whole_method k.descriptor) };
 }
 
-/// The text of a method's descriptor, between two loaders.
+/// The text of a method's descriptor, between two loaders that are to agree on what it names (JVMS SE 8, 5.3.4).
 #[derive(Debug, PartialEq, Eq, Hash)]
 pub(crate) struct Between {
     descriptor: Name,
@@ -101,7 +101,7 @@ impl MethodKey {
         one: LoaderId,
         other: LoaderId,
     ) -> Result<Between, AllocError>
-        ensures { IfOk result (λ b. IsBetween self.now one other b) }
+        ensures { IfOk result (λ b. IsOfDescriptor self.now one other b) }
     {
         Ok(Between {
             descriptor: self.descriptor.try_clone(alloc)?,

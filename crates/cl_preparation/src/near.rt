@@ -5,7 +5,7 @@ ghost use Rattle.cl_classfile.specs.Files.{file_of, is_interface};
 ghost use Rattle.cl_hierarchy.specs.Imposed.{needs_of};
 ghost use Rattle.cl_hierarchy.specs.Lineages.{kin_of};
 ghost use Rattle.cl_preparation.specs.Fewer.{by_superinterfaces, fewer_constraints_of, fewer_inherited, loaders, others_after};
-ghost use Rattle.cl_preparation.specs.Listings.{and_all, without_repeats};
+ghost use Rattle.cl_preparation.specs.Listings.{with_all, without_repeats};
 ghost use Rattle.cl_preparation.specs.Nearby.{AreNear, near_declared, near_loaders};
 ghost use Rattle.cl_preparation.specs.Relatives.{bare};
 ghost use Rattle.cl_preparation.specs.Walks.{opens};
@@ -75,7 +75,7 @@ impl<'a, 'b, T: Told> Nearby<'a, 'b, T> {
         needs: &mut Needs,
         method: &Method,
     ) -> Result<(), AllocError>
-        ensures { OnOk result (needs.new ≡ and_all needs.old
+        ensures { OnOk result (needs.new ≡ with_all needs.old
             (near_declared self.now.own self.now.away self.now.over method.now)) }
     {
         let key = method.key();
@@ -93,7 +93,7 @@ impl<'a, 'b, T: Told> Nearby<'a, 'b, T> {
         needs: &mut Needs,
         methods: &[Method],
     ) -> Result<(), AllocError>
-        ensures { OnOk result (needs.new ≡ and_all needs.old
+        ensures { OnOk result (needs.new ≡ with_all needs.old
             (flat_map (near_declared self.now.own self.now.away self.now.over) methods.now)) }
     {
         for method in methods {
@@ -112,7 +112,7 @@ impl<'a, 'b, T: Told> Nearby<'a, 'b, T> {
         requires near { AreNear lineage.now self.now.own self.now.away
             self.now.over }
         requires class { is_interface (file_of self.now.own.file) ≡ false }
-        ensures { OnOk result (needs.new ≡ and_all needs.old
+        ensures { OnOk result (needs.new ≡ with_all needs.old
             (by_superinterfaces fewer_inherited (kin_of lineage.now))) }
     {
         // only where a superinterface declares methods is a list of all superclasses made
@@ -127,7 +127,7 @@ impl<'a, 'b, T: Told> Nearby<'a, 'b, T> {
 
     /// Adds what all methods of the class impose.
     fn push_all_declared(&self, alloc: Global, needs: &mut Needs) -> Result<(), AllocError>
-        ensures { OnOk result (needs.new ≡ and_all needs.old
+        ensures { OnOk result (needs.new ≡ with_all needs.old
             (flat_map (near_declared self.now.own self.now.away self.now.over)
             (bare self.now.own).file.methods)) }
     {

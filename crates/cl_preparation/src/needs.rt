@@ -5,7 +5,7 @@ ghost use Rattle.std.specs.List.{AllByRecursion};
 ghost use Rattle.cl_model.specs.Preparation.{equals_of};
 ghost use Rattle.cl_model.specs.States.{Need};
 ghost use Rattle.cl_hierarchy.specs.Imposed.{equal_need, needs_of};
-ghost use Rattle.cl_preparation.specs.Listings.{AreAmong, Grows, IsPassed, all_of, and_all, and_one, once_of};
+ghost use Rattle.cl_preparation.specs.Listings.{AreAmong, Grows, IsPassed, all_listed, with_all, with_one, once_of};
 ghost use Rattle.cl_preparation.specs.Needs.{listing_of};
 
 use crate::described::{Described, push_equals};
@@ -75,7 +75,7 @@ impl Collected {
         b: LoaderId,
     ) -> Result<(), AllocError>
         ensures { OnOk result (listing_of self.new
-            ≡ and_all (listing_of self.old) (equals_of method.now a b)) }
+            ≡ with_all (listing_of self.old) (equals_of method.now a b)) }
     {
         match self {
             Collected::All(all) => push_equals(alloc, all, method, a, b),
@@ -113,7 +113,7 @@ impl Model for Needs {
 fn list_one(listed: &mut Equals, equality: Equality) -> Result<(), AllocError>
     ensures kept { Grows (needs_of listed.old.keys) (needs_of listed.new.keys) }
     ensures listed { OnOk result (once_of listed.new.keys
-        ≡ and_one (once_of listed.old.keys) (equal_need equality)) }
+        ≡ with_one (once_of listed.old.keys) (equal_need equality)) }
 {
     match listed.insert(equality) {
         Ok(_) => Ok(()),
@@ -131,7 +131,7 @@ fn list_each(
 ) -> Result<(), AllocError>
     ensures kept { Grows (needs_of listed.old.keys) (needs_of listed.new.keys) }
     ensures listed { OnOk result (once_of listed.new.keys
-        ≡ and_all (once_of listed.old.keys) (equals_of method.now a b)) }
+        ≡ with_all (once_of listed.old.keys) (equals_of method.now a b)) }
 {
     for name in method.names() {
         let name = name.try_clone(alloc)?;
@@ -178,7 +178,7 @@ impl Once {
         b: LoaderId,
     ) -> Result<bool, AllocError>
         ensures { IfOk result (λ is. is ≡ true
-            → self.now ≡ and_all self.now (equals_of key.now a b)) }
+            → self.now ≡ with_all self.now (equals_of key.now a b)) }
     {
         // mostly: most descriptors name one class, or none
         if self.passed.is_empty() {
@@ -196,13 +196,13 @@ impl Once {
         a: LoaderId,
         b: LoaderId,
     ) -> Result<(), AllocError>
-        ensures { OnOk result (self.new ≡ and_all self.old (equals_of method.now a b)) }
+        ensures { OnOk result (self.new ≡ with_all self.old (equals_of method.now a b)) }
     {
         if self.has(alloc, method.key(), a, b)? {
             return Ok(());
         }
         list_each(alloc, &mut self.listed, method, a, b)?;
-        // (one name is looked for as soon as its descriptor)
+        // (a descriptor that names one class, or none, is read about as fast as it is looked for)
         if method.names().len() <= 1 {
             return Ok(());
         }
@@ -221,7 +221,7 @@ impl Once {
 impl Needs {
     /// These, behind which all are listed.
     pub fn all(listed: Vec<Equality>) -> Needs
-        ensures { result ≡ all_of listed.items }
+        ensures { result ≡ all_listed listed.items }
     {
         Needs {
             listed: Collected::All(listed),
@@ -246,7 +246,7 @@ impl Needs {
         b: LoaderId,
     ) -> Result<bool, AllocError>
         ensures { IfOk result (λ is. is ≡ true
-            → self.now ≡ and_all self.now (equals_of key.now a b)) }
+            → self.now ≡ with_all self.now (equals_of key.now a b)) }
     {
         match &self.listed {
             Collected::All(_) => Ok(false),
@@ -264,7 +264,7 @@ impl Needs {
         loaders: &[LoaderId],
     ) -> Result<bool, AllocError>
         ensures { IfOk result (λ is. is ≡ true
-            → self.now ≡ and_all self.now (flat_map (equals_of key.now own) loaders.now)) }
+            → self.now ≡ with_all self.now (flat_map (equals_of key.now own) loaders.now)) }
     {
         for loader in loaders {
             if !self.has(alloc, key, own, *loader)? {
@@ -282,7 +282,7 @@ impl Needs {
         a: LoaderId,
         b: LoaderId,
     ) -> Result<(), AllocError>
-        ensures { OnOk result (self.new ≡ and_all self.old (equals_of method.now a b)) }
+        ensures { OnOk result (self.new ≡ with_all self.old (equals_of method.now a b)) }
     {
         self.listed.push_equals(alloc, method, a, b)
     }
@@ -295,7 +295,7 @@ impl Needs {
         own: LoaderId,
         loaders: &[LoaderId],
     ) -> Result<(), AllocError>
-        ensures { OnOk result (self.new ≡ and_all self.old
+        ensures { OnOk result (self.new ≡ with_all self.old
             (flat_map (equals_of method.now own) loaders.now)) }
     {
         for loader in loaders {
@@ -312,7 +312,7 @@ impl Needs {
         a: LoaderId,
         b: LoaderId,
     ) -> Result<(), AllocError>
-        ensures { OnOk result (self.new ≡ and_all self.old (equals_of key.now a b)) }
+        ensures { OnOk result (self.new ≡ with_all self.old (equals_of key.now a b)) }
     {
         if self.has(alloc, key, a, b)? {
             return Ok(());
@@ -329,7 +329,7 @@ impl Needs {
         own: LoaderId,
         loaders: &Listed,
     ) -> Result<(), AllocError>
-        ensures { OnOk result (self.new ≡ and_all self.old
+        ensures { OnOk result (self.new ≡ with_all self.old
             (flat_map (equals_of key.now own) loaders.now)) }
     {
         // most methods stand over none of another loader

@@ -7,7 +7,7 @@ ghost use Rattle.cl_model.specs.Lineages.{superclasses, superinterfaces};
 ghost use Rattle.cl_hierarchy.specs.Imposed.{needs_of};
 ghost use Rattle.cl_hierarchy.specs.Lineages.{kin_of};
 ghost use Rattle.cl_preparation.specs.Fewer.{fewer_constraints_of, fewer_declared, is_new, loaders, others_after};
-ghost use Rattle.cl_preparation.specs.Listings.{and_all};
+ghost use Rattle.cl_preparation.specs.Listings.{with_all};
 ghost use Rattle.cl_preparation.specs.Relatives.{bare};
 ghost use Rattle.cl_preparation.specs.Walks.{opens};
 
@@ -77,7 +77,7 @@ fn push_declared<T: Told>(
     requires own { own.now ≡ lineage.now.own }
     requires class { is_interface (file_of lineage.now.own.file) ≡ false }
     requires over { [] ≡ superinterfaces (kin_of lineage.now) }
-    ensures { OnOk result (needs.new ≡ and_all needs.old
+    ensures { OnOk result (needs.new ≡ with_all needs.old
         (fewer_declared (kin_of lineage.now) method.now)) }
 {
     let key = method.key();
@@ -99,7 +99,7 @@ fn push_each_declared<T: Told>(
     requires own { own.now ≡ lineage.now.own }
     requires class { is_interface (file_of lineage.now.own.file) ≡ false }
     requires over { [] ≡ superinterfaces (kin_of lineage.now) }
-    ensures { OnOk result (needs.new ≡ and_all needs.old
+    ensures { OnOk result (needs.new ≡ with_all needs.old
         (flat_map (fewer_declared (kin_of lineage.now)) methods.now)) }
 {
     for method in methods {

@@ -120,6 +120,19 @@ pub(crate) fn is_open<T: Told>(
     }
 }
 
+/// Whether a class declares a method with this key. A filter, where there is one, is of its methods' names.
+#[tactic(auto, using(crate::proofs::Declared::flags_stand))]
+pub(crate) fn declares<T: Told>(
+    row: &ClassRow<T>,
+    names: Option<&NameFilter>,
+    key: &MethodKey,
+) -> bool
+    requires { AreNames (file_of row.now.file).methods (option_map (λ f. f.now) names) }
+    ensures { result ≡ is_some (method_of (bare row.now) key.now) }
+{
+    flags_with(row, names, key).is_some()
+}
+
 /// Whether a class declares a method with this key that is private or static (JVMS SE 8, 5.4.5). A filter, where there is one, is of
 /// its methods' names.
 #[tactic(auto, using(crate::proofs::Declared::flags_hide))]
@@ -202,11 +215,10 @@ impl<T: Told> Relative<T> {
     }
 
     /// Whether it declares a method with this key.
-    #[tactic(auto, using(crate::proofs::Declared::flags_stand))]
     pub fn has(&self, key: &MethodKey) -> bool
         ensures { result ≡ is_some (method_of (bare self.now) key.now) }
     {
-        self.flags(key).is_some()
+        declares(&self.row, self.names.as_ref(), key)
     }
 
     /// Whether it declares a method with this key that is neither private nor static (JVMS SE 8, 5.4.5).

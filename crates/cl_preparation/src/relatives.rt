@@ -9,7 +9,7 @@ ghost use Rattle.cl_hierarchy.specs.Imposed.{OfPreparation, needs_of};
 ghost use Rattle.cl_hierarchy.specs.declared.equalities.Given.TheVariants as givens;
 ghost use Rattle.cl_hierarchy.specs.Lineages.{kin_at, kin_of};
 ghost use Rattle.cl_preparation.specs.Fewer.{by_superinterfaces};
-ghost use Rattle.cl_preparation.specs.Listings.{and_all};
+ghost use Rattle.cl_preparation.specs.Listings.{with_all};
 ghost use Rattle.cl_preparation.specs.Relatives.{bare};
 
 use crate::described::Described;
@@ -203,7 +203,7 @@ impl<T: Told> Relatives<T> {
 
     /// Adds what the methods of the superinterfaces impose.
     fn push_interfaces(&self, alloc: Global, needs: &mut Needs) -> Result<(), AllocError>
-        ensures { OnOk result (needs.new ≡ and_all needs.old
+        ensures { OnOk result (needs.new ≡ with_all needs.old
             (by_superinterfaces for_inherited (kin_of self.now))) }
     {
         let inherited = Inheritance::of(&self.own, self.superclasses.as_slice(), None);
@@ -212,7 +212,7 @@ impl<T: Told> Relatives<T> {
 
     /// Adds what is inherited where the class is no interface.
     fn push_second(&self, alloc: Global, needs: &mut Needs) -> Result<(), AllocError>
-        ensures { OnOk result (needs.new ≡ and_all needs.old
+        ensures { OnOk result (needs.new ≡ with_all needs.old
             (if is_interface (kin_of self.now).file then []
             else by_superinterfaces for_inherited (kin_of self.now))) }
     {

@@ -4,7 +4,7 @@ use Rattle.cl_model.specs.Lineages.{superclasses}
 use Rattle.cl_model.specs.Preparation.{equals_of}
 use Rattle.cl_hierarchy.specs.Lineages.{Lined, kin_of}
 use Rattle.cl_preparation.specs.Chains.{IsChained}
-use Rattle.cl_preparation.specs.Listings.{and_all}
+use Rattle.cl_preparation.specs.Listings.{with_all}
 use Rattle.cl_preparation.proofs.Chains.{chained_inherited}
 use Rattle.cl_preparation.proofs.chained.Chained.push_method.Goals as goal
 
@@ -20,7 +20,7 @@ returns-in-Some g c =
     (λ e. chained_inherited l c.self.inside.own c.self.inside.survey.now c.self.inside.above.now c.self.inside.over c.self.inside.shared.now is c.args.interface.now c.args.method.now key c.in_ok-nearest.nearest (Some c.in-Some.loader) c.loader.result needs c.push_between.new.self c.key-key.ensures
     (sym c.takes_part.ensures ∙ part) (sym c.has.ensures ∙ gone) c.loader.ensures (IfOk-at_ok _ c.in_ok-nearest.was (c.nearest_above.ensures (superclasses (kin_of l)) is.above_are))
     (sym c.in-Some.is ∙ c.other_than.ensures)
-    (e ∙ ap (λ n. and_all needs (equals_of key c.in-Some.loader n)) (c.loader-in-Some.ensures ∙ sym c.loader.ensures)))
+    (e ∙ ap (λ n. with_all needs (equals_of key c.in-Some.loader n)) (c.loader-in-Some.ensures ∙ sym c.loader.ensures)))
     c.push_between.ensures
 
 pub returns-in-None : goal.returns-in-None

@@ -3,8 +3,8 @@ use Rattle.std.specs.List.{flat_map}
 use Rattle.cl_hierarchy.specs.Lineages.{kin_of}
 use Rattle.cl_preparation.specs.Fewer.{fewer_inherited}
 use Rattle.cl_preparation.specs.Relatives.{bare}
-use Rattle.cl_preparation.specs.Listings.{and_all}
+use Rattle.cl_preparation.specs.Listings.{with_all}
 use Rattle.cl_preparation.proofs.chained.Chained.push_methods.Given as goal
 
 abbrev pub invariant-loop-method : goal.invariant-loop-method
-invariant-loop-method g l = l.needs ≡ and_all l.initial.needs (flat_map (fewer_inherited (kin_of l.self) (bare l.interface)) (take l.method-index l.methods))
+invariant-loop-method g l = l.needs ≡ with_all l.initial.needs (flat_map (fewer_inherited (kin_of l.self) (bare l.interface)) (take l.method-index l.methods))

@@ -3,9 +3,9 @@ use Rattle.std.specs.List.{flat_map}
 use Rattle.cl_hierarchy.specs.Lineages.{kin_of}
 use Rattle.cl_preparation.specs.Fewer.{fewer_inherited}
 use Rattle.cl_preparation.specs.Relatives.{bare}
-use Rattle.cl_preparation.specs.Listings.{and_all}
+use Rattle.cl_preparation.specs.Listings.{with_all}
 use Rattle.cl_preparation.proofs.chained.Chained.push_rows.Given as goal
 
 abbrev pub invariant-loop-row : goal.invariant-loop-row
 invariant-loop-row g l =
-    l.needs ≡ and_all l.initial.needs (flat_map (λ r. flat_map (fewer_inherited (kin_of l.self) (bare r.now.value)) (bare r.now.value).file.methods) (take l.row-index l.rows))
+    l.needs ≡ with_all l.initial.needs (flat_map (λ r. flat_map (fewer_inherited (kin_of l.self) (bare r.now.value)) (bare r.now.value).file.methods) (take l.row-index l.rows))

@@ -2,11 +2,11 @@ use Rattle.std.proofs.Common.{◌≡◌, length}
 use Rattle.cl_model.specs.Lineages.{superclasses}
 use Rattle.cl_hierarchy.specs.Climbs.{kins_up}
 use Rattle.cl_hierarchy.specs.Lineages.{kin_of}
-use Rattle.cl_preparation.specs.Settled.{is_settled}
-use Rattle.cl_preparation.proofs.covered.is_settled.Given as goal
+use Rattle.cl_preparation.specs.Spared.{is_met_above}
+use Rattle.cl_preparation.proofs.covered.is_met_above.Given as goal
 
 abbrev pub invariant-loop-row : goal.invariant-loop-row
-invariant-loop-row g l = is_settled l.key (superclasses (kin_of l.lineage)) ≡ is_settled l.key (kins_up l.climb)
+invariant-loop-row g l = is_met_above l.key (superclasses (kin_of l.lineage)) ≡ is_met_above l.key (kins_up l.climb)
 
 abbrev pub decreases-loop-row : goal.decreases-loop-row
 decreases-loop-row g l = length (kins_up l.climb)

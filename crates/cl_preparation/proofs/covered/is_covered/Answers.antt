@@ -6,9 +6,9 @@ use Rattle.cl_hierarchy.specs.Lineages.{kin_of}
 use Rattle.cl_hierarchy.specs.Rows.{Rowed}
 use Rattle.cl_model.specs.Lineages.{is_offered, method_of, superclasses}
 use Rattle.cl_preparation.specs.Relatives.{bare}
-use Rattle.cl_preparation.specs.Settled.{Declared, Settled, Unmixed, is_settled}
+use Rattle.cl_preparation.specs.Spared.{Declared, MetAbove, Unmixed, is_met_above}
 use Rattle.cl_preparation.specs.Surveys.{IsUnmixed}
-use Rattle.cl_preparation.proofs.covered.is_seen.Goals as goal
+use Rattle.cl_preparation.proofs.covered.is_covered.Goals as goal
 
 pub returns-then-offers : goal.returns-then-offers
 returns-then-offers g c = λ rows is on. inl (subst (λ (k : Key). is_offered k (bare c.args.above.now) ≡ true) c.key-key.ensures (sym c.offers.ensures ∙ c.if-offers.true))
@@ -22,4 +22,4 @@ returns-then-declares g c = λ rows is on.
     (subst (λ (r : Rowed). is_some (method_of (bare r) c.key-key.result.now) ≡ true) (c.deref.ensures ∙ c.own.ensures.own) (sym c.declares.ensures ∙ c.if-declares.true))))
 
 pub returns : goal.returns
-returns g c = λ rows is on. inr (Settled (subst (λ (k : Key). is_settled k (superclasses (kin_of c.args.lineage.now)) ≡ true) c.key-key.ensures (sym c.is_settled.ensures ∙ on)))
+returns g c = λ rows is on. inr (MetAbove (subst (λ (k : Key). is_met_above k (superclasses (kin_of c.args.lineage.now)) ≡ true) c.key-key.ensures (sym c.is_met_above.ensures ∙ on)))

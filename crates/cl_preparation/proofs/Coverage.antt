@@ -434,6 +434,16 @@ shared_met l over hidden fit (inr all) i r shared at =
     let there : slice_get (superinterfaces (kin_of l)) i ≡ Some j = ap (λ (ks : List Kin). slice_get ks i) (sym all.1) ∙ slice_get-map (kin_at all.0) over i ∙ ap (λ (o : Option Rowed). option_map (kin_at all.0) o) at in
     λ st h. fit j (shared j there) (found_there (superinterfaces (kin_of l)) i j there) st h
 
+-- a mark that is read stands there
+pub marked_there : (marks : List Bool) (i : ℕ) → get_or marks i false ≡ true → slice_get marks i ≡ Some true
+marked_there [] i e = absurd (none_read i e)
+  where
+    none_read : (i : ℕ) → get_or [] i false ≡ true → ⊥
+    none_read zero e = cc
+    none_read (suc i) e = cc
+marked_there (b ∷ marks) zero e = ap (λ (x : Bool). Some x) e
+marked_there (b ∷ marks) (suc i) e = marked_there marks i e
+
 -- the row that is read at a place stands there
 pub row_at : {A : Type 0} (rows : List A) (i : ℕ) (x : A) → i < length rows → x ≡ get_or rows i x → slice_get rows i ≡ Some x
 row_at [] i x lt e = absurd (omega (arith, lt))

@@ -19,7 +19,7 @@ use crate::hiding::Hiding;
 use crate::inherited::other_than;
 use crate::key::MethodKey;
 use crate::like::rows_like;
-use crate::listed::Listed;
+use crate::listed::{Listed, is_marked};
 use crate::method::Method;
 use crate::methods_above::{MethodsAbove, nearest_above, wide_above};
 use crate::needs::Needs;
@@ -34,16 +34,6 @@ use std::sync::Arc;
 
 /// So many methods, or superinterfaces, are few: then each method is looked for in each superinterface.
 const FEW: usize = 4;
-
-/// Whether a place is marked.
-fn is_marked(marks: &[bool], place: usize) -> bool
-    ensures { result ≡ true → slice_get marks.now place ≡ Some true }
-{
-    match marks.get(place) {
-        Some(is_marked) => *is_marked,
-        None => false,
-    }
-}
 
 /// A class with what its methods are looked up in.
 pub(crate) struct Chained<'a, 'b, 'c, 'd, T: Told> {

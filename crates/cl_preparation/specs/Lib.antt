@@ -1,5 +1,6 @@
 pub mod Chains
 pub mod Declarers
+pub mod Examples
 pub mod Fewer
 pub mod Filters
 pub mod Inherited

@@ -7,6 +7,7 @@ mod chained;
 mod covered;
 mod declarers;
 mod described;
+pub mod examples;
 mod fewer;
 mod filter;
 mod hiding;

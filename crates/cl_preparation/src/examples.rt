@@ -1,0 +1,29 @@
+//! Worked examples of definitions of this crate, which the checker computes (JVMS SE 8, 5.3.4, 5.4.2, 5.4.5).
+
+ghost use Rattle.std.specs.Prelude.{◌≡◌, ◌∷◌, [], codes, false, true};
+ghost use Rattle.cl_classfile.specs.Flags.{private, public, static};
+ghost use Rattle.cl_model.specs.Examples.{app, boot, plug};
+ghost use Rattle.cl_model.specs.States.{Equal};
+ghost use Rattle.cl_preparation.specs.Examples.{Meets, with_m, with_m_naming, with_none, with_none_over};
+ghost use Rattle.cl_preparation.specs.Listings.{without_repeats};
+
+/// A constraint stands where it is first; one of another name, or between other loaders, is another.
+pub fn constraints_once()
+    ensures again { without_repeats (Equal (codes "p/T") boot app ∷ Equal (codes "p/V") boot app
+        ∷ Equal (codes "p/T") boot app ∷ [])
+        ≡ Equal (codes "p/T") boot app ∷ Equal (codes "p/V") boot app ∷ [] }
+    ensures other_loaders { without_repeats (Equal (codes "p/T") boot app
+        ∷ Equal (codes "p/T") boot plug ∷ [])
+        ≡ Equal (codes "p/T") boot app ∷ Equal (codes "p/T") boot plug ∷ [] }
+{}
+
+/// The nearest superclass that does not hide a method has imposed what it would, unless one below it names superinterfaces.
+pub fn met_above()
+    ensures above_private { Meets (with_m private ∷ with_m public ∷ []) true }
+    ensures above_static { Meets (with_m static ∷ with_m private ∷ with_none ∷ []) true }
+    ensures nearest { Meets (with_m_naming public ∷ []) true }
+    ensures all_hide { Meets (with_m private ∷ with_m static ∷ []) false }
+    ensures below_names { Meets (with_m_naming private ∷ with_m public ∷ []) false }
+    ensures next_names { Meets (with_m private ∷ with_m_naming static ∷ with_none ∷ []) false }
+    ensures interface { Meets (with_m private ∷ with_none_over ∷ []) false }
+{}

@@ -21,11 +21,19 @@ use std::marker::Model;
 /// Equalities, each once, in order.
 type Equals = IndexSet<Equality, Seed>;
 
+/// A descriptor of no more bytes is read, and what it names is looked for, about as fast as it is looked for itself.
+const SHORT: usize = 64;
+
+/// Whether a method's descriptor is short.
+fn is_short(key: &MethodKey) -> bool {
+    key.descriptor().bytes().len() <= SHORT
+}
+
 /// Equalities, each listed once.
 pub(crate) struct Once {
     listed: Equals,
-    /// Descriptors of several classes, of which the equalities between two loaders are listed: so that these are not looked for one
-    /// by one where thousands of methods have one descriptor.
+    /// Descriptors, but for short ones, of which the equalities between two loaders are listed: so that they are not read again, nor
+    /// these looked for one by one, where thousands of methods have one descriptor.
     passed: IndexSet<Between, Seed>,
 }
 
@@ -180,8 +188,8 @@ impl Once {
         ensures { IfOk result (λ is. is ≡ true
             → self.now ≡ with_all self.now (equals_of key.now a b)) }
     {
-        // mostly: most descriptors name one class, or none
-        if self.passed.is_empty() {
+        // mostly
+        if is_short(key) {
             return Ok(false);
         }
         let between = key.between(alloc, a, b)?;
@@ -202,8 +210,7 @@ impl Once {
             return Ok(());
         }
         list_each(alloc, &mut self.listed, method, a, b)?;
-        // (a descriptor that names one class, or none, is read about as fast as it is looked for)
-        if method.names().len() <= 1 {
+        if is_short(method.key()) {
             return Ok(());
         }
         pass(alloc, &mut self.passed, method.key(), a, b)

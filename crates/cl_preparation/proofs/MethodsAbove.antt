@@ -9,6 +9,7 @@ use Rattle.std.proofs.lemmas.List.Folds.{list_any-append}
 use Rattle.std.proofs.lemmas.Option.{same_Some}
 use Rattle.indexmap.specs.IndexMap.{IndexMap, get}
 use Rattle.cl_classfile.specs.Files.{Key, Member, file_of, member, method_of, same_key}
+use Rattle.cl_model.specs.Probes.{first_places, is_in}
 use Rattle.cl_model.specs.Lineages.{Kin, if_declared, is_offered, is_virtual}
 use Rattle.cl_model.specs.Preparation.{is_special}
 use Rattle.cl_model.proofs.Keys.{keys_are_told}
@@ -18,7 +19,7 @@ use Rattle.cl_preparation.specs.declared.declarers.MethodTexts.{MethodTexts}
 use Rattle.cl_preparation.specs.declared.methods_above.Above.{Above}
 use Rattle.cl_preparation.specs.Declarers.{same_texts}
 use Rattle.cl_preparation.specs.Fewer.{is_new, loaders, others_after}
-use Rattle.cl_preparation.specs.MethodsAbove.{ArePut, AreTold, IsPut, Tells, added, each_once, without}
+use Rattle.cl_preparation.specs.MethodsAbove.{ArePut, AreTold, IsPut, Tells, added, without}
 use Rattle.cl_preparation.specs.Relatives.{bare}
 use Rattle.cl_preparation.specs.Walks.{is_open, opens}
 use Rattle.cl_preparation.proofs.Unmixed.{texts_one, texts_same, texts_self}
@@ -54,18 +55,62 @@ left_out p a ls off = filter_two p (λ b. not (a == b)) p ls (λ x. by x (p x) (
     by x true false e s = refl
     by x false same e s = refl
 
+-- one that was left out stays out
+without_again : (a : ℕ) (ls : List ℕ) → without a (without a ls) ≡ without a ls
+without_again a ls = sym (filter_two (λ b. not (a == b)) (λ b. not (a == b)) (λ b. not (a == b)) ls (λ x. by (not (a == x))))
+  where
+    by : (b : Bool) → b ≡ (b && b)
+    by true = refl
+    by false = refl
+
+-- what was seen in another order
+same_seen : (seen known xs : List ℕ) → ((n : ℕ) → is_in seen n ≡ is_in known n) → first_places seen xs ≡ first_places known xs
+same_seen seen known [] same = refl
+same_seen seen known (x ∷ xs) same =
+    by (is_in seen x) (same_seen seen known xs same) (same_seen (x ∷ seen) (x ∷ known) xs (λ n. ap (λ (b : Bool). (x == n) || b) (same n)))
+    ∙ ap (λ (b : Bool). if b then first_places known xs else x ∷ first_places (x ∷ known) xs) (same x)
+  where
+    by : (b : Bool) → first_places seen xs ≡ first_places known xs → first_places (x ∷ seen) xs ≡ first_places (x ∷ known) xs
+        → (if b then first_places seen xs else x ∷ first_places (x ∷ seen) xs) ≡ (if b then first_places known xs else x ∷ first_places (x ∷ known) xs)
+    by true one two_ = one
+    by false one two_ = ap (λ (ns : List ℕ). x ∷ ns) two_
+
+swapped : (a b c : Bool) → (a || (b || c)) ≡ (b || (a || c))
+swapped true true c = refl
+swapped true false c = refl
+swapped false true c = refl
+swapped false false c = refl
+
+but_step : (a : ℕ) (seen xs : List ℕ) (x : ℕ) (same in_ : Bool) → (a == x) ≡ same → is_in seen x ≡ in_ → first_places (a ∷ seen) xs ≡ without a (first_places seen xs) → first_places (a ∷ (x ∷ seen)) xs ≡ without a (first_places (x ∷ seen) xs)
+    → (if same || in_ then first_places (a ∷ seen) xs else x ∷ first_places (x ∷ (a ∷ seen)) xs) ≡ without a (if in_ then first_places seen xs else x ∷ first_places (x ∷ seen) xs)
+but_step a seen xs x true true e h one two_ = one
+but_step a seen xs x false true e h one two_ = one
+but_step a seen xs x true false e h one two_ =
+    one ∙ sym (without_again a (first_places seen xs)) ∙ ap (without a) (sym one) ∙ ap (λ (n : ℕ). without a (first_places (n ∷ seen) xs)) (eqb-true a x e)
+    ∙ rw e refl
+but_step a seen xs x false false e h one two_ =
+    ap (λ (ns : List ℕ). x ∷ ns) (same_seen (x ∷ (a ∷ seen)) (a ∷ (x ∷ seen)) xs (λ n. swapped (x == n) (a == n) (is_in seen n)) ∙ two_) ∙ rw e refl
+
+-- with one that was seen before, those without it
+first_but : (a : ℕ) (seen xs : List ℕ) → first_places (a ∷ seen) xs ≡ without a (first_places seen xs)
+first_but a seen [] = refl
+first_but a seen (x ∷ xs) = but_step a seen xs x (a == x) (is_in seen x) refl refl (first_but a seen xs) (first_but a (x ∷ seen) xs)
+
+first_more : (a : ℕ) (more : List ℕ) → first_places [] (a ∷ more) ≡ a ∷ without a (first_places [] more)
+first_more a more = ap (λ (ns : List ℕ). a ∷ ns) (first_but a [] more)
+
 -- those that are still to be listed
-once_step : (own : ℕ) (listed more : List ℕ) (a : ℕ) (b : Bool) → is_new own listed a ≡ b → ((before : List ℕ) → others_after own before more ≡ filter (is_new own before) (each_once more))
+once_step : (own : ℕ) (listed more : List ℕ) (a : ℕ) (b : Bool) → is_new own listed a ≡ b → ((before : List ℕ) → others_after own before more ≡ filter (is_new own before) (first_places [] more))
     → (if b then a ∷ others_after own (listed ++ a ∷ []) more else others_after own listed more)
-    ≡ (if b then a ∷ filter (is_new own listed) (without a (each_once more)) else filter (is_new own listed) (without a (each_once more)))
+    ≡ (if b then a ∷ filter (is_new own listed) (without a (first_places [] more)) else filter (is_new own listed) (without a (first_places [] more)))
 once_step own listed more a true e rest =
     ap (λ (xs : List ℕ). a ∷ xs)
-    (rest (listed ++ a ∷ []) ∙ filter_two (is_new own listed) (λ b. not (a == b)) (is_new own (listed ++ a ∷ [])) (each_once more) (λ x. new_or own a x listed))
-once_step own listed more a false e rest = rest listed ∙ left_out (is_new own listed) a (each_once more) e
+    (rest (listed ++ a ∷ []) ∙ filter_two (is_new own listed) (λ b. not (a == b)) (is_new own (listed ++ a ∷ [])) (first_places [] more) (λ x. new_or own a x listed))
+once_step own listed more a false e rest = rest listed ∙ left_out (is_new own listed) a (first_places [] more) e
 
-pub once_after : (own : ℕ) (listed ls : List ℕ) → others_after own listed ls ≡ filter (is_new own listed) (each_once ls)
+pub once_after : (own : ℕ) (listed ls : List ℕ) → others_after own listed ls ≡ filter (is_new own listed) (first_places [] ls)
 once_after own listed [] = refl
-once_after own listed (a ∷ more) = once_step own listed more a (is_new own listed a) refl (λ before. once_after own before more)
+once_after own listed (a ∷ more) = once_step own listed more a (is_new own listed a) refl (λ before. once_after own before more) ∙ ap (filter (is_new own listed)) (sym (first_more a more))
 
 and_true : (b : Bool) → (b && true) ≡ b
 and_true true = refl
@@ -82,21 +127,13 @@ new_but own [] = refl
 new_but own (x ∷ xs) = same_if x (is_new own [] x) (not (own == x)) (filter (is_new own []) xs) (without own xs) (and_true (not (own == x))) (new_but own xs)
 
 -- of none that were listed
-pub once_others : (own : ℕ) (ls : List ℕ) → others_after own [] ls ≡ without own (each_once ls)
-once_others own ls = once_after own [] ls ∙ new_but own (each_once ls)
-
--- one that was left out stays out
-without_again : (a : ℕ) (ls : List ℕ) → without a (without a ls) ≡ without a ls
-without_again a ls = sym (filter_two (λ b. not (a == b)) (λ b. not (a == b)) (λ b. not (a == b)) ls (λ x. by (not (a == x))))
-  where
-    by : (b : Bool) → b ≡ (b && b)
-    by true = refl
-    by false = refl
+pub once_others : (own : ℕ) (ls : List ℕ) → others_after own [] ls ≡ without own (first_places [] ls)
+once_others own ls = once_after own [] ls ∙ new_but own (first_places [] ls)
 
 -- ---- one class more
 
-opened_more : (key : Key) (k : Kin) (ks : List Kin) (b : Bool) → opens key k ≡ b → each_once (loaders (filter (opens key) (k ∷ ks))) ≡ added k.class.loader b (each_once (loaders (filter (opens key) ks)))
-opened_more key k ks true e = rw e refl
+opened_more : (key : Key) (k : Kin) (ks : List Kin) (b : Bool) → opens key k ≡ b → first_places [] (loaders (filter (opens key) (k ∷ ks))) ≡ added k.class.loader b (first_places [] (loaders (filter (opens key) ks)))
+opened_more key k ks true e = rw e (first_more k.class.loader (loaders (filter (opens key) ks)))
 opened_more key k ks false e = rw e refl
 
 pub told_more : (key : Key) (k : Kin) (ks : List Kin) (o : Option Above) (a : Above) → is_offered key k ≡ true → a.nearest ≡ k.class.loader → a.wide.items ≡ added k.class.loader (opens key k) (option_map_or (λ x. x.wide.items) o [])
@@ -115,7 +152,7 @@ pub told_again : (key : Key) (k : Kin) (ks : List Kin) (o : Option Above) (a : A
     → Tells key (k ∷ ks) o → Tells key (k ∷ ks) (Some a)
 told_again key k ks o a on near wide was =
     let b : Bool = opens key k in
-    let before : List ℕ = each_once (loaders (filter (opens key) ks)) in
+    let before : List ℕ = first_places [] (loaders (filter (opens key) ks)) in
     record {
       wide =
           wide ∙ ap (added k.class.loader b) (was.wide ∙ opened_more key k ks b refl) ∙ again_same k.class.loader b before ∙ sym (opened_more key k ks b refl);
@@ -222,7 +259,7 @@ put_all table r ks put = λ t key reads. by t key (list_any (λ m. same_key m.ke
 -- it is the same of the class in a tree
 told_tree : (key : Key) (known : List Kin) (r : Rowed) (ks : List Kin) (o : Option Above) → Tells key (bare r ∷ ks) o → Tells key (kin_under known r ∷ ks) o
 told_tree key known r ks o told = record {
-  wide = told.wide ∙ ap each_once (by (opens key (bare r)));
+  wide = told.wide ∙ ap (first_places []) (by (opens key (bare r)));
   nearest = told.nearest ∙ at (is_offered key (bare r));
 }
   where

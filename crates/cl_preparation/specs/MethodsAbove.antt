@@ -5,6 +5,7 @@ use Rattle.std.specs.List.{list_any}
 use Rattle.indexmap.specs.IndexMap.{IndexMap, get}
 use Rattle.cl_classfile.specs.Files.{Key, Member, method_of, same_key}
 use Rattle.cl_model.specs.Lineages.{Kin, is_offered}
+use Rattle.cl_model.specs.Probes.{first_places}
 use Rattle.cl_preparation.specs.declared.declarers.MethodTexts.{MethodTexts}
 use Rattle.cl_preparation.specs.declared.methods_above.Above.{Above}
 use Rattle.cl_preparation.specs.Declarers.{same_texts}
@@ -15,11 +16,6 @@ use Rattle.cl_preparation.specs.Walks.{opens}
 abbrev pub without : ℕ → List ℕ → List ℕ
 without a ls = filter (λ b. not (a == b)) ls
 
--- loaders, each at its first place alone (5.3.4)
-abbrev pub each_once : List ℕ → List ℕ
-each_once [] = []
-each_once (a ∷ more) = a ∷ without a (each_once more)
-
 -- these loaders once a class below of this loader declares a method, public or protected or not
 abbrev pub added : ℕ → Bool → List ℕ → List ℕ
 added loader is_open ls = if is_open then loader ∷ without loader ls else ls
@@ -29,7 +25,7 @@ added loader is_open ls = if is_open then loader ∷ without loader ls else ls
 -- (5.4.2, 5.4.5)
 pub record Tells (key : Key) (ks : List Kin) (o : Option Above) : Type 0 where
   pub wide :
-      option_map_or (λ a. a.wide.items) o [] ≡ each_once (loaders (filter (opens key) ks))
+      option_map_or (λ a. a.wide.items) o [] ≡ first_places [] (loaders (filter (opens key) ks))
   pub nearest :
       option_map (λ a. a.nearest) o ≡ option_map (λ k. k.class.loader) (find (is_offered key) ks)
 

@@ -23,6 +23,7 @@
   draped        the same, each of which hides it names one more such interface
   scanned       600 classes of app over one another, each with ten methods that the last of 1,500 superinterfaces of boot has
   described     a class of app over one of boot, each with 7,500 methods of 75 descriptors that name 254 classes each, as @hex
+  stretched     the same two, each with 8,000 methods that share one descriptor, of one class with a name of 65,000 bytes
   offered       500 abstract classes of app under a superinterface of boot with 500 methods, none of which a class declares
   crossed       500 classes of app over one another, each of which names a superinterface of boot and declares its method
   fans          1,000 classes of app over one another, the first of which names 1,000 interfaces of boot, all with the same method
@@ -234,7 +235,15 @@ def scanned(path, count=600):
 
 def described(path, names=100, descriptors=75):
     texts = ["(" + "".join(f"Lp/T{n * (place == 0)};" for place in range(254)) + ")V" for n in range(descriptors)]
-    methods = [(f"m{n}", text) for text in texts for n in range(names)]
+    overriding_all(path, [(f"m{n}", text) for text in texts for n in range(names)])
+
+
+def stretched(path, count=8000):
+    overriding_all(path, [(f"m{n}", f"(L{'x' * 65000};)V") for n in range(count)])
+
+
+def overriding_all(path, methods):
+    """A class of app over one of boot, both with these methods, as bytes."""
     classes = ((loader, name, class_file(name, above, methods)) for loader, name, above in (("boot", "p/B", OBJECT), ("app", "p/C", "p/B")))
     bundle(path, TWO, [TOP, *(f"%class {loader} {name}\n@hex {file.hex()}\n" for loader, name, file in classes)], ["link app p/C\n"])
 
@@ -395,7 +404,7 @@ def blocks(path, count=2000):
 
 def main(folder):
     os.makedirs(folder, exist_ok=True)
-    references = methods, settled, constraints, refused, described
+    references = methods, settled, constraints, refused, described, stretched
     chains = overriding, repeated, halves, crowned, paired, against, inherits, renamed, hiding, turning, slotted, broad, veiled, draped, scanned, offered, crossed, fans, plain, topped, wide, distinct, many, inherited, naming, interfaces, beside, comb, fringe, twos, combs, blocks
     for make in *references, ladder, links, *chains:
         make(f"{folder}/{make.__name__}")

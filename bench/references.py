@@ -22,7 +22,7 @@
   veiled        800 classes of app, of which each second hides the method that 800 interfaces of boot and the first class have
   draped        the same, each of which hides it names one more such interface
   scanned       600 classes of app over one another, each with ten methods that the last of 1,500 superinterfaces of boot has
-  described     a class of app over one of boot, each with 7,500 methods of 75 descriptors that name 254 classes each, as @hex
+  described     a class of app over one of boot, each with 7,500 methods of 75 descriptors of 254 parameters of class type, as @hex
   stretched     the same two, each with 8,000 methods that share one descriptor, of one class with a name of 65,000 bytes
   offered       500 abstract classes of app under a superinterface of boot with 500 methods, none of which a class declares
   crossed       500 classes of app over one another, each of which names a superinterface of boot and declares its method

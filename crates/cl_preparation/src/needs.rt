@@ -21,7 +21,7 @@ use std::marker::Model;
 /// Equalities, each once, in order.
 type Equals = IndexSet<Equality, Seed>;
 
-/// A descriptor of no more bytes is read, and what it names is looked for, about as fast as it is looked for itself.
+/// A descriptor of no more bytes names few classes, and is read again for each method that has it.
 const SHORT: usize = 64;
 
 /// Whether a method's descriptor is short.

@@ -1,53 +1,63 @@
--- Marks on places, one after another.
-use Rattle.std.proofs.Common.{◌≡◌, ◌∙◌, ◌⊎◌, ◌<◌, ◌+◌, inl, inr, ℕ, zero, suc, Bool, true, false, arith, List, [], ◌∷◌, ◌++◌, Some, get_or, length, take, refl, sym, ap, subst}
-use Rattle.std.specs.Prelude.{Contains, replicate, set, slice_get}
-use Rattle.std.proofs.lemmas.List.{take_more}
-use Rattle.std.proofs.lemmas.List.Elements.{Contains-append_left, Contains-append_right}
+-- Numbers of places, one after another.
+use Rattle.std.proofs.Common.{◌≡◌, ◌∙◌, ◌⊎◌, ◌≤◌, inl, inr, ℕ, zero, suc, List, [], ◌∷◌, ◌++◌, Some, get_or, length, refl, sym, ap, subst}
 use Rattle.std.proofs.lemmas.Option.{same_Some}
+use Rattle.std.specs.Prelude.{replicate, set, slice_get}
+use Rattle.cl_hierarchy.specs.OversAt.{IsCounted, sharing_in}
+use Rattle.cl_hierarchy.specs.declared.place_tour.OverAt.{OverAt}
 
--- ---- one mark more
+-- ---- one number more
 
-pub set_mark : (bs : List Bool) (place p : ℕ) → slice_get (set bs place true) p ≡ Some true → (slice_get bs p ≡ Some true) ⊎ (p ≡ place)
-set_mark [] place p h = inl h
-set_mark (b ∷ bs) zero zero h = inr refl
-set_mark (b ∷ bs) zero (suc p) h = inl h
-set_mark (b ∷ bs) (suc place) zero h = inl h
-set_mark (b ∷ bs) (suc place) (suc p) h = elim (set_mark bs place p h) [
+pub set_count : (ns : List ℕ) (place p n : ℕ) → (get_or (set ns place n) p 0 ≡ get_or ns p 0) ⊎ ((p ≡ place) × (get_or (set ns place n) p 0 ≡ n))
+set_count [] place p n = inl refl
+set_count (m ∷ ns) zero zero n = inr (refl, refl)
+set_count (m ∷ ns) zero (suc p) n = inl refl
+set_count (m ∷ ns) (suc place) zero n = inl refl
+set_count (m ∷ ns) (suc place) (suc p) n = elim (set_count ns place p n) [
   | inl e ↦ inl e
-  | inr e ↦ inr (ap suc e)
+  | inr e ↦ inr (ap suc e.0, e.1)
 ]
 
--- ---- marks on places
+nothing : (i : ℕ) → get_or {A = ℕ} [] i 0 ≡ 0
+nothing zero = refl
+nothing (suc i) = refl
 
-pub no_mark : (n p : ℕ) → slice_get (replicate n false) p ≡ Some true → ⊥
-no_mark zero p h = cc
-no_mark (suc n) zero h = let no : false ≡ true = same_Some false true h in cc
-no_mark (suc n) (suc p) h = no_mark n p h
+pub no_count : (n p : ℕ) → get_or {A = ℕ} (replicate n 0) p 0 ≡ 0
+no_count zero p = nothing p
+no_count (suc n) zero = refl
+no_count (suc n) (suc p) = no_count n p
 
-pub mark_more : (places : List ℕ) (i : ℕ) (old new : List Bool) → i < length places → ((p : ℕ) → slice_get new p ≡ Some true → (slice_get old p ≡ Some true) ⊎ (p ≡ get_or places i 0))
-    → ((p : ℕ) → slice_get old p ≡ Some true → Contains (take i places) p) → (p : ℕ) → slice_get new p ≡ Some true → Contains (take (i + 1) places) p
-mark_more places i old new lt step were p h =
-    subst (λ (ps : List ℕ). Contains ps p) (sym (take_more places i 0 lt)) (elim (step p h) [
-      | inl e ↦ Contains-append_left (take i places) (get_or places i 0 ∷ []) p (were p e)
-      | inr e ↦ Contains-append_right (take i places) (get_or places i 0 ∷ []) p (0, omega arith, sym e)
-    ])
+-- ---- numbers by places
 
--- ---- what is marked of places
+-- one more is kept
+pub count_more : (o : OverAt) (at place n : ℕ) (old new : List ℕ) → slice_get o.places.items at ≡ Some place → n ≤ suc (sharing_in o.passed o.more.items at) → ((p : ℕ) → IsCounted o p (get_or old p 0))
+    → ((p : ℕ) → (get_or new p 0 ≡ get_or old p 0) ⊎ ((p ≡ place) × (get_or new p 0 ≡ n))) → (p : ℕ) → IsCounted o p (get_or new p 0)
+count_more o at place n old new there le were step p = elim (step p) [
+  | inl e ↦ subst (λ (m : ℕ). IsCounted o p m) (sym e) (were p)
+  | inr e ↦ subst (λ (m : ℕ). IsCounted o p m) (sym e.1) (inr (at, there ∙ ap (λ (q : ℕ). Some q) (sym e.0), le))
+]
 
 -- one more is told
-pub told_more : (places : List ℕ) (i : ℕ) (old new marks : List Bool) (b : Bool) → i < length places → length old ≡ i → new ≡ old ++ b ∷ [] → (b ≡ true → slice_get marks (get_or places i 0) ≡ Some true)
-    → ((n p : ℕ) → slice_get old n ≡ Some true → slice_get places n ≡ Some p → slice_get marks p ≡ Some true)
-    → (n p : ℕ) → slice_get new n ≡ Some true → slice_get places n ≡ Some p → slice_get marks p ≡ Some true
-told_more places i old new marks b lt long is here were n p h at = by old places i n long lt (subst (λ (bs : List Bool). slice_get bs n ≡ Some true) is h) at were here
-  where
-    by : (old : List Bool) (places : List ℕ) (i n : ℕ) → length old ≡ i → i < length places → slice_get (old ++ b ∷ []) n ≡ Some true → slice_get places n ≡ Some p
-        → ((n p : ℕ) → slice_get old n ≡ Some true → slice_get places n ≡ Some p → slice_get marks p ≡ Some true) → (b ≡ true → slice_get marks (get_or places i 0) ≡ Some true) → slice_get marks p ≡ Some true
-    by [] [] i n long lt h at were here = absurd (omega (arith, lt))
-    by [] (q ∷ places) zero zero long lt h at were here = ap (λ (x : ℕ). slice_get marks x) (sym (same_Some q p at)) ∙ here (same_Some b true h)
-    by [] (q ∷ places) zero (suc n) long lt h at were here = absurd cc
-    by [] (q ∷ places) (suc i) n long lt h at were here = absurd (omega (arith, long))
-    by (x ∷ old) [] i n long lt h at were here = absurd (omega (arith, lt))
-    by (x ∷ old) (q ∷ places) zero n long lt h at were here = absurd (omega (arith, long))
-    by (x ∷ old) (q ∷ places) (suc i) zero long lt h at were here = were 0 p h at
-    by (x ∷ old) (q ∷ places) (suc i) (suc n) long lt h at were here =
-        by old places i n (omega (arith, long)) (omega (arith, lt)) h at (λ m o e f. were (suc m) o e f) here
+pushed : (ns : List ℕ) (n i : ℕ) → (get_or (ns ++ n ∷ []) i 0 ≡ get_or ns i 0) ⊎ ((i ≡ length ns) × (get_or (ns ++ n ∷ []) i 0 ≡ n))
+pushed [] n zero = inr (refl, refl)
+pushed [] n (suc i) = inl (nothing i)
+pushed (m ∷ ns) n zero = inl refl
+pushed (m ∷ ns) n (suc i) = elim (pushed ns n i) [
+  | inl e ↦ inl e
+  | inr e ↦ inr (ap suc e.0, e.1)
+]
+
+got : (places : List ℕ) (i p : ℕ) → slice_get places i ≡ Some p → get_or places i 0 ≡ p
+got [] zero p e = absurd cc
+got [] (suc i) p e = absurd cc
+got (q ∷ places) zero p e = same_Some q p e
+got (q ∷ places) (suc i) p e = got places i p e
+
+pub told_more : (o : OverAt) (counts places : List ℕ) (at n : ℕ) (old new : List ℕ) → length old ≡ at → new ≡ old ++ n ∷ [] → n ≡ get_or counts (get_or places at 0) 0 → ((p : ℕ) → IsCounted o p (get_or counts p 0))
+    → ((i p : ℕ) → slice_get places i ≡ Some p → IsCounted o p (get_or old i 0)) → (i p : ℕ) → slice_get places i ≡ Some p → IsCounted o p (get_or new i 0)
+told_more o counts places at n old new long is told counted were i p there = elim (pushed old n i) [
+  | inl e ↦ subst (λ (m : ℕ). IsCounted o p m) (sym (ap (λ (ns : List ℕ). get_or ns i 0) is ∙ e)) (were i p there)
+  | inr e ↦
+      let here : get_or places at 0 ≡ p = ap (λ (k : ℕ). get_or places k 0) (sym (e.0 ∙ long)) ∙ got places i p there in
+      let last : get_or new i 0 ≡ get_or counts p 0 = ap (λ (ns : List ℕ). get_or ns i 0) is ∙ e.1 ∙ told ∙ ap (λ (q : ℕ). get_or counts q 0) here in
+      subst (λ (m : ℕ). IsCounted o p m) (sym last) (counted p)
+]

@@ -4,16 +4,15 @@ ghost use Rattle.std.specs.Prelude.{◌≡◌, ◌≤◌, Some, length, is_some,
 ghost use Rattle.std.specs.List.{AllByRecursion};
 ghost use Rattle.cl_hierarchy.specs.ClassesAt.{lined_at, own_at};
 ghost use Rattle.cl_hierarchy.specs.Lineages.{IsLined, IsRowIn, kin_at, kin_of, rows_in};
-ghost use Rattle.cl_hierarchy.specs.OversAt.{AreShared, AreSharedAt, IsOverAt};
+ghost use Rattle.cl_hierarchy.specs.OversAt.{AreSharingAt, AreSharingIn, IsOnlyUnder, IsOverAt, IsUpAt};
 ghost use Rattle.cl_hierarchy.specs.PlaceTours.{AreSuperinterfacesAt};
 ghost use Rattle.cl_hierarchy.specs.Supers.{AreAllSupers};
-ghost use Rattle.cl_hierarchy.specs.Trees.{kin_under, kins};
-ghost use Rattle.cl_model.specs.Lineages.{first, superclasses, superinterfaces};
+ghost use Rattle.cl_model.specs.Lineages.{superinterfaces};
 
 use crate::lineage::Lineage;
 use crate::place_tour::{OverAt, rows_at, superinterface_places, up_at};
 use crate::row::ClassRow;
-use crate::shared::are_among;
+use crate::shared::counts_at;
 use crate::supers::{Supers, supers_of_all};
 use cl_model::Told;
 use std::alloc::{AllocError, Global};
@@ -25,8 +24,10 @@ pub struct Lineages<T: Told> {
     whole: Lineage<T>,
     /// Where the direct supertypes of each class stand, once `find_supers` looked for them.
     table: Option<Vec<Supers>>,
-    /// Where the superinterfaces of one class stand, once `find_superinterfaces` looked for those of one.
-    over: Option<OverAt>,
+    /// Where the superinterfaces of one class stand that is no interface, once `find_superinterfaces` looked for those of one.
+    over_class: Option<OverAt>,
+    /// The same of an interface: what stands above a class goes through both by turns.
+    over_interface: Option<OverAt>,
 }
 
 impl<T: Told> Drop for Lineages<T> {
@@ -34,7 +35,8 @@ impl<T: Told> Drop for Lineages<T> {
         let Lineages {
             whole: _,
             table: _,
-            over: _,
+            over_class: _,
+            over_interface: _,
         } = self;
     }
 }
@@ -49,7 +51,7 @@ impl<T: Told> Model for Lineages<T> {
 
     ghost view = { λ l. l.whole };
 
-    ghost invariant = { λ l. IfSome l.table (λ t. AreAllSupers (rows_in l.whole) (rows_in l.whole) t.items) × IfSome l.over (IsOverAt l.whole) };
+    ghost invariant = { λ l. IfSome l.table (λ t. AreAllSupers (rows_in l.whole) (rows_in l.whole) t.items) × IfSome l.over_class (IsOverAt l.whole) × IfSome l.over_interface (IsOverAt l.whole) };
 }
 
 impl<T: Told> Lineages<T> {
@@ -60,7 +62,8 @@ impl<T: Told> Lineages<T> {
         Lineages {
             whole,
             table: None,
-            over: None,
+            over_class: None,
+            over_interface: None,
         }
     }
 
@@ -81,7 +84,8 @@ impl<T: Told> Lineages<T> {
         let Lineages {
             whole,
             table: _,
-            over: _,
+            over_class: _,
+            over_interface: _,
         } = self;
         whole
     }
@@ -124,6 +128,50 @@ impl<T: Told> Lineages<T> {
         Ok(())
     }
 
+    /// What is kept of superinterfaces for one like the class at a place: for an interface, or for another class.
+    fn kept_for(&self, place: usize) -> Option<&OverAt>
+        requires within { place ≤ length self.now.above }
+        ensures { IfSome result (λ o. IsOverAt self.now o.now) }
+    {
+        // brings what the lineage keeps
+        let _ = self.lineage();
+        if self.whole.row_at(place).file().is_interface() {
+            self.over_interface.as_ref()
+        } else {
+            self.over_class.as_ref()
+        }
+    }
+
+    /// The same, given away.
+    fn take_kept(&mut self, place: usize) -> Option<OverAt>
+        requires within { place ≤ length self.old.above }
+        ensures same { self.new ≡ self.old }
+        ensures over { IfSome result (IsOverAt self.old) }
+    {
+        // brings what the lineage keeps
+        let _ = self.lineage();
+        if self.whole.row_at(place).file().is_interface() {
+            self.over_interface.take()
+        } else {
+            self.over_class.take()
+        }
+    }
+
+    /// Keeps it for one like the class at a place.
+    fn keep(&mut self, place: usize, over: OverAt)
+        requires within { place ≤ length self.old.above }
+        requires over { IsOverAt self.old over }
+        ensures same { self.new ≡ self.old }
+    {
+        // brings what the lineage keeps
+        let _ = self.lineage();
+        if self.whole.row_at(place).file().is_interface() {
+            self.over_interface = Some(over);
+        } else {
+            self.over_class = Some(over);
+        }
+    }
+
     /// The places of the rows of all superinterfaces of the class at a place.
     fn places_at(&self, alloc: Global, place: usize) -> Result<Vec<usize>, AllocError>
         requires within { place ≤ length self.now.above }
@@ -131,7 +179,7 @@ impl<T: Told> Lineages<T> {
             v.items) }
     {
         let rows = self.whole.rows();
-        let known = self.over.as_ref();
+        let known = self.kept_for(place);
         match &self.table {
             Some(table) => superinterface_places(alloc, rows, table.as_slice(), place, known),
             None => {
@@ -144,9 +192,7 @@ impl<T: Told> Lineages<T> {
     /// Where the superclass of the class at a place stands, if that is its one direct supertype and was looked for.
     fn only_up(&self, place: usize) -> Option<usize>
         requires within { place ≤ length self.now.above }
-        ensures { IfSome result (λ up. up ≤ length self.now.above
-            → superinterfaces (kin_of (lined_at self.now place))
-            ≡ superinterfaces (kin_of (lined_at self.now up))) }
+        ensures { IfSome result (λ up. up ≤ length self.now.above → IsOnlyUnder self.now place up) }
     {
         if self.whole.row_at(place).places().len() > 1 {
             return None;
@@ -157,24 +203,8 @@ impl<T: Told> Lineages<T> {
         }
     }
 
-    /// Whether the class at a place is known to have the superinterfaces of the class at another: it is that, or names none, and
-    /// that is its superclass.
-    fn shares_over(&self, place: usize, of: usize) -> bool
-        requires within { place ≤ length self.now.above }
-        requires of { of ≤ length self.now.above }
-        ensures { result ≡ true → superinterfaces (kin_of (lined_at self.now place))
-            ≡ superinterfaces (kin_of (lined_at self.now of)) }
-    {
-        if place == of {
-            return true;
-        }
-        match self.only_up(place) {
-            Some(up) => up == of,
-            None => false,
-        }
-    }
-
-    /// What is kept of superinterfaces, as that of the class at a place, if these are its own.
+    /// What is kept of superinterfaces, as that of the class at a place, if these are its own: it is that, or names none, and the other
+    /// is its superclass.
     fn take_over(&mut self, place: usize) -> Option<OverAt>
         requires within { place ≤ length self.old.above }
         ensures same { self.new ≡ self.old }
@@ -182,20 +212,17 @@ impl<T: Told> Lineages<T> {
     {
         // brings what the lineage keeps
         let _ = self.lineage();
-        let over = self.over.take()?;
+        let over = self.take_kept(place)?;
         if over.of == place {
             return Some(over);
         }
-        if !self.shares_over(place, over.of) {
-            self.over = Some(over);
-            return None;
+        match self.only_up(place) {
+            Some(up) if up == over.of => Some(over.below(place)),
+            _ => {
+                self.keep(place, over);
+                None
+            }
         }
-        let none = Vec::new(*over.places.allocator());
-        Some(OverAt {
-            of: place,
-            places: over.into_places(),
-            shared: none,
-        })
     }
 
     /// Keeps where the superinterfaces of the class at a place stand, if they are known to be those that are kept: it is so of a class
@@ -205,7 +232,7 @@ impl<T: Told> Lineages<T> {
         ensures same { self.new ≡ self.old }
     {
         if let Some(over) = self.take_over(place) {
-            self.over = Some(over);
+            self.keep(place, over);
         }
     }
 
@@ -220,42 +247,49 @@ impl<T: Told> Lineages<T> {
             Some(over) => over,
             None => self.look_over(alloc, place)?,
         };
-        self.over = Some(over);
+        self.keep(place, over);
         Ok(())
     }
 
-    /// Looks for the superinterfaces of the class at a place, and which of them are those of its superclass too.
+    /// Does so if those of its superclass are kept: so that of a class below it is known how many superclasses have one of them.
+    pub fn follow_superinterfaces(&mut self, alloc: Global, place: usize) -> Result<(), AllocError>
+        requires within { place ≤ length self.old.above }
+        ensures same { self.new ≡ self.old }
+    {
+        if self.kept_above(place).is_none() {
+            return Ok(());
+        }
+        self.find_superinterfaces(alloc, place)
+    }
+
+    /// Looks for the superinterfaces of the class at a place, and how many superclasses have each of them too.
     fn look_over(&self, alloc: Global, place: usize) -> Result<OverAt, AllocError>
         requires within { place ≤ length self.now.above }
         ensures { IfOk result (λ o. (o.of ≡ place) × IsOverAt self.now o) }
     {
         let found = self.places_at(alloc, place)?;
-        let shared = self.shared_of(alloc, place, found.as_slice())?;
+        let more = self.counts_of(alloc, place, found.as_slice())?;
         Ok(OverAt {
             of: place,
             places: found,
-            shared,
+            passed: 0,
+            more,
         })
     }
 
-    /// Which of the superinterfaces at these places its superclass has too, if those are kept.
-    fn shared_of(
+    /// How many superclasses have each of the superinterfaces at these places too, if those of the nearest are kept.
+    fn counts_of(
         &self,
         alloc: Global,
         place: usize,
         places: &[usize],
-    ) -> Result<Vec<bool>, AllocError>
+    ) -> Result<Vec<usize>, AllocError>
         requires within { place ≤ length self.now.above }
-        ensures { IfOk result (λ v. AreSharedAt (rows_in self.now) (own_at self.now place)
-            places.now v.items) }
+        ensures { IfOk result (λ v. AreSharingAt (rows_in self.now) (own_at self.now place)
+            places.now 0 v.items) }
     {
         match self.kept_above(place) {
-            Some(over) => are_among(
-                alloc,
-                self.whole.rows().len(),
-                over.places.as_slice(),
-                places,
-            ),
+            Some(over) => counts_at(alloc, self.whole.rows().len(), over, places),
             None => Ok(Vec::new(alloc)),
         }
     }
@@ -263,14 +297,11 @@ impl<T: Told> Lineages<T> {
     /// What is kept of superinterfaces, if it is that of the superclass of the class at a place.
     fn kept_above(&self, place: usize) -> Option<&OverAt>
         requires within { place ≤ length self.now.above }
-        ensures { IfSome result (λ o. IsOverAt self.now o.now
-            × (Some (kin_under (kins (rows_in self.now)) (own_at self.now o.now.of))
-            ≡ first (superclasses (kin_under (kins (rows_in self.now))
-            (own_at self.now place))))) }
+        ensures { IfSome result (λ o. IsOverAt self.now o.now × IsUpAt self.now place o.now.of) }
     {
         // brings what the lineage keeps
         let _ = self.lineage();
-        let over = self.over.as_ref()?;
+        let over = self.kept_for(place)?;
         let table = self.table.as_ref()?;
         match up_at(table.as_slice(), place) {
             Some(up) if up == over.of => Some(over),
@@ -278,20 +309,18 @@ impl<T: Told> Lineages<T> {
         }
     }
 
-    /// Of the superinterfaces of the class at a place, in the order of `superinterfaces_at`, which are known to be its superclass's
-    /// too, where `find_superinterfaces` looked for those of that one and then of this. Of those behind the last mark, and where there
-    /// is no answer, nothing is known. Constant time, no memory.
-    pub fn shared_at(&self, place: usize) -> Option<&[bool]>
+    /// How many superclasses of the class at a place, from the nearest on, are known to have its superinterface of this number in
+    /// `superinterfaces_at` too: where `find_superinterfaces` looked for those of the nearest and then of this class, all that do of those
+    /// of which it looked one after another; else none. Constant time, no memory.
+    pub fn sharing_at(&self, place: usize, index: usize) -> usize
         requires within { place ≤ length self.now.above }
-        ensures { IfSome result (λ v. AreShared (kin_of (lined_at self.now place)) v.now) }
+        ensures { AreSharingIn (kin_of (lined_at self.now place)) index result }
     {
         // brings what the lineage keeps
         let _ = self.lineage();
-        let over = self.over.as_ref()?;
-        if over.of == place {
-            Some(over.shared.as_slice())
-        } else {
-            None
+        match self.kept_for(place) {
+            Some(over) if over.of == place => over.sharing(index),
+            _ => 0,
         }
     }
 
@@ -301,7 +330,7 @@ impl<T: Told> Lineages<T> {
         ensures { IfSome result (λ v. AreSuperinterfacesAt (rows_in self.now)
             (own_at self.now place) v.now) }
     {
-        let over = self.over.as_ref()?;
+        let over = self.kept_for(place)?;
         if over.of == place {
             Some(over.places.as_slice())
         } else {

@@ -1,7 +1,8 @@
 //! Tours through the superinterfaces of a class by the places of their rows: no name is looked at, and none kept (JVMS SE 8,
 //! 5.4.3.3).
 
-ghost use Rattle.std.specs.Prelude.{◌≡◌, ◌<◌, List, [], ◌++◌, Some, false, length, map, option_map, option_to_list, slice_get, true, IfOk, IfSome, OnOk};
+ghost use Rattle.std.specs.Prelude.{◌≡◌, ◌<◌, ◌≤◌, ◌+◌, List, [], ◌++◌, Some, false, length, map, option_map, option_to_list, slice_get, true, IfOk, IfSome, OnOk};
+ghost use Rattle.cl_hierarchy.specs.OversAt.{sharing_in};
 ghost use Rattle.cl_hierarchy.specs.PlaceTours.{AreKnown, AreSuperinterfacesAt, AreTold, IsOpened, IsPushed, IsTold, Moves, Passes, Steps, rows_at};
 ghost use Rattle.cl_hierarchy.specs.Rows.{Rowed};
 ghost use Rattle.cl_hierarchy.specs.Supers.{AreAllSupers, place_in};
@@ -17,12 +18,15 @@ use std::alloc::{AllocError, Global};
 use std::marker::Model;
 use std::sync::Arc;
 
-/// Where the superinterfaces of the class at a place stand, and of each whether it is known to be one of its superclass too: of
-/// those behind the last mark it is not.
+/// Where the superinterfaces of the class at a place stand, and of each how many superclasses, from the nearest on, are known to
+/// have it too.
 pub(crate) struct OverAt {
     pub of: usize,
     pub places: Vec<usize>,
-    pub shared: Vec<bool>,
+    /// So many of its superclasses have all of them.
+    pub passed: usize,
+    /// Of each how many more have it; of those behind the last number none.
+    pub more: Vec<usize>,
 }
 
 impl Drop for OverAt {
@@ -30,22 +34,42 @@ impl Drop for OverAt {
         let OverAt {
             of: _,
             places: _,
-            shared: _,
+            passed: _,
+            more: _,
         } = self;
     }
 }
 
 impl OverAt {
-    /// The places.
-    pub fn into_places(self) -> Vec<usize>
-        ensures { result.items ≡ self.places.items }
+    /// The same of the class at a place, which has those of its superclass, of which these are.
+    pub fn below(self, place: usize) -> OverAt
+        ensures of { result.of ≡ place }
+        ensures places { result.places.items ≡ self.places.items }
+        ensures passed { result.passed ≤ self.passed + 1 }
+        ensures more { result.more.items ≡ self.more.items }
     {
         let OverAt {
             of: _,
             places,
-            shared: _,
+            passed,
+            more,
         } = self;
-        places
+        OverAt {
+            of: place,
+            places,
+            passed: passed.saturating_add(1),
+            more,
+        }
+    }
+
+    /// How many superclasses, from the nearest on, are known to have the superinterface of this number.
+    pub fn sharing(&self, index: usize) -> usize
+        ensures { result ≤ sharing_in self.now.passed self.now.more.items index }
+    {
+        match self.more.get(index) {
+            Some(more) => self.passed.saturating_add(*more),
+            None => self.passed,
+        }
     }
 }
 

@@ -1,63 +1,61 @@
-//! Which superinterfaces of a class are its superclass's too, by the places of their rows (JVMS SE 8, 5.4.3.3).
+//! How many superclasses of a class have its superinterfaces too, by the places of their rows (JVMS SE 8, 5.4.3.3).
 
-ghost use Rattle.std.specs.Prelude.{◌≡◌, ◌⊎◌, ℕ, Contains, Some, slice_get, true, IfOk};
+ghost use Rattle.std.specs.Prelude.{◌≡◌, ◌⊎◌, ℕ, Some, get_or, slice_get, IfOk};
+ghost use Rattle.cl_hierarchy.specs.OversAt.{IsCounted};
 
+use crate::place_tour::OverAt;
 use std::alloc::{AllocError, Global};
 
-/// Marks a place, if there is one.
-fn mark(marks: &mut Vec<bool>, place: usize)
-    ensures { (p : ℕ) → slice_get marks.new.items p ≡ Some true
-        → (slice_get marks.old.items p ≡ Some true) ⊎ (p ≡ place) }
+/// Keeps a number of a place, if there is one.
+fn count_at(counts: &mut Vec<usize>, place: usize, count: usize)
+    ensures { (p : ℕ) → (get_or counts.new.items p 0 ≡ get_or counts.old.items p 0)
+        ⊎ ((p ≡ place) × (get_or counts.new.items p 0 ≡ count)) }
 {
-    if place < marks.len() {
-        marks[place] = true;
+    if place < counts.len() {
+        counts[place] = count;
     }
 }
 
-/// Of so many places, marks on these.
-fn marks_on(alloc: Global, count: usize, places: &[usize]) -> Result<Vec<bool>, AllocError>
-    ensures { IfOk result (λ v. (p : ℕ) → slice_get v.items p ≡ Some true
-        → Contains places.now p) }
+/// Of each of so many places how many superclasses of a class whose superclass has these superinterfaces have the one there too.
+fn counts_below(alloc: Global, rows: usize, over: &OverAt) -> Result<Vec<usize>, AllocError>
+    ensures { IfOk result (λ v. (p : ℕ) → IsCounted over.now p (get_or v.items p 0)) }
 {
-    let mut marks = vec![in alloc; false; count]?;
-    for place in places {
-        mark(&mut marks, *place);
+    let mut counts = vec![in alloc; 0usize; rows]?;
+    for at in 0..over.places.len() {
+        count_at(
+            &mut counts,
+            over.places[at],
+            over.sharing(at).saturating_add(1),
+        );
     }
-    Ok(marks)
+    Ok(counts)
 }
 
-/// Whether a place is marked.
-fn has_mark(marks: &[bool], place: usize) -> bool
-    ensures { result ≡ true → slice_get marks.now place ≡ Some true }
+/// The number of a place; of one that has none it is 0.
+fn count_of(counts: &[usize], place: usize) -> usize
+    ensures { result ≡ get_or counts.now place 0 }
 {
-    match marks.get(place) {
-        Some(is_marked) => *is_marked,
-        None => false,
+    match counts.get(place) {
+        Some(count) => *count,
+        None => 0,
     }
 }
 
-/// Of each of these places whether it is marked.
-fn marked_of(alloc: Global, marks: &[bool], places: &[usize]) -> Result<Vec<bool>, AllocError>
-    ensures { IfOk result (λ v. (i p : ℕ) → slice_get v.items i ≡ Some true
-        → slice_get places.now i ≡ Some p → slice_get marks.now p ≡ Some true) }
-{
-    let mut marked = Vec::with_capacity(alloc, places.len())?;
-    for place in places {
-        marked.push(has_mark(marks, *place))?;
-    }
-    Ok(marked)
-}
-
-/// Of each of these places, which are fewer than so many, whether it is among others.
-pub(crate) fn are_among(
+/// Of each of the superinterfaces at these places of a class, which are fewer than so many, how many superclasses have it too, where
+/// its superclass has these.
+pub(crate) fn counts_at(
     alloc: Global,
-    count: usize,
-    others: &[usize],
+    rows: usize,
+    over: &OverAt,
     places: &[usize],
-) -> Result<Vec<bool>, AllocError>
-    ensures { IfOk result (λ v. (i p : ℕ) → slice_get v.items i ≡ Some true
-        → slice_get places.now i ≡ Some p → Contains others.now p) }
+) -> Result<Vec<usize>, AllocError>
+    ensures { IfOk result (λ v. (i p : ℕ) → slice_get places.now i ≡ Some p
+        → IsCounted over.now p (get_or v.items i 0)) }
 {
-    let marks = marks_on(alloc, count, others)?;
-    marked_of(alloc, marks.as_slice(), places)
+    let counts = counts_below(alloc, rows, over)?;
+    let mut found = Vec::with_capacity(alloc, places.len())?;
+    for place in places {
+        found.push(count_of(counts.as_slice(), *place))?;
+    }
+    Ok(found)
 }

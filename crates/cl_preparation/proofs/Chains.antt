@@ -117,7 +117,7 @@ by_rows v c (x ∷ xs) = ap (λ (ns : List Need). flat_map (fewer_inherited c (b
 
 -- ---- the first half
 
-module _ {S : Type 0} (l : Lined) (own : Rowed) (survey : Survey) (above : IndexMap MethodTexts Above S) (over : List Rowed) (shared : List Bool) (is : IsChained l own survey above over shared) where
+module _ {S : Type 0} (l : Lined) (own : Rowed) (survey : Survey) (above : IndexMap MethodTexts Above S) (over : List Rowed) (all : Lined) (place : ℕ) (is : IsChained l own survey above over all place) where
   -- the loaders of superclasses, and then those of superinterfaces
   pub chained_over : (of : List Rowed) → AddLoaders l of → (key : Key) (loader : ℕ) (up all : List ℕ) → takes_part key (kin_of l) ≡ true → loader ≡ own.class.loader → up ≡ others_after loader [] (loaders (filter (opens key) (superclasses (kin_of l))))
       → all ≡ up ++ others_after loader up (loaders (filter (takes_part key) (map bare of))) → all ≡ others_after l.own.class.loader [] (loaders_over (kin_of l) key)

@@ -1,16 +1,15 @@
 -- What a class inherits is imposed where its superclass is prepared, with the superinterfaces that this one has too, but for what it hides.
-use Rattle.std.proofs.Common.{◌≡◌, ◌∙◌, ◌⊎◌, ◌&&◌, ◌++◌, inl, inr, ℕ, Bool, true, false, not, if◌then◌else◌, Option, Some, None, List, [], ◌∷◌, ◌+◌, ◌<◌, ◌≤◌, zero, suc, filter, append-nil, arith, get_or, length, map, take, refl, ap, sym, subst}
-use Rattle.std.specs.Prelude.{Contains, find, flat_map, is_some, option_map, slice_get}
+use Rattle.std.proofs.Common.{◌≡◌, ◌∙◌, ◌⊎◌, ◌&&◌, ◌++◌, inl, inr, ℕ, Bool, true, false, not, if◌then◌else◌, Option, Some, None, List, [], ◌∷◌, ◌+◌, ◌-◌, ◌<◌, ◌≤◌, zero, suc, filter, append-nil, arith, get_or, length, map, take, refl, ap, sym, subst}
+use Rattle.std.specs.Prelude.{Contains, IfSome, find, flat_map, is_some, nat_le, option_map, slice_get}
 use Rattle.std.specs.List.{AllByRecursion}
-use Rattle.std.proofs.lemmas.Bool.{and_parts}
+use Rattle.std.proofs.lemmas.Bool.{and_parts, leb-true}
 use Rattle.std.proofs.lemmas.Grind.{flat_map-append}
 use Rattle.std.proofs.lemmas.List.{take_more}
 use Rattle.std.proofs.lemmas.Option.{same_Some, slice_get-map}
 use Rattle.std.proofs.lemmas.List.Elements.{All-contains, All-from_recursion, Contains-append_left, Contains-append_right}
 use Rattle.cl_classfile.specs.Files.{Key, Member, file_of, is_interface, member, same_key}
 use Rattle.cl_model.specs.declared.class.Class.{Class}
-use Rattle.cl_model.specs.Lineages.{Bare, Forest, Kin, Tree, alone, first, if_declared, is_offered, is_virtual, method_of, once, preorder, superclasses, superinterfaces, upward}
-use Rattle.cl_model.specs.Classes.{same_class}
+use Rattle.cl_model.specs.Lineages.{Bare, Forest, Kin, Tree, alone, if_declared, is_offered, is_virtual, method_of, once, preorder, superclasses, superinterfaces, upward}
 use Rattle.cl_model.specs.Preparation.{constraints_of, equals_of, equals_with, for_declared, for_inherited, inherited_from, is_special, overridden, takes_part, with_inherited}
 use Rattle.cl_model.specs.States.{AllMet, Need, State}
 use Rattle.cl_model.proofs.Closed.{met_both}
@@ -18,19 +17,19 @@ use Rattle.cl_model.proofs.Keys.{keys_are_told}
 use Rattle.cl_model.proofs.Progress.{met_split}
 use Rattle.cl_hierarchy.specs.Imposed.{constraints_above}
 use Rattle.cl_hierarchy.specs.Lineages.{Lined, kin_at, kin_of}
-use Rattle.cl_hierarchy.specs.OversAt.{IsOverAbove, IsSharedIn}
+use Rattle.cl_hierarchy.specs.OversAt.{AreSharing, AreSharingIn}
 use Rattle.cl_hierarchy.specs.Rows.{Rowed}
-use Rattle.cl_hierarchy.specs.Trees.{forest, in_front, kin_named, kin_under, kins, kins_after, superclass_in}
-use Rattle.cl_hierarchy.proofs.Ways.{up_class}
+use Rattle.cl_hierarchy.specs.Trees.{forest, in_front, kin_named, kins, superclass_in}
+use Rattle.cl_hierarchy.proofs.OversAt.{next_up}
 use Rattle.cl_preparation.specs.Listings.{Listing}
-use Rattle.cl_preparation.specs.Chains.{AreImposed, AreOver, CoversHidden, IsClassAbove, by_row, hidden_by}
+use Rattle.cl_preparation.specs.Chains.{AreImposed, AreOver, CoversHidden, IsClassAbove, IsShownOrSpared, by_row, hidden_by}
 use Rattle.cl_preparation.specs.Nearby.{AddAll}
 use Rattle.cl_preparation.specs.Fewer.{AddsLeft, IsImposed, by_methods, by_superinterfaces, fewer_inherited, is_between, unhidden}
-use Rattle.cl_preparation.specs.Relatives.{bare, names_interfaces, names_over}
-use Rattle.cl_preparation.specs.Spared.{Declared, IsSpared, MetAbove, Unmixed, is_met_above}
+use Rattle.cl_preparation.specs.Relatives.{bare, names_interfaces}
+use Rattle.cl_preparation.specs.Spared.{Declared, Hider, IsSpared, MetAbove, Unmixed, are_enough, is_met_above}
 use Rattle.cl_preparation.specs.Surveys.{IsPart, IsUnmixed}
 use Rattle.cl_preparation.specs.Walks.{hides}
-use Rattle.cl_preparation.proofs.Chains.{by_rows, front_is}
+use Rattle.cl_preparation.proofs.Chains.{by_rows}
 use Rattle.cl_preparation.proofs.Interfaces.{IsFew, few_superclasses, none_over}
 use Rattle.cl_preparation.proofs.Standing.{left_more}
 use Rattle.cl_preparation.proofs.Surveyed.{over_unmixed}
@@ -103,8 +102,8 @@ over_same k s up none =
     ∙ ap (λ (ks : List Kin). once ks) (append-nil (preorder s.interfaces true ++ preorder s.superclass false))
 
 -- it inherits of its superclass what that one offers, and else what that one inherits
-inherits : (k s : Kin) (key : Key) → k.superclass ≡ alone s → inherited_from k key ≡ (if is_offered key s then Some s else inherited_from s key)
-inherits k s key up = ap (λ (f : Forest). find (is_offered key) (upward f)) up
+inherits : (k s : Kin) (key : Key) → superclasses k ≡ s ∷ superclasses s → inherited_from k key ≡ (if is_offered key s then Some s else inherited_from s key)
+inherits k s key up = ap (λ (ks : List Kin). find (is_offered key) ks) up
 
 -- what a class hides is of a kind of which each of its methods is that is private or static
 hidden_has : (U : Key → Type 0) (s : Kin) → AllByRecursion (λ (m : Member). (is_offered m.key s ≡ true) ⊎ U m.key) s.file.methods → (key : Key) → hides key s ≡ true → U key
@@ -121,7 +120,7 @@ hidden_has U s fine key on = by (method_of s key) refl on
 
 -- ---- each method of each of these superinterfaces
 
-module _ (k s : Kin) (st : State) (up : k.superclass ≡ alone s) (firsts : AllMet st (flat_map (for_declared s) s.file.methods)) where
+module _ (k s : Kin) (st : State) (up : superclasses k ≡ s ∷ superclasses s) (firsts : AllMet st (flat_map (for_declared s) s.file.methods)) where
   abbrev over : Key → List Kin
   over key = filter (takes_part key) (superinterfaces s)
 
@@ -205,22 +204,13 @@ module _ (k s : Kin) (st : State) (up : k.superclass ≡ alone s) (firsts : AllM
 
 -- ---- what farther superclasses have imposed
 
--- each of these classes has one superclass at most, and one that names no superinterfaces has none of its own
-abbrev IsStraight : Forest → Type 0
-IsStraight Bare = Unit {0}
-IsStraight (Tree c f sup ints more) = (more ≡ Bare) × (is_some (slice_get f.interfaces 0) ≡ false → ints ≡ Bare) × IsStraight sup
-
 module _ (st : State) (j : Kin) (m : Member) (part : takes_part m.key j ≡ true) (within : Contains j.file.methods m) where
-  -- the first of these has the superinterface
-  abbrev HasFirst : Forest → Type 0
-  HasFirst f = (t : Kin) → Some t ≡ first (upward f) → Contains (superinterfaces t) j
-
   -- what a class would impose by the method, if it declared none, is met
   abbrev IsMet : Kin → Type 0
   IsMet s = AllMet st (with_inherited m.key j (inherited_from s m.key))
 
   -- the superclass declares the method, and offers it, or declares none
-  shown_met : (s t : Kin) → s.superclass ≡ alone t → is_interface t.file ≡ false → hides m.key t ≡ false → Contains (superinterfaces t) j → AllMet st (constraints_of t) → IsMet s
+  shown_met : (s t : Kin) → superclasses s ≡ t ∷ superclasses t → is_interface t.file ≡ false → hides m.key t ≡ false → Contains (superinterfaces t) j → AllMet st (constraints_of t) → IsMet s
   shown_met s t up class shown there mine = by (is_offered m.key t) (method_of t m.key) refl refl
     where
       firsts : List Need
@@ -244,41 +234,34 @@ module _ (st : State) (j : Kin) (m : Member) (part : takes_part m.key j ≡ true
           (subst (λ (o : Option Member). AllMet st (if true && not (is_some o) then with_inherited m.key j (inherited_from t m.key) else [])) e
           (subst (λ (b : Bool). AllMet st (if b && not (is_some (method_of t m.key)) then with_inherited m.key j (inherited_from t m.key) else [])) part imposed))
 
-  -- the superclass of a class that names no superinterfaces has those of that
-  has_next : (t : Kin) (f : Forest) → t.superclass ≡ f → t.interfaces ≡ Bare → IsStraight f → Contains (superinterfaces t) j → HasFirst f
-  has_next t Bare up none one there = λ u is. absurd cc
-  has_next t (Tree c f sup ints more) up none one there = λ u is.
-      let w : Kin = record { class = c; file = f; superclass = sup; interfaces = ints } in
-      subst (λ (x : Kin). Contains (superinterfaces x) j) (sym (same_Some u w is))
-      (subst (λ (ks : List Kin). Contains ks j) (over_same t w (up ∙ ap (λ (x : Forest). Tree c f sup ints x) one.0) none) there)
-
-  far_step : (s t : Kin) → s.superclass ≡ alone t → (names_over t ≡ false → t.interfaces ≡ Bare) → IsStraight t.superclass → Contains (superinterfaces t) j → is_met_above m.key (t ∷ superclasses t) ≡ true
-      → AllMet st (constraints_of t ++ flat_map constraints_of (superclasses t)) → (HasFirst t.superclass → is_met_above m.key (superclasses t) ≡ true → AllMet st (flat_map constraints_of (superclasses t)) → IsMet t) → IsMet s
-  far_step s t up none one there e met rest = by (is_interface t.file) (hides m.key t) (names_over t) (is_met_above m.key (superclasses t)) refl refl refl refl e
+  far_step : (s t : Kin) (ks : List Kin) → superclasses s ≡ t ∷ superclasses t → Contains (superinterfaces t) j → is_met_above m.key (t ∷ ks) ≡ true → AllMet st (constraints_of t ++ flat_map constraints_of (superclasses t))
+      → (is_met_above m.key ks ≡ true → AllMet st (flat_map constraints_of (superclasses t)) → IsMet t) → IsMet s
+  far_step s t ks up there e met rest = by (is_interface t.file) (hides m.key t) (is_met_above m.key ks) refl refl refl e
     where
       both : AllMet st (constraints_of t) × AllMet st (flat_map constraints_of (superclasses t))
       both = met_split st (constraints_of t) (flat_map constraints_of (superclasses t)) met
 
-      by : (c h n r : Bool) → is_interface t.file ≡ c → hides m.key t ≡ h → names_over t ≡ n → is_met_above m.key (superclasses t) ≡ r → (not c && (if h then not n && r else true)) ≡ true → IsMet s
-      by true h n r ce he ne re e = absurd cc
-      by false false n r ce he ne re e = shown_met s t up ce he there both.0
-      by false true true r ce he ne re e = absurd cc
-      by false true false false ce he ne re e = absurd cc
-      by false true false true ce he ne re e =
+      by : (c h r : Bool) → is_interface t.file ≡ c → hides m.key t ≡ h → is_met_above m.key ks ≡ r → (not c && (if h then r else true)) ≡ true → IsMet s
+      by true h r ce he re e = absurd cc
+      by false false r ce he re e = shown_met s t up ce he there both.0
+      by false true false ce he re e = absurd cc
+      by false true true ce he re e =
           let off : is_offered m.key t ≡ false = unoffered (is_some (method_of t m.key)) (is_offered m.key t) he in
-          subst (λ (x : Option Kin). AllMet st (with_inherited m.key j x)) (sym (inherits s t m.key up ∙ ap (λ (b : Bool). if b then Some t else inherited_from t m.key) off))
-          (rest (has_next t t.superclass refl (none ne) one there) re both.1)
+          subst (λ (x : Option Kin). AllMet st (with_inherited m.key j x)) (sym (inherits s t m.key up ∙ ap (λ (b : Bool). if b then Some t else inherited_from t m.key) off)) (rest re both.1)
         where
           unoffered : (a b : Bool) → (a && not b) ≡ true → b ≡ false
           unoffered true true h = absurd cc
           unoffered true false h = refl
           unoffered false b h = absurd cc
 
-  far_met : (s : Kin) (f : Forest) → s.superclass ≡ f → IsStraight f → HasFirst f → is_met_above m.key (upward f) ≡ true → AllMet st (flat_map constraints_of (upward f)) → IsMet s
-  far_met s Bare up one there e met = absurd cc
-  far_met s (Tree c f sup ints more) up one there e met =
+  -- of these superclasses so many have the superinterface, and one of them does not hide the method
+  far_met : (s : Kin) (f : Forest) (n : ℕ) → superclasses s ≡ upward f → AllByRecursion (λ (a : Kin). Contains (superinterfaces a) j) (take n (upward f)) → is_met_above m.key (take n (upward f)) ≡ true → AllMet st (flat_map constraints_of (upward f)) → IsMet s
+  far_met s Bare zero up all e met = absurd cc
+  far_met s Bare (suc n) up all e met = absurd cc
+  far_met s (Tree c f sup ints more) zero up all e met = absurd cc
+  far_met s (Tree c f sup ints more) (suc n) up all e met =
       let t : Kin = record { class = c; file = f; superclass = sup; interfaces = ints } in
-      far_step s t (up ∙ ap (λ (x : Forest). Tree c f sup ints x) one.0) one.1 one.2 (there t refl) e met (λ there e met. far_met t sup refl one.2 there e met)
+      far_step s t (take n (upward sup)) up all.0 e met (λ e met. far_met t sup n refl all.1 e met)
 
 -- what a class itself imposes by the method is met, whether it declares it or not
 spared_met : (st : State) (j : Kin) (m : Member) (k : Kin) → (takes_part m.key j ≡ true → AllMet st (with_inherited m.key j (inherited_from k m.key))) → AllMet st (fewer_inherited k j m)
@@ -297,92 +280,104 @@ declared_met_too st j m k has = met_filter st is_between (for_inherited k j m) (
     by true true e = tt
     by true false e = absurd cc
 
--- ---- a superinterface that the superclass has too
+-- ---- a superinterface that superclasses have too
 
--- what a class would impose with each superinterface that its superclass has too is imposed, but for these methods
-abbrev pub ImposesShared : Kin → (Key → Bool) → Type 0
-ImposesShared c hidden = (j : Kin) → IsOverAbove c j → Contains (superinterfaces c) j → IsImposed c hidden j
+-- what a class would impose with each superinterface that so many superclasses have too is imposed, but for these methods
+abbrev pub ImposesShared : Kin → (ℕ → Key → Bool) → Type 0
+ImposesShared c hidden = (j : Kin) (n : ℕ) → 1 ≤ n → AreSharing c j n → Contains (superinterfaces c) j → IsImposed c (hidden n) j
+
+-- the nearest of them has it
+nearest_has : (k s j : Kin) (n : ℕ) → superclasses k ≡ s ∷ superclasses s → 1 ≤ n → AreSharing k j n → Contains (superinterfaces s) j
+nearest_has k s j zero up some over = absurd (omega (arith, some))
+nearest_has k s j (suc n) up some over = (subst (λ (ks : List Kin). AllByRecursion (λ a. Contains (superinterfaces a) j) (take (suc n) ks)) up over).0
 
 -- the superclass is no interface, and of the methods that it hides those that are not among these are spared
-imposes : (U : Key → Type 0) (hidden : Key → Bool) (k s : Kin) → k.superclass ≡ alone s → is_interface s.file ≡ false → ((key : Key) → hides key s ≡ true → (hidden key ≡ true) ⊎ U key)
-    → ((st : State) (j : Kin) (m : Member) → AllMet st (constraints_above k) → Contains (superinterfaces s) j → Contains (superinterfaces k) j → Contains j.file.methods m → U m.key → AllMet st (fewer_inherited k j m)) → ImposesShared k hidden
-imposes U hidden k s up class told spared = λ j over among st h.
+imposes : (U : ℕ → Key → Type 0) (hidden : ℕ → Key → Bool) (k s : Kin) → superclasses k ≡ s ∷ superclasses s → is_interface s.file ≡ false → ((n : ℕ) (key : Key) → hides key s ≡ true → (hidden n key ≡ true) ⊎ U n key)
+    → ((st : State) (j : Kin) (m : Member) (n : ℕ) → AllMet st (constraints_above k) → AreSharing k j n → Contains (superinterfaces k) j → Contains j.file.methods m → U n m.key → AllMet st (fewer_inherited k j m)) → ImposesShared k hidden
+imposes U hidden k s up class told spared = λ j n some over among st h.
     let firsts : List Need = flat_map (for_declared s) s.file.methods in
     let second : List Need = flat_map (λ (x : Kin). flat_map (for_inherited s x) x.file.methods) (superinterfaces s) in
-    let all : AllMet st (constraints_of s ++ flat_map constraints_of (superclasses s)) = subst (λ (f : Forest). AllMet st (flat_map constraints_of (upward f))) up h in
+    let all : AllMet st (constraints_of s ++ flat_map constraints_of (superclasses s)) = subst (λ (ks : List Kin). AllMet st (flat_map constraints_of ks)) up h in
     let both = met_split st firsts (if is_interface s.file then [] else second) (met_split st (constraints_of s) (flat_map constraints_of (superclasses s)) all).0 in
     let seconds : AllMet st second = subst (λ (b : Bool). AllMet st (if b then [] else second)) class both.1 in
-    let same : over.above ≡ s = same_Some over.above s (over.up ∙ ap (λ (f : Forest). first (upward f)) up) in
-    let there : Contains (superinterfaces s) j = subst (λ (x : Kin). Contains (superinterfaces x) j) same over.over in
-    let free : AllByRecursion (λ (m : Member). hides m.key s ≡ true → hidden m.key ≡ false → AllMet st (fewer_inherited k j m)) j.file.methods =
-    each_in (λ (m : Member). hides m.key s ≡ true → hidden m.key ≡ false → AllMet st (fewer_inherited k j m)) j.file.methods (λ m within on off. one m (told m.key on) off (spared st j m h there among within)) in
-    methods_met k s st up both.0 j hidden j.file.methods there free (met_in st (λ (x : Kin). flat_map (for_inherited s x) x.file.methods) (superinterfaces s) j seconds there)
+    let there : Contains (superinterfaces s) j = nearest_has k s j n up some over in
+    let free : AllByRecursion (λ (m : Member). hides m.key s ≡ true → hidden n m.key ≡ false → AllMet st (fewer_inherited k j m)) j.file.methods =
+    each_in (λ (m : Member). hides m.key s ≡ true → hidden n m.key ≡ false → AllMet st (fewer_inherited k j m)) j.file.methods (λ m within on off. one n m (told n m.key on) off (spared st j m n h over among within)) in
+    methods_met k s st up both.0 j (hidden n) j.file.methods there free (met_in st (λ (x : Kin). flat_map (for_inherited s x) x.file.methods) (superinterfaces s) j seconds there)
   where
-    one : {A : Type 0} (m : Member) → (hidden m.key ≡ true) ⊎ U m.key → hidden m.key ≡ false → (U m.key → A) → A
-    one m (inl on) off f = absurd (let no : true ≡ false = sym on ∙ off in cc)
-    one m (inr u) off f = f u
+    one : {A : Type 0} (n : ℕ) (m : Member) → (hidden n m.key ≡ true) ⊎ U n m.key → hidden n m.key ≡ false → (U n m.key → A) → A
+    one n m (inl on) off f = absurd (let no : true ≡ false = sym on ∙ off in cc)
+    one n m (inr u) off f = f u
 
 -- ---- as rows tell it
 
--- a class that is so, and what stands above it
-abbrev IsSingle : Kin → Type 0
-IsSingle k = (names_over k ≡ false → k.interfaces ≡ Bare) × IsStraight k.superclass
-
-found_single : (known : List Kin) (c : Class) (k : Kin) → AllByRecursion IsSingle known → kin_named known c ≡ Some k → IsSingle k
-found_single [] c k all e = absurd cc
-found_single (x ∷ known) c k all e = by (same_class c x.class) e (λ h. found_single known c k all.1 h)
-  where
-    by : (b : Bool) → (if b then Some x else kin_named known c) ≡ Some k → (kin_named known c ≡ Some k → IsSingle k) → IsSingle k
-    by true h rest = subst IsSingle (same_Some x k h) all.0
-    by false h rest = rest h
-
-straight_of : (known : List Kin) (cs : List Class) → AllByRecursion IsSingle known → IsFew cs → IsStraight (forest known cs)
-straight_of known cs all (inl none) = subst (λ (xs : List Class). IsStraight (forest known xs)) (sym none) tt
-straight_of known cs all (inr one) = subst (λ (xs : List Class). IsStraight (forest known xs)) (sym one.1) (by (kin_named known one.0) refl)
-  where
-    by : (o : Option Kin) → kin_named known one.0 ≡ o → IsStraight (in_front o Bare)
-    by None e = tt
-    by (Some k) e = let is = found_single known one.0 k all e in (refl, is.0, is.1)
-
-single_under : (known : List Kin) (r : Rowed) → AllByRecursion IsSingle known → IsSingle (kin_under known r)
-single_under known r all = (λ none. ap (λ (cs : List Class). forest known cs) (none_over r none), straight_of known (superclass_in r) all (few_superclasses r))
-
-single_after : (known : List Kin) (rows : List Rowed) → AllByRecursion IsSingle known → AllByRecursion IsSingle (kins_after known rows)
-single_after known [] all = all
-single_after known (r ∷ rows) all = single_after (kin_under known r ∷ known) rows (single_under known r all, all)
-
 -- what is spared is met
-spared_at : (l : Lined) (rows : List Rowed) (s : Kin) → IsPart rows l → (kin_of l).superclass ≡ alone s → (st : State) (j : Kin) (m : Member) → AllMet st (constraints_above (kin_of l)) → Contains (superinterfaces s) j → Contains (superinterfaces (kin_of l)) j
-    → Contains j.file.methods m → IsSpared l rows m.key → AllMet st (fewer_inherited (kin_of l) j m)
-spared_at l rows s part up st j m met there among within (Unmixed is) =
+spared_at : (l : Lined) (rows : List Rowed) → IsPart rows l → (st : State) (j : Kin) (m : Member) (n : ℕ) → AllMet st (constraints_above (kin_of l)) → AreSharing (kin_of l) j n → Contains (superinterfaces (kin_of l)) j → Contains j.file.methods m
+    → IsSpared l rows n m.key → AllMet st (fewer_inherited (kin_of l) j m)
+spared_at l rows part st j m n met over among within (Unmixed is) =
     let k : Kin = kin_of l in
     let each = All-contains (λ (x : Kin). (y : Member) → IsUnmixed rows y.key → fewer_inherited k x y ≡ []) (superinterfaces k) j (All-from_recursion (λ (x : Kin). (y : Member) → IsUnmixed rows y.key → fewer_inherited k x y ≡ []) (superinterfaces k) (over_unmixed l rows part)) among in
     subst (AllMet st) (sym (each m is)) tt
-spared_at l rows s part up st j m met there among within (Declared has) = declared_met_too st j m (kin_of l) has
-spared_at l rows s part up st j m met there among within (MetAbove e) =
+spared_at l rows part st j m n met over among within (Declared has) = declared_met_too st j m (kin_of l) has
+spared_at l rows part st j m n met over among within (MetAbove e) =
     let k : Kin = kin_of l in
-    let straight : IsStraight k.superclass = (single_under (kins l.above) l.own (single_after [] l.above tt)).1 in
-    spared_met st j m k
-    (λ takes. far_met st j m takes within k k.superclass refl straight (λ t is. subst (λ (x : Kin). Contains (superinterfaces x) j) (sym (same_Some t s (is ∙ ap (λ (f : Forest). first (upward f)) up))) there) e met)
+    spared_met st j m k (λ takes. far_met st j m takes within k k.superclass n refl over e met)
 
 -- superclasses of the class of a lineage impose so, but for what the nearest hides
-pub imposes_at : (l : Lined) (up : Rowed) (rows : List Rowed) (hidden : Key → Bool) → IsPart rows l → IsClassAbove l up → CoversHidden l rows (bare up) hidden → ImposesShared (kin_of l) hidden
+pub imposes_at : (l : Lined) (up : Rowed) (rows : List Rowed) (hidden : ℕ → Key → Bool) → IsPart rows l → IsClassAbove l up → CoversHidden l rows (bare up) hidden → ImposesShared (kin_of l) hidden
 imposes_at l up rows hidden part is told =
-    let known : List Kin = kins l.above in
     let s : Kin = kin_at l up in
-    let front : kin_named known s.class ≡ Some s = front_is (kin_named known s.class) s (is.above ∙ ap (λ (cs : List Class). first (upward (forest known cs))) (up_class known l.own s is.above)) in
-    let one : (kin_of l).superclass ≡ alone s = ap (λ (cs : List Class). forest known cs) (up_class known l.own s is.above) ∙ ap (λ (o : Option Kin). in_front o Bare) front in
-    imposes (IsSpared l rows) hidden (kin_of l) s one is.class told (spared_at l rows s part one)
+    imposes (IsSpared l rows) hidden (kin_of l) s (next_up (kin_of l).superclass s is.above) is.class told (spared_at l rows part)
 
 -- a class of which each method is offered or spared hides none that is not
-pub none_hidden : (l : Lined) (rows : List Rowed) (up : Rowed) (ms : List Member) → ms ≡ (file_of up.file).methods → AllByRecursion (λ (m : Member). (is_offered m.key (bare up) ≡ true) ⊎ IsSpared l rows m.key) ms → CoversHidden l rows (bare up) (hidden_by None)
-none_hidden l rows up ms made seen = λ key on.
-    inr (hidden_has (IsSpared l rows) (bare up) (subst (λ (xs : List Member). AllByRecursion (λ (m : Member). (is_offered m.key (bare up) ≡ true) ⊎ IsSpared l rows m.key) xs) made seen) key on)
+pub none_hidden : (l : Lined) (rows : List Rowed) (up : Rowed) (ms : List Member) → ms ≡ (file_of up.file).methods → ((n : ℕ) → 0 ≤ n → AllByRecursion (IsShownOrSpared l rows (bare up) n) ms) → CoversHidden l rows (bare up) (hidden_by None)
+none_hidden l rows up ms made seen = λ n key on.
+    inr (hidden_has (IsSpared l rows n) (bare up) (subst (λ (xs : List Member). AllByRecursion (IsShownOrSpared l rows (bare up) n) xs) made (seen n (omega arith))) key on)
+
+-- and where so many superclasses are enough
+pub left_hidden : (l : Lined) (rows : List Rowed) (up : Rowed) (ms : List Member) (enough : Option ℕ) → ms ≡ (file_of up.file).methods → IfSome enough (λ most. (n : ℕ) → most ≤ n → AllByRecursion (IsShownOrSpared l rows (bare up) n) ms)
+    → CoversHidden l rows (bare up) (hidden_by (Some (record { class = up; enough = enough })))
+left_hidden l rows up ms None made seen = λ n key on. inl on
+left_hidden l rows up ms (Some most) made seen = λ n key on. by n key on (nat_le most n) refl
+  where
+    by : (n : ℕ) (key : Key) → hides key (bare up) ≡ true → (b : Bool) → nat_le most n ≡ b → ((not (nat_le most n) && hides key (bare up)) ≡ true) ⊎ IsSpared l rows n key
+    by n key on true e = inr (hidden_has (IsSpared l rows n) (bare up) (subst (λ (xs : List Member). AllByRecursion (IsShownOrSpared l rows (bare up) n) xs) made (seen n (leb-true most n e))) key on)
+    by n key on false e = inl (ap (λ (b : Bool). not b && hides key (bare up)) e ∙ on)
+
+-- a method that is imposed where so many superclasses have the superinterface
+pub spared_above : (l : Lined) (rows : List Rowed) (above : Kin) (m : Member) (key : Key) (enough : Option ℕ) → key ≡ m.key → IfSome enough (λ most. (n : ℕ) → most ≤ n → is_met_above key (take n (superclasses (kin_of l))) ≡ true)
+    → IfSome enough (λ most. (n : ℕ) → most ≤ n → IsShownOrSpared l rows above n m)
+spared_above l rows above m key None same met = tt
+spared_above l rows above m key (Some most) same met = λ n le. inr (MetAbove (subst (λ (k : Key). is_met_above k (take n (superclasses (kin_of l))) ≡ true) same (met n le)))
+
+-- one superclass more is passed
+pub passed_more : (key : Key) (passed : ℕ) (all : List Kin) (k : Kin) (left : List Kin) → is_interface k.file ≡ false → hides key k ≡ true → ((n : ℕ) → is_met_above key (take n (k ∷ left)) ≡ true → is_met_above key (take (passed + n) all) ≡ true)
+    → (n : ℕ) → is_met_above key (take n left) ≡ true → is_met_above key (take (passed + 1 + n) all) ≡ true
+passed_more key passed all k left class on so_far n met =
+    let one : is_met_above key (take (suc n) (k ∷ left)) ≡ true = rw class (rw on met) in
+    subst (λ (m : ℕ). is_met_above key (take m all) ≡ true) (omega arith) (so_far (suc n) one)
+
+-- one that does not hide the method is come to
+pub shown_here : (key : Key) (passed : ℕ) (all : List Kin) (k : Kin) (left : List Kin) → is_interface k.file ≡ false → hides key k ≡ false → ((n : ℕ) → is_met_above key (take n (k ∷ left)) ≡ true → is_met_above key (take (passed + n) all) ≡ true)
+    → (n : ℕ) → passed + 1 ≤ n → is_met_above key (take n all) ≡ true
+shown_here key passed all k left class off so_far n le =
+    let one : is_met_above key (take (suc (n - (passed + 1))) (k ∷ left)) ≡ true = rw class (rw off refl) in
+    subst (λ (m : ℕ). is_met_above key (take m all) ≡ true) (omega (arith, le)) (so_far (suc (n - (passed + 1))) one)
 
 -- of methods of which none is hidden all are left
-pub all_unhidden : (ms : List Member) → unhidden (hidden_by None) ms ≡ ms
-all_unhidden [] = refl
-all_unhidden (m ∷ ms) = ap (λ (xs : List Member). m ∷ xs) (all_unhidden ms)
+pub all_unhidden : (n : ℕ) (ms : List Member) → unhidden (hidden_by None n) ms ≡ ms
+all_unhidden n [] = refl
+all_unhidden n (m ∷ ms) = ap (λ (xs : List Member). m ∷ xs) (all_unhidden n ms)
+
+-- where so many superclasses are enough, too
+pub enough_unhidden : (h : Hider) (n : ℕ) (ms : List Member) → are_enough h.enough n ≡ true → unhidden (hidden_by (Some h) n) ms ≡ ms
+enough_unhidden h n [] e = refl
+enough_unhidden h n (m ∷ ms) e =
+    ap (λ (b : Bool). if not (not b && hides m.key (bare h.class)) then m ∷ unhidden (hidden_by (Some h) n) ms else unhidden (hidden_by (Some h) n) ms) e ∙ ap (λ (xs : List Member). m ∷ xs) (enough_unhidden h n ms e)
+
+-- where they are not, those are left that the class hides
+pub few_unhidden : (h : Hider) (n : ℕ) (ms : List Member) → are_enough h.enough n ≡ false → unhidden (hidden_by (Some h) n) ms ≡ filter (λ m. not (hides m.key (bare h.class))) ms
+few_unhidden h n ms e = ap (λ (b : Bool). filter (λ (m : Member). not (not b && hides m.key (bare h.class))) ms) e
 
 -- ---- rows of superinterfaces that the superclass has too
 
@@ -406,43 +401,25 @@ few_above known cs (inr one) = by (kin_named known one.0) refl
     by (Some s) e = inr (s, ap (λ (xs : List Class). forest known xs) one.1 ∙ ap (λ (o : Option Kin). in_front o Bare) e)
 
 -- all superinterfaces of a class that names none are its superclass's
-pub named_none : (l : Lined) (own : Rowed) (i : ℕ) → own ≡ l.own → not (names_interfaces own) ≡ true → IsSharedIn (kin_of l) i
+pub named_none : (l : Lined) (own : Rowed) (i : ℕ) → own ≡ l.own → names_interfaces own ≡ false → AreSharingIn (kin_of l) i 1
 named_none l own i same none = by (few_above (kins l.above) (superclass_in l.own) (few_superclasses l.own))
   where
-    off : (b : Bool) → not b ≡ true → b ≡ false
-    off true e = absurd cc
-    off false e = refl
-
     bare_over : (kin_of l).interfaces ≡ Bare
-    bare_over = ap (λ (cs : List Class). forest (kins l.above) cs) (none_over l.own (ap names_interfaces (sym same) ∙ off (names_interfaces own) none))
+    bare_over = ap (λ (cs : List Class). forest (kins l.above) cs) (none_over l.own (ap names_interfaces (sym same) ∙ none))
 
-    by : ((kin_of l).superclass ≡ Bare) ⊎ ((s : Kin) × ((kin_of l).superclass ≡ alone s)) → IsSharedIn (kin_of l) i
-    by (inl bare_up) = λ j at.
-        let empty : superinterfaces (kin_of l) ≡ [] = ap (λ (f : Forest). once (preorder f true ++ preorder (kin_of l).superclass false)) bare_over ∙ ap (λ (f : Forest). once (preorder f false)) bare_up in
-        absurd (none_there i j (ap (λ (ks : List Kin). slice_get ks i) (sym empty) ∙ at))
-    by (inr up) = λ j at. record {
-      above = up.0;
-      up = sym (ap (λ (f : Forest). first (upward f)) up.1);
-      over = subst (λ (ks : List Kin). Contains ks j) (over_same (kin_of l) up.0 up.1 bare_over) (found_there (superinterfaces (kin_of l)) i j at);
-    }
+    by : ((kin_of l).superclass ≡ Bare) ⊎ ((s : Kin) × ((kin_of l).superclass ≡ alone s)) → AreSharingIn (kin_of l) i 1
+    by (inl bare_up) = λ j at. subst (λ (f : Forest). AllByRecursion (λ (a : Kin). Contains (superinterfaces a) j) (take 1 (upward f))) (sym bare_up) tt
+    by (inr up) = λ j at.
+        subst (λ (f : Forest). AllByRecursion (λ (a : Kin). Contains (superinterfaces a) j) (take 1 (upward f))) (sym up.1)
+        (subst (λ (ks : List Kin). Contains ks j) (over_same (kin_of l) up.0 up.1 bare_over) (found_there (superinterfaces (kin_of l)) i j at), tt)
 
--- the methods of a row that is the superclass's too impose what is met, but for those that are hidden
-pub shared_met : (l : Lined) (over : List Rowed) (hidden : Key → Bool) → ImposesShared (kin_of l) hidden → AreOver l over → AreImposed (kin_of l) hidden over
-shared_met l over hidden fit (inl none) i r shared at = absurd (none_there i r (subst (λ (rs : List Rowed). slice_get rs i ≡ Some r) none at))
-shared_met l over hidden fit (inr all) i r shared at =
+-- the methods of a row that superclasses have too impose what is met, but for those that are hidden
+pub shared_met : (l : Lined) (over : List Rowed) (hidden : ℕ → Key → Bool) → ImposesShared (kin_of l) hidden → AreOver l over → AreImposed (kin_of l) hidden over
+shared_met l over hidden fit (inl none) i n r some shared at = absurd (none_there i r (subst (λ (rs : List Rowed). slice_get rs i ≡ Some r) none at))
+shared_met l over hidden fit (inr all) i n r some shared at =
     let j : Kin = kin_at all.0 r in
     let there : slice_get (superinterfaces (kin_of l)) i ≡ Some j = ap (λ (ks : List Kin). slice_get ks i) (sym all.1) ∙ slice_get-map (kin_at all.0) over i ∙ ap (λ (o : Option Rowed). option_map (kin_at all.0) o) at in
-    λ st h. fit j (shared j there) (found_there (superinterfaces (kin_of l)) i j there) st h
-
--- a mark that is read stands there
-pub marked_there : (marks : List Bool) (i : ℕ) → get_or marks i false ≡ true → slice_get marks i ≡ Some true
-marked_there [] i e = absurd (none_read i e)
-  where
-    none_read : (i : ℕ) → get_or [] i false ≡ true → ⊥
-    none_read zero e = cc
-    none_read (suc i) e = cc
-marked_there (b ∷ marks) zero e = ap (λ (x : Bool). Some x) e
-marked_there (b ∷ marks) (suc i) e = marked_there marks i e
+    λ st h. fit j n some (shared j there) (found_there (superinterfaces (kin_of l)) i j there) st h
 
 -- the row that is read at a place stands there
 pub row_at : {A : Type 0} (rows : List A) (i : ℕ) (x : A) → i < length rows → x ≡ get_or rows i x → slice_get rows i ≡ Some x

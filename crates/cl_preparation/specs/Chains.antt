@@ -1,11 +1,12 @@
 -- What is kept of a class and its superclasses while those below are prepared (JVMS SE 8, 5.4.2).
-use Rattle.std.specs.Prelude.{◌≡◌, ◌⊎◌, ℕ, Bool, false, true, List, [], ◌∷◌, Option, Some, None, flat_map, map, slice_get}
-use Rattle.cl_classfile.specs.Files.{Key, file_of, is_interface}
+use Rattle.std.specs.Prelude.{◌≡◌, ◌⊎◌, ◌≤◌, ◌&&◌, ℕ, Bool, false, not, true, List, [], ◌∷◌, Option, Some, None, flat_map, length, map, slice_get}
+use Rattle.cl_classfile.specs.Files.{Key, Member, file_of, is_interface}
 use Rattle.cl_model.specs.declared.class.Class.{Class}
-use Rattle.cl_model.specs.Lineages.{Kin, first, superclasses, superinterfaces}
+use Rattle.cl_model.specs.Lineages.{Kin, first, is_offered, superclasses, superinterfaces}
 use Rattle.cl_model.specs.States.{Need}
+use Rattle.cl_hierarchy.specs.ClassesAt.{lined_at}
 use Rattle.cl_hierarchy.specs.Lineages.{Lined, kin_at, kin_of, rows_in}
-use Rattle.cl_hierarchy.specs.OversAt.{AreShared, IsSharedIn}
+use Rattle.cl_hierarchy.specs.OversAt.{AreSharingIn}
 use Rattle.cl_hierarchy.specs.Rows.{Rowed}
 use Rattle.cl_hierarchy.specs.Trees.{kin_named, kins}
 use Rattle.cl_preparation.specs.declared.methods_above.Above.{Above}
@@ -16,7 +17,7 @@ use Rattle.cl_preparation.specs.Fewer.{IsImposed, fewer_inherited}
 use Rattle.cl_preparation.specs.MethodsAbove.{AreTold}
 use Rattle.cl_preparation.specs.Nearby.{AddAll}
 use Rattle.cl_preparation.specs.Relatives.{bare}
-use Rattle.cl_preparation.specs.Spared.{IsSpared}
+use Rattle.cl_preparation.specs.Spared.{Hider, IsSpared, are_enough}
 use Rattle.cl_preparation.specs.Surveys.{Surveys}
 use Rattle.cl_preparation.specs.Walks.{hides}
 use Rattle.indexmap.specs.IndexMap.{IndexMap}
@@ -45,32 +46,39 @@ pub record IsClassAbove (l : Lined) (r : Rowed) : Type 0 where
   pub above : Some (kin_at l r) ≡ first (superclasses (kin_of l))
   pub class : is_interface (file_of r.file) ≡ false
 
--- which methods a class hides, if there is one (5.4.5)
-abbrev pub hidden_by : Option Rowed → Key → Bool
-hidden_by None key = false
-hidden_by (Some r) key = hides key (bare r)
+-- a method of the superclass of the class of a lineage is neither private nor static, or spared, where
+-- so many superclasses have the superinterface (5.4.2)
+abbrev pub IsShownOrSpared : Lined → List Rowed → Kin → ℕ → Member → Type 0
+IsShownOrSpared l rows above n m = (is_offered m.key above ≡ true) ⊎ IsSpared l rows n m.key
+
+-- which methods a class hides, if there is one, where so many superclasses are not enough (5.4.5)
+abbrev pub hidden_by : Option Hider → ℕ → Key → Bool
+hidden_by None n key = false
+hidden_by (Some h) n key = not (are_enough h.enough n) && hides key (bare h.class)
 
 -- all methods that this superclass of the class of a lineage hides are among these, or spared
 -- (5.4.2)
-abbrev pub CoversHidden : Lined → List Rowed → Kin → (Key → Bool) → Type 0
+abbrev pub CoversHidden : Lined → List Rowed → Kin → (ℕ → Key → Bool) → Type 0
 CoversHidden l rows k hidden =
-    (key : Key) → hides key k ≡ true → (hidden key ≡ true) ⊎ IsSpared l rows key
+    (n : ℕ) (key : Key) → hides key k ≡ true → (hidden n key ≡ true) ⊎ IsSpared l rows n key
 
 -- what these rows impose, but for these methods, is met where what superclasses impose is, of each that
--- is its superclass's too (5.4.2)
-abbrev pub AreImposed : Kin → (Key → Bool) → List Rowed → Type 0
+-- so many superclasses have too, one at the least (5.4.2)
+abbrev pub AreImposed : Kin → (ℕ → Key → Bool) → List Rowed → Type 0
 AreImposed c hidden rows =
-    (i : ℕ) (r : Rowed) → IsSharedIn c i → slice_get rows i ≡ Some r → IsImposed c hidden (bare r)
+    (i n : ℕ) (r : Rowed) → 1 ≤ n → AreSharingIn c i n → slice_get rows i ≡ Some r
+    → IsImposed c (hidden n) (bare r)
 
--- a class that is no interface, with what its methods are looked up in: a survey, what its
--- superclasses declare, and superinterfaces that add what all do, some of which are marked as its
--- superclass's too (5.4.2)
+-- the class at a place of a whole that is no interface, with what its methods are looked up in: a
+-- survey, what its superclasses declare, and superinterfaces that add what all do (5.4.2)
 pub record IsChained {S : Type 0} (l : Lined) (own : Rowed) (survey : Survey)
-    (above : IndexMap MethodTexts Above S) (over : List Rowed) (shared : List Bool) : Type 0 where
+    (above : IndexMap MethodTexts Above S) (over : List Rowed) (whole : Lined) (place : ℕ)
+    : Type 0 where
+  pub within : place ≤ length whole.above
+  pub at : l ≡ lined_at whole place
   pub own_is : own ≡ l.own
   pub class : is_interface (file_of l.own.file) ≡ false
   pub surveyed : Surveys l survey
   pub above_are : AreTold above (superclasses (kin_of l))
   pub over_are : AddAll l over
   pub over_in : AreOver l over
-  pub shared_are : AreShared (kin_of l) shared

@@ -1,7 +1,7 @@
 -- The words of the worked examples: superclasses of one loader (JVMS SE 8, 5.4.2, 5.4.5).
 use Rattle.std.specs.Prelude.{◌≡◌, ◌∷◌, ℕ, Bool, List, []}
 use Rattle.cl_classfile.specs.Files.{File}
-use Rattle.cl_model.specs.Examples.{in_app, interface, plain, taking_t, with_interfaces, with_methods}
+use Rattle.cl_model.specs.Examples.{in_app, interface, plain, taking_t, with_methods}
 use Rattle.cl_model.specs.Lineages.{Bare, Kin}
 use Rattle.cl_preparation.specs.Spared.{is_met_above}
 
@@ -13,11 +13,6 @@ of_file f = record { class = in_app "p/A"; file = f; superclass = Bare; interfac
 abbrev pub with_m : ℕ → Kin
 with_m flags = of_file (with_methods ((flags, taking_t "m") ∷ []) (plain "p/A"))
 
--- the same, which names a superinterface
-abbrev pub with_m_naming : ℕ → Kin
-with_m_naming flags =
-    of_file (with_methods ((flags, taking_t "m") ∷ []) (with_interfaces ("p/I" ∷ []) (plain "p/A")))
-
 -- one that declares nothing, and an interface that declares nothing
 abbrev pub with_none : Kin
 with_none = of_file (plain "p/A")
@@ -25,6 +20,7 @@ with_none = of_file (plain "p/A")
 abbrev pub with_none_over : Kin
 with_none_over = of_file (interface "p/A")
 
--- what a class below superclasses, nearest first, would impose by m is met, or not (5.4.2)
+-- what a class below superclasses, nearest first, would impose by m is met, or not, with a superinterface
+-- that all of them have (5.4.2)
 abbrev pub Meets : List Kin → Bool → Type 0
 Meets ks met = is_met_above (taking_t "m") ks ≡ met

@@ -1,10 +1,10 @@
 //! The few loading constraints of a class that is no interface, where what its superclasses declare is kept, and the lineage was
 //! surveyed: one look for each of its methods (JVMS SE 8, 5.3.4, 5.4.2).
 
-ghost use Rattle.std.specs.Prelude.{◌≡◌, [], Some, filter, flat_map, map, option_map, slice_get, true, IfOk, OnOk};
+ghost use Rattle.std.specs.Prelude.{◌≡◌, ◌≤◌, [], filter, flat_map, map, option_map, true, IfOk, OnOk};
 ghost use Rattle.cl_hierarchy.specs.Imposed.{needs_of};
 ghost use Rattle.cl_hierarchy.specs.Lineages.{kin_of};
-ghost use Rattle.cl_hierarchy.specs.OversAt.{IsSharedIn};
+ghost use Rattle.cl_hierarchy.specs.OversAt.{AreSharingIn};
 ghost use Rattle.cl_model.specs.Preparation.{takes_part};
 ghost use Rattle.cl_preparation.specs.Chains.{AreImposed, by_row, hidden_by};
 ghost use Rattle.cl_preparation.specs.Fewer.{AddsLeft, AreFew, IsImposed, by_superinterfaces, fewer_declared, fewer_inherited, loaders_over, others_after};
@@ -19,14 +19,14 @@ use crate::hiding::Hiding;
 use crate::inherited::other_than;
 use crate::key::MethodKey;
 use crate::like::rows_like;
-use crate::listed::{Listed, is_marked};
+use crate::listed::Listed;
 use crate::method::Method;
 use crate::methods_above::{MethodsAbove, nearest_above, wide_above};
 use crate::needs::Needs;
 use crate::relative::{Relative, names_interfaces};
 use crate::silent::are_alone;
 use crate::survey::Survey;
-use cl_hierarchy::{ClassRow, Given, Lineage};
+use cl_hierarchy::{ClassRow, Given, Lineage, Lineages};
 use cl_model::{Equality, Told};
 use std::alloc::{AllocError, Global};
 use std::marker::Model;
@@ -43,8 +43,9 @@ pub(crate) struct Chained<'a, 'b, 'c, 'd, T: Told> {
     pub above: &'c MethodsAbove,
     /// Superinterfaces, in preorder, or none where these add nothing.
     pub over: Away<'d, T>,
-    /// Which of them are known to be the superclass's too.
-    pub shared: &'d [bool],
+    /// The classes among which this is the one at a place.
+    pub whole: &'d Lineages<T>,
+    pub place: usize,
 }
 
 impl<'a, 'b, 'c, 'd, T: Told> Drop for Chained<'a, 'b, 'c, 'd, T> {
@@ -55,7 +56,8 @@ impl<'a, 'b, 'c, 'd, T: Told> Drop for Chained<'a, 'b, 'c, 'd, T> {
             survey: _,
             above: _,
             over: _,
-            shared: _,
+            whole: _,
+            place: _,
         } = self;
     }
 }
@@ -68,7 +70,7 @@ impl<'a, 'b, 'c, 'd, T: Told> Model for Chained<'a, 'b, 'c, 'd, T> {
 
     ghost view = { λ x. x.lineage.now };
 
-    ghost invariant = { λ x. IsChained x.lineage.now x.own x.survey.now x.above.now x.over x.shared.now };
+    ghost invariant = { λ x. IsChained x.lineage.now x.own x.survey.now x.above.now x.over x.whole.now x.place };
 }
 
 impl<'a, 'b, 'c, 'd, T: Told> Chained<'a, 'b, 'c, 'd, T> {
@@ -236,11 +238,17 @@ impl<'a, 'b, 'c, 'd, T: Told> Chained<'a, 'b, 'c, 'd, T> {
         self.push_rows(alloc, needs, self.over.as_slice())
     }
 
-    /// Whether the superinterface at a place is known to be the superclass's too: all are of a class that names none.
-    fn is_shared(&self, place: usize) -> bool
-        ensures { result ≡ true → IsSharedIn (kin_of self.now) place }
+    /// How many superclasses, from the nearest on, are known to have the superinterface of this number too: of a class that names none
+    /// its superclass has all.
+    fn sharing(&self, index: usize) -> usize
+        ensures { AreSharingIn (kin_of self.now) index result }
     {
-        is_marked(self.shared, place) || !names_interfaces(self.own.row())
+        let known = self.whole.sharing_at(self.place, index);
+        if known == 0 && !names_interfaces(self.own.row()) {
+            1
+        } else {
+            known
+        }
     }
 
     /// Adds what those methods of the superinterface of a row impose that the superclass hides.
@@ -253,33 +261,38 @@ impl<'a, 'b, 'c, 'd, T: Told> Chained<'a, 'b, 'c, 'd, T> {
     ) -> Result<(), AllocError>
         ensures { OnOk result (needs.new ≡ with_all needs.old
             (flat_map (fewer_inherited (kin_of self.now) (bare row.now.value))
-            (filter (λ m. hides m.key (bare hiding.now)) (bare row.now.value).file.methods))) }
+            (filter (λ m. hides m.key (bare hiding.now.class)) (bare row.now.value).file.methods))) }
     {
         let methods = hiding.hidden_of(alloc, row)?;
         let interface = Relative::unfiltered(row)?;
         self.push_methods(alloc, needs, &interface, methods.as_slice())
     }
 
-    /// Adds what the methods of the superinterface of a row impose; of one that is known to be the superclass's too those that this
-    /// one hides, since it has imposed the others.
+    /// Adds what the methods of the superinterface of a row impose; of one that so many superclasses have too those that the nearest
+    /// hides, where they are not enough, since superclasses have imposed the others.
     fn push_new_row(
         &self,
         alloc: Global,
         needs: &mut Needs,
         row: &Arc<ClassRow<T>>,
-        is_shared: bool,
+        sharing: usize,
         hiding: Option<&Hiding<T>>,
     ) -> Result<(), AllocError>
-        requires imposed { is_shared ≡ true → IsImposed (kin_of self.now)
-            (hidden_by (option_map (λ h. h.now) hiding)) (bare row.now.value) }
+        requires imposed { 1 ≤ sharing → IsImposed (kin_of self.now)
+            (hidden_by (option_map (λ h. h.now) hiding) sharing) (bare row.now.value) }
         ensures { OnOk result (AddsLeft (kin_of self.now) needs.old
             (by_row (kin_of self.now) row.now.value) needs.new) }
     {
-        if !is_shared {
+        if sharing == 0 {
             return self.push_row(alloc, needs, row);
         }
         match hiding {
-            Some(hiding) => self.push_hidden(alloc, needs, row, hiding),
+            Some(hiding) => {
+                if !hiding.leaves(sharing) {
+                    return Ok(());
+                }
+                self.push_hidden(alloc, needs, row, hiding)
+            }
             None => Ok(()),
         }
     }
@@ -298,7 +311,7 @@ impl<'a, 'b, 'c, 'd, T: Told> Chained<'a, 'b, 'c, 'd, T> {
             (flat_map (λ r. by_row (kin_of self.now) r.now.value) rows.now) needs.new) }
     {
         for at in 0..rows.len() {
-            self.push_new_row(alloc, needs, rows[at], self.is_shared(at), hiding)?;
+            self.push_new_row(alloc, needs, rows[at], self.sharing(at), hiding)?;
         }
         Ok(())
     }

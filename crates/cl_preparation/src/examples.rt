@@ -4,7 +4,7 @@ ghost use Rattle.std.specs.Prelude.{◌≡◌, ◌∷◌, [], codes, false, true
 ghost use Rattle.cl_classfile.specs.Flags.{private, public, static};
 ghost use Rattle.cl_model.specs.Examples.{app, boot, plug};
 ghost use Rattle.cl_model.specs.States.{Equal};
-ghost use Rattle.cl_preparation.specs.Examples.{Meets, with_m, with_m_naming, with_none, with_none_over};
+ghost use Rattle.cl_preparation.specs.Examples.{Meets, with_m, with_none, with_none_over};
 ghost use Rattle.cl_preparation.specs.Listings.{without_repeats};
 
 /// A constraint stands where it is first; one of another name, or between other loaders, is another.
@@ -17,13 +17,14 @@ pub fn constraints_once()
         ≡ Equal (codes "p/T") boot app ∷ Equal (codes "p/T") boot plug ∷ [] }
 {}
 
-/// The nearest superclass that does not hide a method has imposed what it would, unless one below it names superinterfaces.
+/// Of superclasses that all have a superinterface the nearest that does not hide a method has imposed what it would; if there is none,
+/// or an interface before it, it may be that none has.
 pub fn met_above()
     ensures above_private { Meets (with_m private ∷ with_m public ∷ []) true }
     ensures above_static { Meets (with_m static ∷ with_m private ∷ with_none ∷ []) true }
-    ensures nearest { Meets (with_m_naming public ∷ []) true }
+    ensures nearest { Meets (with_m public ∷ with_m private ∷ []) true }
     ensures all_hide { Meets (with_m private ∷ with_m static ∷ []) false }
-    ensures below_names { Meets (with_m_naming private ∷ with_m public ∷ []) false }
-    ensures next_names { Meets (with_m private ∷ with_m_naming static ∷ with_none ∷ []) false }
+    ensures none { Meets [] false }
     ensures interface { Meets (with_m private ∷ with_none_over ∷ []) false }
+    ensures below_interface { Meets (with_none_over ∷ with_m public ∷ []) false }
 {}

@@ -10,7 +10,6 @@ ghost use Rattle.cl_hierarchy.specs.ClassesAt.{lined_at};
 ghost use Rattle.cl_hierarchy.specs.Imposed.{AreEnough, OfPreparation, known_by, needs_of};
 ghost use Rattle.cl_hierarchy.specs.declared.equalities.Given.TheVariants as givens;
 ghost use Rattle.cl_hierarchy.specs.Lineages.{IsRowIn, Lined, kin_at, kin_of, others_of, rows_in};
-ghost use Rattle.cl_hierarchy.specs.OversAt.{AreShared};
 ghost use Rattle.cl_preparation.specs.Chains.{AreOver};
 ghost use Rattle.cl_preparation.specs.Fewer.{AreFew, fewer_constraints_of};
 ghost use Rattle.cl_preparation.specs.Listings.{has_need, without_repeats};
@@ -115,17 +114,6 @@ fn over_at<T: Told>(
     Ok(Away::unfiltered(alloc, rows))
 }
 
-/// Which of these are known to be its superclass's too.
-fn shared_at<T: Told>(whole: &Lineages<T>, place: usize) -> &[bool]
-    requires within { place ≤ length whole.now.above }
-    ensures { AreShared (kin_of (lined_at whole.now place)) result.now }
-{
-    match whole.shared_at(place) {
-        Some(shared) => shared,
-        None => &[],
-    }
-}
-
 /// The few equalities of the class at a place, which is no interface, with what stands near it.
 fn near_needs<T: Told>(
     alloc: Global,
@@ -196,19 +184,20 @@ fn chained_needs<T: Told>(
 {
     let own = Relative::of(alloc, lineage.own())?;
     if is_silent(alloc, survey, &own)? {
+        whole.follow_superinterfaces(alloc, place)?;
         return Ok(Vec::new(alloc));
     }
     let may_add = may_add_by(survey, lineage);
     find_over(alloc, whole, place, may_add)?;
     let over = over_at(alloc, whole.lineages(), place, may_add)?;
-    let shared = shared_at(whole.lineages(), place);
     let chained = Chained {
         lineage,
         own,
         survey,
         above,
         over,
-        shared,
+        whole: whole.lineages(),
+        place,
     };
     let needs = chained.needs(alloc, given);
     drop(chained);

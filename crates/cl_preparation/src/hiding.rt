@@ -1,10 +1,11 @@
 //! Which methods of superinterfaces a superclass hides: it declares them private or static, and so imposes nothing with them, where a
 //! class below may inherit them from farther above (JVMS SE 8, 5.4.2, 5.4.5).
 
-ghost use Rattle.std.specs.Prelude.{◌≡◌, false, IfOk, Some, filter, option_map, option_to_list};
+ghost use Rattle.std.specs.Prelude.{◌≡◌, false, not, IfOk, Some, filter, option_map, option_to_list};
 ghost use Rattle.cl_classfile.specs.Files.{Key, declared_by, file_of, method_of};
 ghost use Rattle.cl_preparation.specs.Methods.{IsTyped};
 ghost use Rattle.cl_preparation.specs.Relatives.{bare};
+ghost use Rattle.cl_preparation.specs.Spared.{are_enough};
 ghost use Rattle.cl_preparation.specs.Walks.{hides};
 
 use crate::filter::NameFilter;
@@ -22,39 +23,63 @@ use std::marker::Model;
 pub(crate) struct Hiding<T: Told> {
     class: Relative<T>,
     names: NameFilter,
+    /// How many superclasses of a class below have to have a superinterface so that all of these are spared, if there is such a number.
+    enough: Option<usize>,
 }
 
 impl<T: Told> Drop for Hiding<T> {
     fn drop(self) {
-        let Hiding { class: _, names: _ } = self;
+        let Hiding {
+            class: _,
+            names: _,
+            enough: _,
+        } = self;
     }
 }
 
 impl<T: Told> Model for Hiding<T> {
     ghost use Rattle.cl_classfile.specs.Files.{file_of};
-    ghost use Rattle.cl_hierarchy.specs.Rows.{Rowed};
     ghost use Rattle.cl_preparation.specs.Filters.{Covers};
+    ghost use Rattle.cl_preparation.specs.Spared.{Hider};
 
-    ghost Value = { Rowed };
+    ghost Value = { Hider };
 
-    ghost view = { λ h. h.class };
+    ghost view = { λ h. record { class = h.class; enough = h.enough } };
 
     ghost invariant = { λ h. Covers h.names (file_of h.class.file).methods };
 }
 
 impl<T: Told> Hiding<T> {
     /// The class, with the filter.
-    pub fn of(alloc: Global, class: Relative<T>) -> Result<Hiding<T>, AllocError>
-        ensures { IfOk result (λ h. h ≡ class) }
+    pub fn of(
+        alloc: Global,
+        class: Relative<T>,
+        enough: Option<usize>,
+    ) -> Result<Hiding<T>, AllocError>
+        ensures { IfOk result (λ h. h ≡ record { class = class; enough = enough }) }
     {
         let names = NameFilter::of(alloc, class.row().file())?;
-        Ok(Hiding { class, names })
+        Ok(Hiding {
+            class,
+            names,
+            enough,
+        })
+    }
+
+    /// Whether what is hidden may not be spared with a superinterface that so many superclasses have.
+    pub fn leaves(&self, sharing: usize) -> bool
+        ensures { result ≡ not (are_enough self.now.enough sharing) }
+    {
+        match self.enough {
+            Some(enough) => sharing < enough,
+            None => true,
+        }
     }
 
     /// Whether a method of this name may be hidden.
     fn may_hide(&self, name: Option<&Name>) -> bool
         ensures { (key : Key) → option_map (λ x. x.now) name.entry ≡ Some key.name
-            → result ≡ false → hides key (bare self.now) ≡ false }
+            → result ≡ false → hides key (bare self.now.class) ≡ false }
     {
         self.names.passes_known(name)
     }
@@ -68,7 +93,7 @@ impl<T: Told> Hiding<T> {
     ) -> Result<Option<Method>, AllocError>
         requires { IsTyped pool.now member.now }
         ensures { IfOk result (λ o. option_to_list o ≡ filter
-            (λ m. hides m.key (bare self.now))
+            (λ m. hides m.key (bare self.now.class))
             (option_to_list (declared_by method_of pool.now member.now))) }
     {
         // mostly: the class declares none of this name
@@ -85,7 +110,7 @@ impl<T: Told> Hiding<T> {
 
     /// Those of the methods of another class that are hidden, in order.
     pub fn hidden_of(&self, alloc: Global, row: &ClassRow<T>) -> Result<Vec<Method>, AllocError>
-        ensures { IfOk result (λ ms. ms.items ≡ filter (λ m. hides m.key (bare self.now))
+        ensures { IfOk result (λ ms. ms.items ≡ filter (λ m. hides m.key (bare self.now.class))
             (file_of row.now.file).methods) }
     {
         let file = row.file();

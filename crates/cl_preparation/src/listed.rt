@@ -35,7 +35,7 @@ impl Model for Listed {
 }
 
 /// Whether a place is marked; one behind the last is not.
-pub(crate) fn is_marked(marks: &[bool], place: usize) -> bool
+fn is_marked(marks: &[bool], place: usize) -> bool
     ensures { result ≡ get_or marks.now place false }
 {
     match marks.get(place) {

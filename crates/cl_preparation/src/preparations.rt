@@ -194,6 +194,18 @@ impl<T: Told> Preparations<T> {
         self.lineages.find_superinterfaces(alloc, place)
     }
 
+    /// Does so where those of its superclass are kept.
+    pub(crate) fn follow_superinterfaces(
+        &mut self,
+        alloc: Global,
+        place: usize,
+    ) -> Result<(), AllocError>
+        requires within { place ≤ length self.old.above }
+        ensures { self.new ≡ self.old }
+    {
+        self.lineages.follow_superinterfaces(alloc, place)
+    }
+
     /// Keeps those that are kept for the class at a place too, if they are its own.
     pub(crate) fn pass_superinterfaces(&mut self, place: usize)
         requires within { place ≤ length self.old.above }

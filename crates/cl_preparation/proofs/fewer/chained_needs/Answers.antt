@@ -1,8 +1,7 @@
-use Rattle.std.proofs.Common.{◌≡◌, ◌∙◌, ap, subst, sym}
+use Rattle.std.proofs.Common.{◌≡◌, ◌∙◌, ◌≤◌, ap, length, subst, sym}
 use Rattle.cl_hierarchy.specs.ClassesAt.{lined_at}
 use Rattle.cl_hierarchy.specs.Imposed.{needs_of}
 use Rattle.cl_hierarchy.specs.Lineages.{Lined, kin_of}
-use Rattle.cl_hierarchy.specs.OversAt.{AreShared}
 use Rattle.cl_preparation.proofs.Standing.{few_given}
 use Rattle.cl_preparation.proofs.fewer.chained_needs.Goals as goal
 
@@ -18,13 +17,13 @@ invariant_of-chained g c =
     let whole = c.lineages.result.now in
     let here : l ≡ lined_at whole c.args.place = c.requires.lineage ∙ ap (λ (x : Lined). lined_at x c.args.place) (sym (c.lineages.ensures ∙ c.find_over.ensures)) in
     let over = c.in_ok-over.ensures l here c.may_add_by-may_add.ensures in
-    let again : l ≡ lined_at c.lineages-2.result.now c.args.place = c.requires.lineage ∙ ap (λ (x : Lined). lined_at x c.args.place) (sym (c.lineages-2.ensures ∙ c.find_over.ensures)) in
     record {
+      within = subst (λ (x : Lined). c.args.place ≤ length x.above) (sym (c.lineages-2.ensures ∙ c.find_over.ensures)) c.requires.within;
+      at = c.requires.lineage ∙ ap (λ (x : Lined). lined_at x c.args.place) (sym (c.lineages-2.ensures ∙ c.find_over.ensures));
       own_is = c.in_ok-own.ensures ∙ c.own.ensures.own;
       class = c.requires.class;
       surveyed = c.requires.survey;
       above_are = c.requires.above;
       over_are = over.0;
       over_in = over.1;
-      shared_are = subst (λ (x : Lined). AreShared (kin_of x) c.shared_at-shared.result.now) (sym again) c.shared_at-shared.ensures;
     }

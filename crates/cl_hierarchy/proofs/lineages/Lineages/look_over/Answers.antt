@@ -1,7 +1,7 @@
 use Rattle.std.proofs.Common.{ℕ, List, refl, subst}
 use Rattle.cl_hierarchy.specs.ClassesAt.{own_at}
 use Rattle.cl_hierarchy.specs.Lineages.{rows_in}
-use Rattle.cl_hierarchy.specs.OversAt.{AreSharedAt}
+use Rattle.cl_hierarchy.specs.OversAt.{AreSharingAt}
 use Rattle.cl_hierarchy.proofs.lineages.Lineages.look_over.Goals as goal
 
 pub returns : goal.returns
@@ -11,6 +11,6 @@ returns g c =
       record {
         within = c.requires.within;
         are = c.in_ok-found.ensures;
-        shared_are = subst (λ (ps : List ℕ). AreSharedAt (rows_in l) (own_at l c.args.place) ps c.in_ok-shared.shared.items) c.as_slice.ensures.value c.in_ok-shared.ensures;
+        sharing = subst (λ (ps : List ℕ). AreSharingAt (rows_in l) (own_at l c.args.place) ps 0 c.in_ok-more.more.items) c.as_slice.ensures.value c.in_ok-more.ensures;
       },
     )

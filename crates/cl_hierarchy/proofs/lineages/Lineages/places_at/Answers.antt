@@ -1,5 +1,5 @@
 use Rattle.std.proofs.Common.{◌≡◌, ◌∙◌, ◌≤◌, ℕ, [], List, Option, Result, None, Some, IfOk, ap, length, subst, sym}
-use Rattle.std.specs.Prelude.{IfSome, slice_get}
+use Rattle.std.specs.Prelude.{IfSome, option_map, slice_get}
 use Rattle.std.proofs.lemmas.Option.{same_Some}
 use Rattle.cl_hierarchy.specs.ClassesAt.{own_at}
 use Rattle.cl_hierarchy.specs.Lineages.{IsInOrder, Lined, rows_in}
@@ -21,13 +21,18 @@ over_places items l inside place rows found order is within same told =
     subst (λ (x : Lined). IfOk found (λ v. AreSuperinterfacesAt (rows_in x) (own_at x place) (items v))) is
     (subst (λ (rs : List Rowed). IfOk found (λ v. AreSuperinterfacesAt rs (own_at inside place) (items v))) same (told (own_at inside place) at))
 
+mapped : {A B : Type 0} (f : A → B) (P : B → Type 0) (o : Option A) → IfSome o (λ a. P (f a)) → IfSome (option_map f o) P
+mapped f P None h = tt
+mapped f P (Some a) h = h
+
 -- what is kept is known
-known_over : (l : Lined) (over known : Option OverAt) (rows : List Rowed) → IsInOrder l → known ≡ over → rows ≡ rows_in l → IfSome over (IsOverAt l) → AreKnown rows known
-known_over l None known rows order same is h = subst (λ (o : Option OverAt). AreKnown rows o) (sym same) tt
-known_over l (Some o) known rows order same is h =
-    let here : (r : Rowed) → slice_get (rows_in l) o.of ≡ Some r → AreSuperinterfacesAt (rows_in l) r o.places.items = λ r e.
-    subst (λ (x : Rowed). AreSuperinterfacesAt (rows_in l) x o.places.items) (same_Some (own_at l o.of) r (sym (at_lineage l o.of order h.within).own ∙ e)) h.are in
-    subst (λ (x : Option OverAt). AreKnown rows x) (sym same) (subst (λ (rs : List Rowed). AreKnown rs (Some o)) (sym is) here)
+known_over : (l inside : Lined) (known : Option OverAt) (rows : List Rowed) → IsInOrder inside → inside ≡ l → rows ≡ rows_in inside → IfSome known (IsOverAt l) → AreKnown rows known
+known_over l inside None rows order is same h = tt
+known_over l inside (Some o) rows order is same h =
+    let kept : IsOverAt inside o = subst (λ (x : Lined). IsOverAt x o) (sym is) h in
+    let here : (r : Rowed) → slice_get (rows_in inside) o.of ≡ Some r → AreSuperinterfacesAt (rows_in inside) r o.places.items = λ r e.
+    subst (λ (x : Rowed). AreSuperinterfacesAt (rows_in inside) x o.places.items) (same_Some (own_at inside o.of) r (sym (at_lineage inside o.of order kept.within).own ∙ e)) kept.are in
+    subst (λ (rs : List Rowed). AreKnown rs (Some o)) (sym same) here
 
 pub superinterface_places-requires-clause-ordered : goal.superinterface_places-requires-clause-ordered
 superinterface_places-requires-clause-ordered g c =
@@ -35,7 +40,7 @@ superinterface_places-requires-clause-ordered g c =
 
 pub superinterface_places-requires-clause-known : goal.superinterface_places-requires-clause-known
 superinterface_places-requires-clause-known g c =
-    known_over c.self.inside.whole c.self.inside.over _ _ c.rows-rows.ensures.kept.order c.as_ref-known.ensures.value c.rows-rows.ensures.rows c.self.invariant.1
+    known_over c.args.self.now c.self.inside.whole _ _ c.rows-rows.ensures.kept.order c.self.view_is c.rows-rows.ensures.rows (mapped (λ o. o.now) (IsOverAt c.args.self.now) c.kept_for-known.result c.kept_for-known.ensures)
 
 pub superinterface_places-requires-in-None-clause-ordered : goal.superinterface_places-requires-in-None-clause-ordered
 superinterface_places-requires-in-None-clause-ordered g c =
@@ -43,7 +48,7 @@ superinterface_places-requires-in-None-clause-ordered g c =
 
 pub superinterface_places-requires-in-None-clause-known : goal.superinterface_places-requires-in-None-clause-known
 superinterface_places-requires-in-None-clause-known g c =
-    known_over c.self.inside.whole c.self.inside.over _ _ c.rows-rows.ensures.kept.order c.as_ref-known.ensures.value c.rows-rows.ensures.rows c.self.invariant.1
+    known_over c.args.self.now c.self.inside.whole _ _ c.rows-rows.ensures.kept.order c.self.view_is c.rows-rows.ensures.rows (mapped (λ o. o.now) (IsOverAt c.args.self.now) c.kept_for-known.result c.kept_for-known.ensures)
 
 pub returns-in-Some : goal.returns-in-Some
 returns-in-Some g c =

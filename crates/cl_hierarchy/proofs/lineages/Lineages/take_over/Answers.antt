@@ -1,28 +1,19 @@
-use Rattle.std.proofs.Common.{◌∙◌, ◌≤◌, ℕ, List, length, refl, subst, sym}
-use Rattle.cl_hierarchy.specs.ClassesAt.{own_at}
-use Rattle.cl_hierarchy.specs.Lineages.{IsInOrder, Lined, rows_in}
-use Rattle.cl_hierarchy.specs.OversAt.{IsOverAt}
-use Rattle.cl_hierarchy.specs.PlaceTours.{AreSuperinterfacesAt}
-use Rattle.cl_hierarchy.proofs.OversAt.{none_shared, over_shared}
-use Rattle.cl_hierarchy.proofs.Stems.{if_some}
+use Rattle.std.proofs.Common.{◌≤◌, ℕ, length, subst, sym}
+use Rattle.cl_hierarchy.specs.Lineages.{Lined}
+use Rattle.cl_hierarchy.specs.OversAt.{IsOnlyUnder, IsOverAt}
+use Rattle.cl_hierarchy.proofs.OversAt.{over_below}
 use Rattle.cl_hierarchy.proofs.lineages.Lineages.take_over.Goals as goal
 
-pub returns-clause-over : goal.returns-clause-over
-returns-clause-over g c =
-    let l = c.self.inside.whole in
-    let over = c.in_ok-over.over in
+pub returns-in-Some-clause-over : goal.returns-in-Some-clause-over
+returns-in-Some-clause-over g c =
+    let l = c.args.self.now in
     let place = c.args.place in
-    let kept : IsOverAt l over = if_some (IsOverAt l) c.self.inside.over over (sym c.take.ensures.value ∙ c.in_ok-over.was) c.self.invariant.1 in
-    let order = subst (λ (x : Lined). IsInOrder x) (sym c.self.view_is) c.lineage.ensures.kept.order in
-    let le = subst (λ (x : Lined). place ≤ length x.above) (sym c.self.view_is) c.requires.within in
-    let same = c.shares_over.ensures c.if-not-shares_over.false in
-    let are : AreSuperinterfacesAt (rows_in c.args.self.now) (own_at c.args.self.now place) c.into_places.result.items =
-    subst (λ (ps : List ℕ). AreSuperinterfacesAt (rows_in c.args.self.now) (own_at c.args.self.now place) ps) (sym c.into_places.ensures)
-    (subst (λ (x : Lined). AreSuperinterfacesAt (rows_in x) (own_at x place) over.places.items) c.self.view_is (over_shared l place over.of order le kept.within over.places.items same kept.are)) in (
-      refl,
-      record {
-        within = c.requires.within;
-        are = are;
-        shared_are = none_shared (rows_in c.args.self.now) (own_at c.args.self.now place) c.into_places.result.items c.new-none.result.items c.new-none.ensures.items;
-      },
+    let over = c.in_ok-over.over in
+    let kept : IsOverAt l over = c.in_ok-over.ensures.over in
+    let found : c.in-Some.up ≤ length l.above → IsOnlyUnder l place c.in-Some.up =
+    subst (λ (x : Lined). c.in-Some.up ≤ length x.above → IsOnlyUnder x place c.in-Some.up) c.take_kept.ensures.same c.in-Some.ensures in
+    let within : c.in-Some.up ≤ length l.above = subst (λ (n : ℕ). n ≤ length l.above) (sym c.if-up-over.true) kept.within in
+    let only : IsOnlyUnder l place over.of = subst (λ (n : ℕ). IsOnlyUnder l place n) c.if-up-over.true (found within) in (
+      c.below.ensures.of,
+      over_below l place over c.below.result c.lineage.ensures.kept.order c.requires.within only kept c.below.ensures.of c.below.ensures.places c.below.ensures.passed c.below.ensures.more,
     )

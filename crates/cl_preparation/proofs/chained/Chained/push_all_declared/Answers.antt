@@ -7,12 +7,12 @@ use Rattle.cl_preparation.proofs.chained.Chained.push_all_declared.Goals as goal
 
 pub push_each_declared-requires : goal.push_each_declared-requires
 push_each_declared-requires g c =
-    let is = subst (λ (l : Lined). IsChained l c.self.inside.own c.self.inside.survey.now c.self.inside.above.now c.self.inside.over c.self.inside.shared.now) c.self.view_is c.self.invariant in
+    let is = subst (λ (l : Lined). IsChained l c.self.inside.own c.self.inside.survey.now c.self.inside.above.now c.self.inside.over c.self.inside.whole.now c.self.inside.place) c.self.view_is c.self.invariant in
     is.over_are.loaders_are
 
 pub push_each_declared-pushed-requires : goal.push_each_declared-pushed-requires
 push_each_declared-pushed-requires g c =
-    let is = subst (λ (l : Lined). IsChained l c.self.inside.own c.self.inside.survey.now c.self.inside.above.now c.self.inside.over c.self.inside.shared.now) c.self.view_is c.self.invariant in
+    let is = subst (λ (l : Lined). IsChained l c.self.inside.own c.self.inside.survey.now c.self.inside.above.now c.self.inside.over c.self.inside.whole.now c.self.inside.place) c.self.view_is c.self.invariant in
     let l = c.args.self.now in
     let like = map (λ r. r.now.value) c.in_ok-like.like.items in
     let are = subst (λ rs. AreLike c.self.inside.own rs like) c.as_slice.ensures c.in_ok-like.ensures in

@@ -17,5 +17,5 @@ returns g c =
     on_ok_weaker c.push_methods.result
     (λ e. e ∙ ap (λ (r : Rowed). with_all old (flat_map (fewer_inherited k (bare r)) c.as_slice.result.now)) c.in_ok-interface.ensures
     ∙ ap (λ ms. with_all old (flat_map (fewer_inherited k (bare c.args.row.now.value)) ms))
-    (c.as_slice.ensures.value ∙ c.in_ok-methods.ensures ∙ ap (λ (r : Rowed). filter (λ m. hides m.key (bare c.args.hiding.now)) (file_of r.file).methods) c.deref.ensures))
+    (c.as_slice.ensures.value ∙ c.in_ok-methods.ensures ∙ ap (λ (r : Rowed). filter (λ m. hides m.key (bare c.args.hiding.now.class)) (file_of r.file).methods) c.deref.ensures))
     c.push_methods.ensures

@@ -10,14 +10,14 @@ use Rattle.cl_preparation.proofs.chained.Chained.push_inherited.Goals as goal
 
 pub returns-in-Nothing : goal.returns-in-Nothing
 returns-in-Nothing g c =
-    let is = subst (λ (l : Lined). IsChained l c.self.inside.own c.self.inside.survey.now c.self.inside.above.now c.self.inside.over c.self.inside.shared.now) c.self.view_is c.self.invariant in
+    let is = subst (λ (l : Lined). IsChained l c.self.inside.own c.self.inside.survey.now c.self.inside.above.now c.self.inside.over c.self.inside.whole.now c.self.inside.place) c.self.view_is c.self.invariant in
     on_ok_weaker c.push_over.result
-    (λ e. chained_all c.args.self.now c.self.inside.own c.self.inside.survey.now c.self.inside.above.now c.self.inside.over c.self.inside.shared.now is c.args.given c.args.needs.now c.push_over.new.needs c.requires.declared e)
+    (λ e. chained_all c.args.self.now c.self.inside.own c.self.inside.survey.now c.self.inside.above.now c.self.inside.over c.self.inside.whole.now c.self.inside.place is c.args.given c.args.needs.now c.push_over.new.needs c.requires.declared e)
     c.push_over.ensures
 
 pub returns-in-Superclass : goal.returns-in-Superclass
 returns-in-Superclass g c =
-    let is = subst (λ (l : Lined). IsChained l c.self.inside.own c.self.inside.survey.now c.self.inside.above.now c.self.inside.over c.self.inside.shared.now) c.self.view_is c.self.invariant in
+    let is = subst (λ (l : Lined). IsChained l c.self.inside.own c.self.inside.survey.now c.self.inside.above.now c.self.inside.over c.self.inside.whole.now c.self.inside.place) c.self.view_is c.self.invariant in
     on_ok_weaker c.push_left.result
     (λ left. subst (λ (x : Given). AreFew x (kin_of c.args.self.now) c.push_left.new.needs.needs) (sym c.in-Superclass.is)
     (few_left (kin_of c.args.self.now) c.args.needs.now c.push_left.new.needs is.class c.requires.declared left))

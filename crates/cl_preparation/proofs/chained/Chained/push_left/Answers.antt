@@ -10,7 +10,7 @@ use Rattle.cl_preparation.proofs.chained.Chained.push_left.Goals as goal
 
 pub push_new_rows-requires : goal.push_new_rows-requires
 push_new_rows-requires g c =
-    let is = subst (λ (l : Lined). IsChained l c.self.inside.own c.self.inside.survey.now c.self.inside.above.now c.self.inside.over c.self.inside.shared.now) c.self.view_is c.self.invariant in
+    let is = subst (λ (l : Lined). IsChained l c.self.inside.own c.self.inside.survey.now c.self.inside.above.now c.self.inside.over c.self.inside.whole.now c.self.inside.place) c.self.view_is c.self.invariant in
     let l = c.args.self.now in
     let up = subst (λ (x : Lined). IsClassAbove x c.in-Some.above) c.self.view_is (subst (λ o. IfSome o (IsClassAbove c.self.inside.lineage.now)) c.in-Some.is c.in_ok-above.ensures) in
     let fit : ImposesShared (kin_of l) (hidden_by c.in_ok-hiding.hiding) =
@@ -22,7 +22,7 @@ push_new_rows-requires g c =
 
 pub returns : goal.returns
 returns g c =
-    let is = subst (λ (l : Lined). IsChained l c.self.inside.own c.self.inside.survey.now c.self.inside.above.now c.self.inside.over c.self.inside.shared.now) c.self.view_is c.self.invariant in
+    let is = subst (λ (l : Lined). IsChained l c.self.inside.own c.self.inside.survey.now c.self.inside.above.now c.self.inside.over c.self.inside.whole.now c.self.inside.place) c.self.view_is c.self.invariant in
     let l = c.args.self.now in
     on_ok_weaker c.push_new_rows.result
     (λ left. all_left_rows l c.self.inside.own c.self.inside.over is.class is.over_are (λ r. r.now.value) c.as_slice.result.now c.args.needs.now c.push_new_rows.new.needs c.as_slice.ensures left)

@@ -20,5 +20,5 @@ loop-member-preserved g c =
       | in-Some+in_ok-push-in-Some w ↦ ap (λ v. v.items) w.hidden-is ∙ w.in_ok-push-in-Some.ensures.items ∙ ap (λ o. done ++ option_to_list o) (sym w.in-Some.is)
       | in-None w ↦ ap (λ v. v.items) w.hidden-is ∙ sym (append-nil done) ∙ ap (λ o. done ++ option_to_list o) (sym w.in-None.is)
     ] in
-    picked_more (λ key. hides key (bare c.args.self.now)) c.pool-pool.result.now c.methods-members.result.now c.loop-member.member-index c.member-item.result c.in_ok-method.field-0 done c.match-branch-2.hidden.items
+    picked_more (λ key. hides key (bare c.args.self.now.class)) c.pool-pool.result.now c.methods-members.result.now c.loop-member.member-index c.member-item.result c.in_ok-method.field-0 done c.match-branch-2.hidden.items
     c.loop-member-test.true c.member-item.is c.in_ok-method.ensures c.loop-member.invariant more

@@ -9,7 +9,6 @@ pub mod Enough
 pub mod Frames
 pub mod Inside
 pub mod Ladders
-pub mod Marking
 pub mod MetAbove
 pub mod Namings
 pub mod OversAt
@@ -23,6 +22,7 @@ pub mod RowIndex
 pub mod RowTables
 pub mod Rungs
 pub mod Scans
+pub mod Sharing
 pub mod Spelling
 pub mod Stages
 pub mod StemEnds

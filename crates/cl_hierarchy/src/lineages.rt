@@ -4,7 +4,7 @@ ghost use Rattle.std.specs.Prelude.{◌≡◌, ◌≤◌, Some, length, is_some,
 ghost use Rattle.std.specs.List.{AllByRecursion};
 ghost use Rattle.cl_hierarchy.specs.ClassesAt.{lined_at, own_at};
 ghost use Rattle.cl_hierarchy.specs.Lineages.{IsLined, IsRowIn, kin_at, kin_of, rows_in};
-ghost use Rattle.cl_hierarchy.specs.OversAt.{AreSharingAt, AreSharingIn, IsOnlyUnder, IsOverAt, IsUpAt};
+ghost use Rattle.cl_hierarchy.specs.OversAt.{AreAllSharing, AreSharingIn, IsOnlyUnder, IsOverAt, IsUpAt, kin_there};
 ghost use Rattle.cl_hierarchy.specs.PlaceTours.{AreSuperinterfacesAt};
 ghost use Rattle.cl_hierarchy.specs.Supers.{AreAllSupers};
 ghost use Rattle.cl_model.specs.Lineages.{superinterfaces};
@@ -26,7 +26,7 @@ pub struct Lineages<T: Told> {
     table: Option<Vec<Supers>>,
     /// Where the superinterfaces of one class stand that is no interface, once `find_superinterfaces` looked for those of one.
     over_class: Option<OverAt>,
-    /// The same of an interface: what stands above a class goes through both by turns.
+    /// The same of an interface: a link comes to classes and interfaces by turns, and neither takes the other's place.
     over_interface: Option<OverAt>,
 }
 
@@ -128,21 +128,28 @@ impl<T: Told> Lineages<T> {
         Ok(())
     }
 
-    /// What is kept of superinterfaces for one like the class at a place: for an interface, or for another class.
+    /// Whether the class at a place is an interface.
+    fn is_interface(&self, place: usize) -> bool
+        requires within { place ≤ length self.now.above }
+    {
+        self.whole.row_at(place).file().is_interface()
+    }
+
+    /// What is kept of an interface, where the class at a place is one, and else of a class that is none.
     fn kept_for(&self, place: usize) -> Option<&OverAt>
         requires within { place ≤ length self.now.above }
         ensures { IfSome result (λ o. IsOverAt self.now o.now) }
     {
         // brings what the lineage keeps
         let _ = self.lineage();
-        if self.whole.row_at(place).file().is_interface() {
+        if self.is_interface(place) {
             self.over_interface.as_ref()
         } else {
             self.over_class.as_ref()
         }
     }
 
-    /// The same, given away.
+    /// That, given away.
     fn take_kept(&mut self, place: usize) -> Option<OverAt>
         requires within { place ≤ length self.old.above }
         ensures same { self.new ≡ self.old }
@@ -150,14 +157,14 @@ impl<T: Told> Lineages<T> {
     {
         // brings what the lineage keeps
         let _ = self.lineage();
-        if self.whole.row_at(place).file().is_interface() {
+        if self.is_interface(place) {
             self.over_interface.take()
         } else {
             self.over_class.take()
         }
     }
 
-    /// Keeps it for one like the class at a place.
+    /// Keeps that of the class at a place.
     fn keep(&mut self, place: usize, over: OverAt)
         requires within { place ≤ length self.old.above }
         requires over { IsOverAt self.old over }
@@ -165,7 +172,7 @@ impl<T: Told> Lineages<T> {
     {
         // brings what the lineage keeps
         let _ = self.lineage();
-        if self.whole.row_at(place).file().is_interface() {
+        if self.is_interface(place) {
             self.over_interface = Some(over);
         } else {
             self.over_class = Some(over);
@@ -203,8 +210,7 @@ impl<T: Told> Lineages<T> {
         }
     }
 
-    /// What is kept of superinterfaces, as that of the class at a place, if these are its own: it is that, or names none, and the other
-    /// is its superclass.
+    /// What is kept, as that of the class at a place: if it is of that class, or of its superclass where that is its one direct supertype.
     fn take_over(&mut self, place: usize) -> Option<OverAt>
         requires within { place ≤ length self.old.above }
         ensures same { self.new ≡ self.old }
@@ -237,7 +243,8 @@ impl<T: Told> Lineages<T> {
     }
 
     /// Looks for the superinterfaces of the class at a place, and keeps where they stand, so that `superinterfaces_at` looks for none,
-    /// nor for those of a class that names none and whose superclass it is.
+    /// nor for those of a class that names none and whose superclass it is. In the time of `superinterfaces_at`, and a number for each
+    /// row of the whole (JVMS SE 8, 5.4.3.3).
     pub fn find_superinterfaces(&mut self, alloc: Global, place: usize) -> Result<(), AllocError>
         requires within { place ≤ length self.old.above }
         ensures same { self.new ≡ self.old }
@@ -251,7 +258,8 @@ impl<T: Told> Lineages<T> {
         Ok(())
     }
 
-    /// Does so if those of its superclass are kept: so that of a class below it is known how many superclasses have one of them.
+    /// Looks for the superinterfaces of the class at a place as `find_superinterfaces` does, but only where those of its superclass are
+    /// kept, so that `sharing_at` goes on counting below it. Else it does nothing, in constant time (JVMS SE 8, 5.4.3.3).
     pub fn follow_superinterfaces(&mut self, alloc: Global, place: usize) -> Result<(), AllocError>
         requires within { place ≤ length self.old.above }
         ensures same { self.new ≡ self.old }
@@ -272,7 +280,7 @@ impl<T: Told> Lineages<T> {
         Ok(OverAt {
             of: place,
             places: found,
-            passed: 0,
+            sharing_all: 0,
             more,
         })
     }
@@ -285,8 +293,8 @@ impl<T: Told> Lineages<T> {
         places: &[usize],
     ) -> Result<Vec<usize>, AllocError>
         requires within { place ≤ length self.now.above }
-        ensures { IfOk result (λ v. AreSharingAt (rows_in self.now) (own_at self.now place)
-            places.now 0 v.items) }
+        requires are { AreSuperinterfacesAt (rows_in self.now) (own_at self.now place) places.now }
+        ensures { IfOk result (λ v. AreAllSharing (kin_there self.now place) 0 v.items) }
     {
         match self.kept_above(place) {
             Some(over) => counts_at(alloc, self.whole.rows().len(), over, places),
@@ -309,9 +317,9 @@ impl<T: Told> Lineages<T> {
         }
     }
 
-    /// How many superclasses of the class at a place, from the nearest on, are known to have its superinterface of this number in
-    /// `superinterfaces_at` too: where `find_superinterfaces` looked for those of the nearest and then of this class, all that do of those
-    /// of which it looked one after another; else none. Constant time, no memory.
+    /// How many superclasses in a row, nearest first, are known to have the superinterface of this number in `superinterfaces_at` of the
+    /// class at a place; there may be more. All are counted down from the first class that `find_superinterfaces` came to, if that,
+    /// `follow_superinterfaces` or `pass_superinterfaces` came to each below it in turn. Constant time, no memory (JVMS SE 8, 5.4.3.3).
     pub fn sharing_at(&self, place: usize, index: usize) -> usize
         requires within { place ≤ length self.now.above }
         ensures { AreSharingIn (kin_of (lined_at self.now place)) index result }

@@ -18,14 +18,13 @@ use std::alloc::{AllocError, Global};
 use std::marker::Model;
 use std::sync::Arc;
 
-/// Where the superinterfaces of the class at a place stand, and of each how many superclasses, from the nearest on, are known to
-/// have it too.
+/// Where the superinterfaces of the class at a place stand, and how many superclasses in a row, nearest first, are known to have each.
 pub(crate) struct OverAt {
     pub of: usize,
     pub places: Vec<usize>,
-    /// So many of its superclasses have all of them.
-    pub passed: usize,
-    /// Of each how many more have it; of those behind the last number none.
+    /// So many superclasses in a row have all of them.
+    pub sharing_all: usize,
+    /// Of each, how many more have it; 0 of those behind the last number.
     pub more: Vec<usize>,
 }
 
@@ -34,41 +33,41 @@ impl Drop for OverAt {
         let OverAt {
             of: _,
             places: _,
-            passed: _,
+            sharing_all: _,
             more: _,
         } = self;
     }
 }
 
 impl OverAt {
-    /// The same of the class at a place, which has those of its superclass, of which these are.
+    /// The same of the class at a place, which has the same superinterfaces, and whose superclass is the class of these.
     pub fn below(self, place: usize) -> OverAt
         ensures of { result.of ≡ place }
         ensures places { result.places.items ≡ self.places.items }
-        ensures passed { result.passed ≤ self.passed + 1 }
+        ensures sharing_all { result.sharing_all ≤ self.sharing_all + 1 }
         ensures more { result.more.items ≡ self.more.items }
     {
         let OverAt {
             of: _,
             places,
-            passed,
+            sharing_all,
             more,
         } = self;
         OverAt {
             of: place,
             places,
-            passed: passed.saturating_add(1),
+            sharing_all: sharing_all.saturating_add(1),
             more,
         }
     }
 
-    /// How many superclasses, from the nearest on, are known to have the superinterface of this number.
+    /// How many superclasses in a row are known to have the superinterface of this number.
     pub fn sharing(&self, index: usize) -> usize
-        ensures { result ≤ sharing_in self.now.passed self.now.more.items index }
+        ensures { result ≤ sharing_in self.now.sharing_all self.now.more.items index }
     {
         match self.more.get(index) {
-            Some(more) => self.passed.saturating_add(*more),
-            None => self.passed,
+            Some(more) => self.sharing_all.saturating_add(*more),
+            None => self.sharing_all,
         }
     }
 }

@@ -16,7 +16,7 @@ fn count_at(counts: &mut Vec<usize>, place: usize, count: usize)
     }
 }
 
-/// Of each of so many places how many superclasses of a class whose superclass has these superinterfaces have the one there too.
+/// For each of so many places: of a class whose superclass has these superinterfaces, how many superclasses have the one there.
 fn counts_below(alloc: Global, rows: usize, over: &OverAt) -> Result<Vec<usize>, AllocError>
     ensures { IfOk result (λ v. (p : ℕ) → IsCounted over.now p (get_or v.items p 0)) }
 {
@@ -41,8 +41,8 @@ fn count_of(counts: &[usize], place: usize) -> usize
     }
 }
 
-/// Of each of the superinterfaces at these places of a class, which are fewer than so many, how many superclasses have it too, where
-/// its superclass has these.
+/// Of each superinterface of a class, by its place among so many rows: how many superclasses have it too, where the superclass has
+/// these.
 pub(crate) fn counts_at(
     alloc: Global,
     rows: usize,

@@ -1,12 +1,12 @@
 -- What a class inherits is imposed where its superclass is prepared, with the superinterfaces that this one has too, but for what it hides.
-use Rattle.std.proofs.Common.{◌≡◌, ◌∙◌, ◌⊎◌, ◌&&◌, ◌++◌, inl, inr, ℕ, Bool, true, false, not, if◌then◌else◌, Option, Some, None, List, [], ◌∷◌, ◌+◌, ◌-◌, ◌<◌, ◌≤◌, zero, suc, filter, append-nil, arith, get_or, length, map, take, refl, ap, sym, subst}
+use Rattle.std.proofs.Common.{◌≡◌, ◌∙◌, ◌⊎◌, ◌&&◌, ◌||◌, ◌++◌, inl, inr, ℕ, Bool, true, false, not, if◌then◌else◌, Option, Some, None, List, [], ◌∷◌, ◌+◌, ◌-◌, ◌<◌, ◌≤◌, zero, suc, filter, append-nil, arith, get_or, length, map, take, refl, ap, sym, subst}
 use Rattle.std.specs.Prelude.{Contains, IfSome, find, flat_map, is_some, nat_le, option_map, slice_get}
 use Rattle.std.specs.List.{AllByRecursion}
 use Rattle.std.proofs.lemmas.Bool.{and_parts, leb-true}
 use Rattle.std.proofs.lemmas.Grind.{flat_map-append}
 use Rattle.std.proofs.lemmas.List.{take_more}
-use Rattle.std.proofs.lemmas.Option.{same_Some, slice_get-map}
-use Rattle.std.proofs.lemmas.List.Elements.{All-contains, All-from_recursion, Contains-append_left, Contains-append_right}
+use Rattle.std.proofs.lemmas.Option.{slice_get-map}
+use Rattle.std.proofs.lemmas.List.Elements.{All-contains, All-from_recursion, Contains-append_right}
 use Rattle.cl_classfile.specs.Files.{Key, Member, file_of, is_interface, member, same_key}
 use Rattle.cl_model.specs.declared.class.Class.{Class}
 use Rattle.cl_model.specs.Lineages.{Bare, Forest, Kin, Tree, alone, if_declared, is_offered, is_virtual, method_of, once, preorder, superclasses, superinterfaces, upward}
@@ -20,7 +20,8 @@ use Rattle.cl_hierarchy.specs.Lineages.{Lined, kin_at, kin_of}
 use Rattle.cl_hierarchy.specs.OversAt.{AreSharing, AreSharingIn}
 use Rattle.cl_hierarchy.specs.Rows.{Rowed}
 use Rattle.cl_hierarchy.specs.Trees.{forest, in_front, kin_named, kins, superclass_in}
-use Rattle.cl_hierarchy.proofs.OversAt.{next_up}
+use Rattle.cl_hierarchy.proofs.Climbs.{upward_first}
+use Rattle.cl_hierarchy.proofs.OversAt.{there_in}
 use Rattle.cl_preparation.specs.Listings.{Listing}
 use Rattle.cl_preparation.specs.Chains.{AreImposed, AreOver, CoversHidden, IsClassAbove, IsShownOrSpared, by_row, hidden_by}
 use Rattle.cl_preparation.specs.Nearby.{AddAll}
@@ -241,7 +242,7 @@ module _ (st : State) (j : Kin) (m : Member) (part : takes_part m.key j ≡ true
       both : AllMet st (constraints_of t) × AllMet st (flat_map constraints_of (superclasses t))
       both = met_split st (constraints_of t) (flat_map constraints_of (superclasses t)) met
 
-      by : (c h r : Bool) → is_interface t.file ≡ c → hides m.key t ≡ h → is_met_above m.key ks ≡ r → (not c && (if h then r else true)) ≡ true → IsMet s
+      by : (c h r : Bool) → is_interface t.file ≡ c → hides m.key t ≡ h → is_met_above m.key ks ≡ r → (not c && (not h || r)) ≡ true → IsMet s
       by true h r ce he re e = absurd cc
       by false false r ce he re e = shown_met s t up ce he there both.0
       by false true false ce he re e = absurd cc
@@ -327,7 +328,7 @@ spared_at l rows part st j m n met over among within (MetAbove e) =
 pub imposes_at : (l : Lined) (up : Rowed) (rows : List Rowed) (hidden : ℕ → Key → Bool) → IsPart rows l → IsClassAbove l up → CoversHidden l rows (bare up) hidden → ImposesShared (kin_of l) hidden
 imposes_at l up rows hidden part is told =
     let s : Kin = kin_at l up in
-    imposes (IsSpared l rows) hidden (kin_of l) s (next_up (kin_of l).superclass s is.above) is.class told (spared_at l rows part)
+    imposes (IsSpared l rows) hidden (kin_of l) s (upward_first (kin_of l).superclass s is.above) is.class told (spared_at l rows part)
 
 -- a class of which each method is offered or spared hides none that is not
 pub none_hidden : (l : Lined) (rows : List Rowed) (up : Rowed) (ms : List Member) → ms ≡ (file_of up.file).methods → ((n : ℕ) → 0 ≤ n → AllByRecursion (IsShownOrSpared l rows (bare up) n) ms) → CoversHidden l rows (bare up) (hidden_by None)
@@ -381,12 +382,6 @@ few_unhidden h n ms e = ap (λ (b : Bool). filter (λ (m : Member). not (not b &
 
 -- ---- rows of superinterfaces that the superclass has too
 
-found_there : (ks : List Kin) (i : ℕ) (k : Kin) → slice_get ks i ≡ Some k → Contains ks k
-found_there [] zero k e = absurd cc
-found_there [] (suc i) k e = absurd cc
-found_there (x ∷ ks) zero k e = Contains-append_left (x ∷ []) ks k (0, omega arith, same_Some x k e)
-found_there (x ∷ ks) (suc i) k e = Contains-append_right (x ∷ []) ks k (found_there ks i k e)
-
 none_there : {A : Type 0} (i : ℕ) (x : A) → slice_get [] i ≡ Some x → ⊥
 none_there zero x e = cc
 none_there (suc i) x e = cc
@@ -411,7 +406,7 @@ named_none l own i same none = by (few_above (kins l.above) (superclass_in l.own
     by (inl bare_up) = λ j at. subst (λ (f : Forest). AllByRecursion (λ (a : Kin). Contains (superinterfaces a) j) (take 1 (upward f))) (sym bare_up) tt
     by (inr up) = λ j at.
         subst (λ (f : Forest). AllByRecursion (λ (a : Kin). Contains (superinterfaces a) j) (take 1 (upward f))) (sym up.1)
-        (subst (λ (ks : List Kin). Contains ks j) (over_same (kin_of l) up.0 up.1 bare_over) (found_there (superinterfaces (kin_of l)) i j at), tt)
+        (subst (λ (ks : List Kin). Contains ks j) (over_same (kin_of l) up.0 up.1 bare_over) (there_in (superinterfaces (kin_of l)) i j at), tt)
 
 -- the methods of a row that superclasses have too impose what is met, but for those that are hidden
 pub shared_met : (l : Lined) (over : List Rowed) (hidden : ℕ → Key → Bool) → ImposesShared (kin_of l) hidden → AreOver l over → AreImposed (kin_of l) hidden over
@@ -419,7 +414,7 @@ shared_met l over hidden fit (inl none) i n r some shared at = absurd (none_ther
 shared_met l over hidden fit (inr all) i n r some shared at =
     let j : Kin = kin_at all.0 r in
     let there : slice_get (superinterfaces (kin_of l)) i ≡ Some j = ap (λ (ks : List Kin). slice_get ks i) (sym all.1) ∙ slice_get-map (kin_at all.0) over i ∙ ap (λ (o : Option Rowed). option_map (kin_at all.0) o) at in
-    λ st h. fit j n some (shared j there) (found_there (superinterfaces (kin_of l)) i j there) st h
+    λ st h. fit j n some (shared j there) (there_in (superinterfaces (kin_of l)) i j there) st h
 
 -- the row that is read at a place stands there
 pub row_at : {A : Type 0} (rows : List A) (i : ℕ) (x : A) → i < length rows → x ≡ get_or rows i x → slice_get rows i ≡ Some x

@@ -46,24 +46,24 @@ pub record IsClassAbove (l : Lined) (r : Rowed) : Type 0 where
   pub above : Some (kin_at l r) ≡ first (superclasses (kin_of l))
   pub class : is_interface (file_of r.file) ≡ false
 
--- a method of the superclass of the class of a lineage is neither private nor static, or spared, where
--- so many superclasses have the superinterface (5.4.2)
+-- a method of the superclass is not hidden, or is spared with a superinterface that so many
+-- superclasses have (5.4.2)
 abbrev pub IsShownOrSpared : Lined → List Rowed → Kin → ℕ → Member → Type 0
 IsShownOrSpared l rows above n m = (is_offered m.key above ≡ true) ⊎ IsSpared l rows n m.key
 
--- which methods a class hides, if there is one, where so many superclasses are not enough (5.4.5)
+-- which methods a class hides, if there is one, and so many superclasses are not enough (5.4.5)
 abbrev pub hidden_by : Option Hider → ℕ → Key → Bool
 hidden_by None n key = false
 hidden_by (Some h) n key = not (are_enough h.enough n) && hides key (bare h.class)
 
--- all methods that this superclass of the class of a lineage hides are among these, or spared
+-- with however many superclasses: each method that this superclass hides is among these, or spared
 -- (5.4.2)
 abbrev pub CoversHidden : Lined → List Rowed → Kin → (ℕ → Key → Bool) → Type 0
 CoversHidden l rows k hidden =
     (n : ℕ) (key : Key) → hides key k ≡ true → (hidden n key ≡ true) ⊎ IsSpared l rows n key
 
--- what these rows impose, but for these methods, is met where what superclasses impose is, of each that
--- so many superclasses have too, one at the least (5.4.2)
+-- of each of these rows that one superclass or more have too: what it imposes, but for these
+-- methods, superclasses have imposed (5.4.2)
 abbrev pub AreImposed : Kin → (ℕ → Key → Bool) → List Rowed → Type 0
 AreImposed c hidden rows =
     (i n : ℕ) (r : Rowed) → 1 ≤ n → AreSharingIn c i n → slice_get rows i ≡ Some r

@@ -20,7 +20,7 @@ with_none = of_file (plain "p/A")
 abbrev pub with_none_over : Kin
 with_none_over = of_file (interface "p/A")
 
--- what a class below superclasses, nearest first, would impose by m is met, or not, with a superinterface
--- that all of them have (5.4.2)
+-- whether superclasses, nearest first, have imposed what a class below would by m, with a
+-- superinterface of all of them (5.4.2)
 abbrev pub Meets : List Kin → Bool → Type 0
 Meets ks met = is_met_above (taking_t "m") ks ≡ met

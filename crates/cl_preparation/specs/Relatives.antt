@@ -36,13 +36,9 @@ AreFilters [] rs = ⊤
 AreFilters (f ∷ fs) [] = ⊤
 AreFilters (f ∷ fs) (r ∷ rs) = AreNames (file_of r.file).methods f × AreFilters fs rs
 
--- a class names a superinterface (4.1, interfaces)
-abbrev pub names_over : Kin → Bool
-names_over k = is_some (slice_get k.file.interfaces 0)
-
--- the class of a row does
+-- the class of a row names a superinterface (4.1, interfaces)
 abbrev pub names_interfaces : Rowed → Bool
-names_interfaces r = names_over (bare r)
+names_interfaces r = is_some (slice_get (file_of r.file).interfaces 0)
 
 -- the step of a walk over superclasses: equalities where the method of this one is overridden, and
 -- what it opens (5.4.2, 5.4.5)

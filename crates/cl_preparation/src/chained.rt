@@ -238,8 +238,8 @@ impl<'a, 'b, 'c, 'd, T: Told> Chained<'a, 'b, 'c, 'd, T> {
         self.push_rows(alloc, needs, self.over.as_slice())
     }
 
-    /// How many superclasses, from the nearest on, are known to have the superinterface of this number too: of a class that names none
-    /// its superclass has all.
+    /// How many superclasses in a row are known to have the superinterface of this number. Where none is, and the class names no
+    /// superinterface, 1: its superclass has all of them.
     fn sharing(&self, index: usize) -> usize
         ensures { AreSharingIn (kin_of self.now) index result }
     {
@@ -261,15 +261,16 @@ impl<'a, 'b, 'c, 'd, T: Told> Chained<'a, 'b, 'c, 'd, T> {
     ) -> Result<(), AllocError>
         ensures { OnOk result (needs.new ≡ with_all needs.old
             (flat_map (fewer_inherited (kin_of self.now) (bare row.now.value))
-            (filter (λ m. hides m.key (bare hiding.now.class)) (bare row.now.value).file.methods))) }
+            (filter (λ m. hides m.key (bare hiding.now.class))
+            (bare row.now.value).file.methods))) }
     {
         let methods = hiding.hidden_of(alloc, row)?;
         let interface = Relative::unfiltered(row)?;
         self.push_methods(alloc, needs, &interface, methods.as_slice())
     }
 
-    /// Adds what the methods of the superinterface of a row impose; of one that so many superclasses have too those that the nearest
-    /// hides, where they are not enough, since superclasses have imposed the others.
+    /// Adds what the methods of the superinterface of a row impose. Where superclasses have it too, that is imposed, but for the methods
+    /// that the nearest hides, and these too where enough have it.
     fn push_new_row(
         &self,
         alloc: Global,

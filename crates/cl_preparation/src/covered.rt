@@ -20,9 +20,9 @@ use cl_hierarchy::Lineage;
 use cl_model::Told;
 use std::alloc::{AllocError, Global};
 
-/// How many superclasses of the class of a lineage, from the nearest on, have to have a superinterface so that what the class would
-/// impose with a method of it is imposed: as many as there are up to the first that does not hide the method. There is no such number
-/// where all hide it, or an interface stands before (JVMS SE 8, 5.4.2, 5.4.5).
+/// How many superclasses in a row, nearest first, have to have a superinterface so that one of them has imposed what the class of a
+/// lineage would impose by a method of it: as many as there are up to the nearest that does not hide the method. None where all hide
+/// it, or an interface stands before (JVMS SE 8, 5.4.2, 5.4.5).
 fn enough_above<T: Told>(lineage: &Lineage<T>, key: &MethodKey) -> Option<usize>
     ensures { IfSome result (λ enough. (n : ℕ) → enough ≤ n
         → is_met_above key.now (take n (superclasses (kin_of lineage.now))) ≡ true) }
@@ -41,7 +41,8 @@ fn enough_above<T: Told>(lineage: &Lineage<T>, key: &MethodKey) -> Option<usize>
     None
 }
 
-/// How many superclasses have to have a superinterface so that a method of the superclass is neither private nor static, or spared.
+/// How many have to, so that nothing is left to be listed of a method of the superclass: 0 where that is not hidden, is unmixed, or the
+/// class declares it.
 fn enough_for<T: Told>(
     alloc: Global,
     survey: &Survey,
@@ -67,7 +68,7 @@ fn enough_for<T: Told>(
     Ok(enough_above(lineage, key))
 }
 
-/// How many have to so that it is so of each of these.
+/// The most that one of these methods needs; none where one has no such number.
 fn enough_for_all<T: Told>(
     alloc: Global,
     survey: &Survey,
@@ -106,8 +107,7 @@ pub(crate) fn class_above<T: Told>(lineage: &Lineage<T>) -> Result<Option<Relati
     Ok(Some(above))
 }
 
-/// The superclass of the class of a lineage, if it hides methods of which not all are spared whatever superclasses have: from these,
-/// constraints with superinterfaces may follow that no superclass has imposed.
+/// The superclass, if it hides methods of which constraints may be left that no superclass has imposed.
 pub(crate) fn hiding_of<T: Told>(
     alloc: Global,
     survey: &Survey,

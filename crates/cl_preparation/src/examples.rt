@@ -17,8 +17,8 @@ pub fn constraints_once()
         ≡ Equal (codes "p/T") boot app ∷ Equal (codes "p/T") boot plug ∷ [] }
 {}
 
-/// Of superclasses that all have a superinterface the nearest that does not hide a method has imposed what it would; if there is none,
-/// or an interface before it, it may be that none has.
+/// Where superclasses all have a superinterface, the nearest that does not hide a method has imposed what a class below them would.
+/// Where all hide it, or an interface stands before, maybe none has.
 pub fn met_above()
     ensures above_private { Meets (with_m private ∷ with_m public ∷ []) true }
     ensures above_static { Meets (with_m static ∷ with_m private ∷ with_none ∷ []) true }

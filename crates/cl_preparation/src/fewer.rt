@@ -1,6 +1,6 @@
 //! The few loading constraints of a preparation that stand for all of them (JVMS SE 8, 5.3.4, 5.4.2).
 
-ghost use Rattle.std.specs.Prelude.{◌≡◌, ◌≤◌, [], Some, false, true, length, map, flat_map, IfOk};
+ghost use Rattle.std.specs.Prelude.{◌≡◌, ◌≤◌, [], Some, false, true, length, map, flat_map, IfOk, IfSome};
 ghost use Rattle.std.specs.List.{AllByRecursion};
 ghost use Rattle.cl_classfile.specs.Files.{file_of, is_interface};
 ghost use Rattle.cl_model.specs.Lineages.{superclasses, superinterfaces};
@@ -16,14 +16,14 @@ ghost use Rattle.cl_preparation.specs.Listings.{has_need, without_repeats};
 ghost use Rattle.cl_preparation.specs.MethodsAbove.{AreTold};
 ghost use Rattle.cl_preparation.specs.Nearby.{AddAll, near_declared};
 ghost use Rattle.cl_preparation.specs.Relatives.{bare};
-ghost use Rattle.cl_preparation.specs.Surveys.{Surveys};
+ghost use Rattle.cl_preparation.specs.Surveys.{IsSurvey, Surveys};
 
 use crate::away::Away;
 use crate::chained::Chained;
 use crate::methods_above::MethodsAbove;
 use crate::near::Nearby;
 use crate::plain::plain_needs;
-use crate::preparations::Preparations;
+use crate::preparations::{Preparations, may_look_long};
 use crate::quiet::{are_quiet, has_own_over};
 use crate::relative::Relative;
 use crate::relatives::{has_none_over, imposes_nothing, takes_no_part};
@@ -184,6 +184,7 @@ fn chained_needs<T: Told>(
 {
     let own = Relative::of(alloc, lineage.own())?;
     if is_silent(alloc, survey, &own)? {
+        // (else the numbers of the classes below would end here)
         whole.follow_superinterfaces(alloc, place)?;
         return Ok(Vec::new(alloc));
     }
@@ -227,6 +228,25 @@ fn surveyed_needs<T: Told>(
     Ok(needs)
 }
 
+/// What a look at all classes found, given away: where there was none, it is made if that may save much.
+fn survey_for<T: Told>(
+    alloc: Global,
+    whole: &mut Preparations<T>,
+    lineage: &Lineage<T>,
+) -> Result<Option<Survey>, AllocError>
+    ensures same { whole.new ≡ whole.old }
+    ensures survey { IfOk result (λ o. IfSome o (IsSurvey (rows_in whole.old))) }
+{
+    if let Some(survey) = whole.take_survey() {
+        return Ok(Some(survey));
+    }
+    if !may_look_long(lineage) {
+        return Ok(None);
+    }
+    let survey = Survey::of(alloc, whole.lineage())?;
+    Ok(Some(survey))
+}
+
 /// The equalities of the class at a place, which is no interface, that are few where this is given.
 fn class_needs<T: Told>(
     alloc: Global,
@@ -244,7 +264,8 @@ fn class_needs<T: Told>(
 {
     // brings what the lineage keeps
     let _ = whole.lineage();
-    match whole.take_survey() {
+    let found = survey_for(alloc, whole, lineage)?;
+    match found {
         None => unsurveyed_needs(alloc, whole, place, lineage),
         Some(survey) => {
             let needs = surveyed_needs(alloc, whole, place, lineage, &survey, given);

@@ -66,7 +66,7 @@ impl<T: Told> Hiding<T> {
         })
     }
 
-    /// Whether what is hidden may not be spared with a superinterface that so many superclasses have.
+    /// Whether too few superclasses have a superinterface for its hidden methods to be spared.
     pub fn leaves(&self, sharing: usize) -> bool
         ensures { result ≡ not (are_enough self.now.enough sharing) }
     {

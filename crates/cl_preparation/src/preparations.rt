@@ -9,6 +9,7 @@ ghost use Rattle.cl_preparation.specs.Surveys.{IsSurvey, Surveys};
 
 use crate::kept::{Kept, told_above};
 use crate::methods_above::MethodsAbove;
+use crate::relatives::has_none_over;
 use crate::survey::Survey;
 use cl_hierarchy::{Lineage, Lineages};
 use cl_model::Told;
@@ -47,15 +48,33 @@ impl<T: Told> Model for Preparations<T> {
     ghost invariant = { λ p. IfSome p.survey (IsSurvey (rows_in p.lineages)) × IfSome p.kept (IsKept p.lineages) };
 }
 
+/// So many looks take longer than a survey of classes whose methods are no more.
+const MANY_LOOKS: usize = 1_000_000;
+
+/// How many methods the classes above that of a lineage declare.
+fn count_methods<T: Told>(lineage: &Lineage<T>) -> usize {
+    let mut methods = 0usize;
+    for row in lineage.above() {
+        methods = methods.saturating_add(row.file().methods().len());
+    }
+    methods
+}
+
 /// Whether a look at all classes of a lineage takes less than it may save, where so many of them are to be prepared: the
 /// preparation of each would look at all above it.
 fn is_worth_surveying<T: Told>(lineage: &Lineage<T>, left: usize) -> bool {
     let rows = lineage.above().len();
-    let mut work = rows;
-    for row in lineage.above() {
-        work = work.saturating_add(row.file().methods().len());
+    left.saturating_mul(rows) >= rows.saturating_add(count_methods(lineage))
+}
+
+/// Whether the preparation of one class alone may take so many looks that one at all classes pays: of its superclasses each may be
+/// looked at for each method of its superinterfaces.
+pub(crate) fn may_look_long<T: Told>(lineage: &Lineage<T>) -> bool {
+    if has_none_over(lineage) {
+        return false;
     }
-    left.saturating_mul(rows) >= work
+    let rows = lineage.above().len();
+    rows.saturating_mul(count_methods(lineage)) >= MANY_LOOKS
 }
 
 impl<T: Told> Preparations<T> {

@@ -1,15 +1,17 @@
 use Rattle.std.proofs.Common.{subst, sym}
+use Rattle.std.specs.Prelude.{IfSome}
 use Rattle.std.proofs.lemmas.Result.{IfOk-weaker}
 use Rattle.cl_hierarchy.specs.Imposed.{needs_of}
-use Rattle.cl_hierarchy.specs.Lineages.{Lined, kin_of}
-use Rattle.cl_preparation.specs.Surveys.{Surveys}
+use Rattle.cl_hierarchy.specs.Lineages.{Lined, kin_of, rows_in}
+use Rattle.cl_preparation.specs.Surveys.{IsSurvey, Surveys}
 use Rattle.cl_preparation.proofs.Standing.{few_given}
 use Rattle.cl_preparation.proofs.Surveyed.{surveys_at}
 use Rattle.cl_preparation.proofs.fewer.class_needs.Goals as goal
 
 pub surveyed_needs-needs-requires-clause-survey : goal.surveyed_needs-needs-requires-clause-survey
 surveyed_needs-needs-requires-clause-survey g c =
-    subst (λ (l : Lined). Surveys l c.in-Some.survey) (sym c.requires.lineage) (surveys_at c.args.whole.now c.args.place c.in-Some.survey c.lineage.ensures.kept.order c.requires.within c.in-Some.ensures.survey)
+    let is = subst (λ o. IfSome o (IsSurvey (rows_in c.args.whole.now))) c.in-Some.is c.in_ok-found.ensures.survey in
+    subst (λ (l : Lined). Surveys l c.in-Some.survey) (sym c.requires.lineage) (surveys_at c.args.whole.now c.args.place c.in-Some.survey c.lineage.ensures.kept.order c.requires.within is)
 
 pub returns-in-None-clause-needs : goal.returns-in-None-clause-needs
 returns-in-None-clause-needs g c =

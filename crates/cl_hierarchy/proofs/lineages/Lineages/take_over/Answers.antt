@@ -15,5 +15,5 @@ returns-in-Some-clause-over g c =
     let within : c.in-Some.up ≤ length l.above = subst (λ (n : ℕ). n ≤ length l.above) (sym c.if-up-over.true) kept.within in
     let only : IsOnlyUnder l place over.of = subst (λ (n : ℕ). IsOnlyUnder l place n) c.if-up-over.true (found within) in (
       c.below.ensures.of,
-      over_below l place over c.below.result c.lineage.ensures.kept.order c.requires.within only kept c.below.ensures.of c.below.ensures.places c.below.ensures.passed c.below.ensures.more,
+      over_below l place over c.below.result c.lineage.ensures.kept.order c.requires.within only kept c.below.ensures.of c.below.ensures.places c.below.ensures.sharing_all c.below.ensures.more,
     )

@@ -1,4 +1,4 @@
--- Numbers of places, one after another.
+-- How many superclasses have a superinterface, by places of rows.
 use Rattle.std.proofs.Common.{◌≡◌, ◌∙◌, ◌⊎◌, ◌≤◌, inl, inr, ℕ, zero, suc, List, [], ◌∷◌, ◌++◌, Some, get_or, length, refl, sym, ap, subst}
 use Rattle.std.proofs.lemmas.Option.{same_Some}
 use Rattle.std.specs.Prelude.{replicate, set, slice_get}
@@ -17,7 +17,7 @@ set_count (m ∷ ns) (suc place) (suc p) n = elim (set_count ns place p n) [
   | inr e ↦ inr (ap suc e.0, e.1)
 ]
 
-nothing : (i : ℕ) → get_or {A = ℕ} [] i 0 ≡ 0
+pub nothing : (i : ℕ) → get_or {A = ℕ} [] i 0 ≡ 0
 nothing zero = refl
 nothing (suc i) = refl
 
@@ -29,7 +29,7 @@ no_count (suc n) (suc p) = no_count n p
 -- ---- numbers by places
 
 -- one more is kept
-pub count_more : (o : OverAt) (at place n : ℕ) (old new : List ℕ) → slice_get o.places.items at ≡ Some place → n ≤ suc (sharing_in o.passed o.more.items at) → ((p : ℕ) → IsCounted o p (get_or old p 0))
+pub count_more : (o : OverAt) (at place n : ℕ) (old new : List ℕ) → slice_get o.places.items at ≡ Some place → n ≤ suc (sharing_in o.sharing_all o.more.items at) → ((p : ℕ) → IsCounted o p (get_or old p 0))
     → ((p : ℕ) → (get_or new p 0 ≡ get_or old p 0) ⊎ ((p ≡ place) × (get_or new p 0 ≡ n))) → (p : ℕ) → IsCounted o p (get_or new p 0)
 count_more o at place n old new there le were step p = elim (step p) [
   | inl e ↦ subst (λ (m : ℕ). IsCounted o p m) (sym e) (were p)

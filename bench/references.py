@@ -43,7 +43,7 @@
   blocks        2,000 classes over one another, in blocks of 63 loaders, each with the same method; the last is linked
 
 and of overriding, plain, topped, distinct, many, inherited, naming, interfaces, beside, comb, fringe, twos, combs, blocks, repeated,
-halves, crowned, paired, against, inherits, renamed, hiding, turning, slotted, broad, veiled, draped, scanned, offered, crossed and fans one more with so many classes that it has about a megabyte, as plain_mb.
+halves, crowned, paired, against, inherits, renamed, hiding, turning, slotted, broad, veiled, draped, lone, uneven, dense, scanned, offered, crossed and fans one more with so many classes that it has about a megabyte, as plain_mb.
 
 Each is a bundle: classlink bundle < FILE.
 """
@@ -221,6 +221,51 @@ def veiled(path, count=800, named=lambda _: []):
 
 def draped(path, count=800):
     veiled(path, count, lambda place: [f"p/J{place}"])
+
+
+def lone(path, count=800, last=50):
+    """Classes of app over one under a superinterface of boot with as many methods; the last are linked one by one."""
+    classes = [TOP, with_lines(section("boot", "p/I", flags="0601"), [f"method 0401 m{n} ()V" for n in range(count)])]
+    names = [f"q/C{n}" for n in range(count)]
+    for name, above in zip(names, [OBJECT, *names]):
+        classes.append(with_lines(section("app", name, above, interfaces=[] if above in names else ["p/I"], flags="0421"), ["method 0001 y ()V"]))
+    bundle(path, TWO, classes, [f"link app {name}\n" for name in names[-last:]])
+
+
+def uneven(path, count=65):
+    """Classes over one another, each second of which hides the methods of hundreds of superinterfaces; all hide one method fewer than the
+    second class above."""
+    few, many = [f"a{n}" for n in range(count // 3)], [f"b{n}" for n in range(count)]
+
+    def of(flags, *methods):
+        return [f"method {flags} {name} (Lp/T;)V" for names in methods for name in names]
+
+    over = [f"p/I{n}" for n in range(4 * count)]
+    classes = [TOP, with_lines(section("boot", "p/P", flags="0601"), of("0401", many))]
+    classes += [with_lines(section("boot", name, flags="0601"), of("0401", few)) for name in over]
+    classes.append(with_lines(section("app", "q/C", interfaces=["p/P"]), of("0001", few, many)))
+    above = "q/C"
+    for place in range(1, count):
+        hidden = many[place // 2 :]
+        named = over if place == 1 else []
+        classes.append(with_lines(section("app", f"q/C{place}", above, interfaces=named), of("0002", few if place % 2 else [], hidden)))
+        above = f"q/C{place}"
+    bundle(path, TWO, classes, [f"link app {above}\n"])
+
+
+def dense(path, count=2000):
+    """Classes over one another, each of which hides a method and names the same interface of boot, above which many name many."""
+    over = [f"p/I{n}" for n in range(count // 7)]
+    classes = [TOP]
+    for place, name in enumerate(over):
+        named = over[place + 1 : place + 31]
+        classes.append(with_lines(section("boot", name, interfaces=named, flags="0601"), [] if named else ["method 0401 m (Lp/T;)V"]))
+    classes.append(with_lines(section("app", "q/C", interfaces=over[:1]), ["method 0001 m (Lp/T;)V"]))
+    above = "q/C"
+    for place in range(count):
+        classes.append(with_lines(section("app", f"q/C{place}", above, interfaces=over[:1]), ["method 0002 m (Lp/T;)V"]))
+        above = f"q/C{place}"
+    bundle(path, TWO, classes, [f"link app {above}\n"])
 
 
 def scanned(path, count=600):
@@ -405,12 +450,12 @@ def blocks(path, count=2000):
 def main(folder):
     os.makedirs(folder, exist_ok=True)
     references = methods, settled, constraints, refused, described, stretched
-    chains = overriding, repeated, halves, crowned, paired, against, inherits, renamed, hiding, turning, slotted, broad, veiled, draped, scanned, offered, crossed, fans, plain, topped, wide, distinct, many, inherited, naming, interfaces, beside, comb, fringe, twos, combs, blocks
+    chains = overriding, repeated, halves, crowned, paired, against, inherits, renamed, hiding, turning, slotted, broad, veiled, draped, lone, uneven, dense, scanned, offered, crossed, fans, plain, topped, wide, distinct, many, inherited, naming, interfaces, beside, comb, fringe, twos, combs, blocks
     for make in *references, ladder, links, *chains:
         make(f"{folder}/{make.__name__}")
     counts = {overriding: 15000, plain: 22000, topped: 22000, distinct: 15000, many: 1000, inherited: 14000, naming: 17000}
     for make, count in {**counts, interfaces: 14000, beside: 7000, comb: 6500, fringe: 6500, twos: 11000, combs: 5000, blocks: 14000, repeated: 7500, halves: 7000,
-        crowned: 7000, paired: 7000, against: 12000, inherits: 7000, renamed: 7000, hiding: 7000, turning: 7000, slotted: 7000, broad: 6000, veiled: 6000, draped: 4500, scanned: 2300, offered: 10000, crossed: 11000, fans: 6700}.items():
+        crowned: 7000, paired: 7000, against: 12000, inherits: 7000, renamed: 7000, hiding: 7000, turning: 7000, slotted: 7000, broad: 6000, veiled: 6000, draped: 4500, lone: 14000, uneven: 125, dense: 7000, scanned: 2300, offered: 10000, crossed: 11000, fans: 6700}.items():
         make(f"{folder}/{make.__name__}_mb", count)
 
 

@@ -130,7 +130,7 @@ module _ {S : Type 0} (l : Lined) (own : Rowed) (survey : Survey) (above : Index
       first ∙ ap (λ (n : ℕ). others_after n [] (loaders (filter (opens key) (superclasses c)))) le'
       ∙ sym (open_enough key l.own.class.loader [] (l.own.class ∷ []) (superclasses c) (own_known l.own.class.loader, tt))
       ∙ ap (λ (ks : List Kin). others_after l.own.class.loader [] (loaders ks)) (sym (overridden_is_walked key c tp))
-      ∙ ap (λ (b : Bool). others_after l.own.class.loader [] (loaders (if b then [] else overridden key c))) (sym is.class) in
+      ∙ ap (λ (b : Bool). others_after l.own.class.loader [] (loaders (if b then [] else overridden key c))) (sym is.there.class) in
       second ∙ ap (λ (n : ℕ). up ++ others_after n up (loaders (filter (takes_part key) (map bare of)))) le' ∙ ap (λ (xs : List ℕ). up ++ xs) (tells key up tp)
       ∙ ap (λ (xs : List ℕ). xs ++ others_after l.own.class.loader xs taking) ups ∙ sym (others_both l.own.class.loader [] tree taking)
 
@@ -189,7 +189,7 @@ module _ {S : Type 0} (l : Lined) (own : Rowed) (survey : Survey) (above : Index
       → new ≡ with_all needs (by_superinterfaces fewer_inherited (kin_of l))
   chained_second v rows needs new same made =
       made ∙ ap (with_all needs)
-      (by_rows v (kin_of l) rows ∙ ap (by_methods bare (λ j. fewer_inherited (kin_of l) (bare j))) same ∙ is.over_are.second_are is.class)
+      (by_rows v (kin_of l) rows ∙ ap (by_methods bare (λ j. fewer_inherited (kin_of l) (bare j))) same ∙ is.over_are.second_are is.there.class)
 
   -- ---- all
 
@@ -207,7 +207,7 @@ module _ {S : Type 0} (l : Lined) (own : Rowed) (survey : Survey) (above : Index
       (ap (λ (n : Listing). n.needs)
       (second ∙ ap (λ (n : Listing). with_all n (by_superinterfaces fewer_inherited c)) first ∙ sym (all_append (once_of []) declared (by_superinterfaces fewer_inherited c)))
       ∙ listed_once (declared ++ by_superinterfaces fewer_inherited c)
-      ∙ ap without_repeats (sym (ap (λ (b : Bool). declared ++ (if b then [] else by_superinterfaces fewer_inherited c)) is.class)))
+      ∙ ap without_repeats (sym (ap (λ (b : Bool). declared ++ (if b then [] else by_superinterfaces fewer_inherited c)) is.there.class)))
 
 -- those of the superinterfaces that may declare what the class does add the same loaders
 pub like_add : (l : Lined) (own : Rowed) (over like : List Rowed) → own ≡ l.own → AddLoaders l over → AreLike own over like → AddLoaders l like

@@ -69,15 +69,19 @@ AreImposed c hidden rows =
     (i n : ℕ) (r : Rowed) → 1 ≤ n → AreSharingIn c i n → slice_get rows i ≡ Some r
     → IsImposed c (hidden n) (bare r)
 
--- the class at a place of a whole that is no interface, with what its methods are looked up in: a
--- survey, what its superclasses declare, and superinterfaces that add what all do (5.4.2)
+-- the class at a place of a whole has this lineage, and is no interface (5.3.5)
+pub record IsClassThere (whole : Lined) (place : ℕ) (l : Lined) : Type 0 where
+  pub is : l ≡ lined_at whole place
+  pub within : place ≤ length whole.above
+  pub class : is_interface (file_of l.own.file) ≡ false
+
+-- such a class with what its methods are looked up in: a survey, what its superclasses declare, and
+-- superinterfaces that add what all do (5.4.2)
 pub record IsChained {S : Type 0} (l : Lined) (own : Rowed) (survey : Survey)
     (above : IndexMap MethodTexts Above S) (over : List Rowed) (whole : Lined) (place : ℕ)
     : Type 0 where
-  pub within : place ≤ length whole.above
-  pub at : l ≡ lined_at whole place
+  pub there : IsClassThere whole place l
   pub own_is : own ≡ l.own
-  pub class : is_interface (file_of l.own.file) ≡ false
   pub surveyed : Surveys l survey
   pub above_are : AreTold above (superclasses (kin_of l))
   pub over_are : AddAll l over

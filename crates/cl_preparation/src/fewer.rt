@@ -2,7 +2,7 @@
 
 ghost use Rattle.std.specs.Prelude.{◌≡◌, ◌≤◌, [], Some, false, true, length, map, flat_map, IfOk, IfSome};
 ghost use Rattle.std.specs.List.{AllByRecursion};
-ghost use Rattle.cl_classfile.specs.Files.{file_of, is_interface};
+ghost use Rattle.cl_classfile.specs.Files.{file_of};
 ghost use Rattle.cl_model.specs.Lineages.{superclasses, superinterfaces};
 ghost use Rattle.cl_model.specs.Once.{NoneTwice};
 ghost use Rattle.cl_model.specs.Preparation.{constraints_of};
@@ -10,7 +10,7 @@ ghost use Rattle.cl_hierarchy.specs.ClassesAt.{lined_at};
 ghost use Rattle.cl_hierarchy.specs.Imposed.{AreEnough, OfPreparation, known_by, needs_of};
 ghost use Rattle.cl_hierarchy.specs.declared.equalities.Given.TheVariants as givens;
 ghost use Rattle.cl_hierarchy.specs.Lineages.{IsRowIn, Lined, kin_at, kin_of, others_of, rows_in};
-ghost use Rattle.cl_preparation.specs.Chains.{AreOver};
+ghost use Rattle.cl_preparation.specs.Chains.{AreOver, IsClassThere};
 ghost use Rattle.cl_preparation.specs.Fewer.{AreFew, fewer_constraints_of};
 ghost use Rattle.cl_preparation.specs.Listings.{has_need, without_repeats};
 ghost use Rattle.cl_preparation.specs.MethodsAbove.{AreTold};
@@ -121,9 +121,7 @@ fn near_needs<T: Told>(
     place: usize,
     lineage: &Lineage<T>,
 ) -> Result<Vec<Equality>, AllocError>
-    requires lineage { lineage.now ≡ lined_at whole.old place }
-    requires within { place ≤ length whole.old.above }
-    requires class { is_interface (file_of lineage.now.own.file) ≡ false }
+    requires there { IsClassThere whole.old place lineage.now }
     ensures same { whole.new ≡ whole.old }
     ensures needs { IfOk result (λ v. needs_of v.items ≡ fewer_constraints_of
         (kin_of lineage.now)) }
@@ -146,9 +144,7 @@ fn unsurveyed_needs<T: Told>(
     place: usize,
     lineage: &Lineage<T>,
 ) -> Result<Vec<Equality>, AllocError>
-    requires lineage { lineage.now ≡ lined_at whole.old place }
-    requires within { place ≤ length whole.old.above }
-    requires class { is_interface (file_of lineage.now.own.file) ≡ false }
+    requires there { IsClassThere whole.old place lineage.now }
     ensures same { whole.new ≡ whole.old }
     ensures needs { IfOk result (λ v. needs_of v.items ≡ fewer_constraints_of
         (kin_of lineage.now)) }
@@ -173,9 +169,7 @@ fn chained_needs<T: Told>(
     above: &MethodsAbove,
     given: Given,
 ) -> Result<Vec<Equality>, AllocError>
-    requires lineage { lineage.now ≡ lined_at whole.old place }
-    requires within { place ≤ length whole.old.above }
-    requires class { is_interface (file_of lineage.now.own.file) ≡ false }
+    requires there { IsClassThere whole.old place lineage.now }
     requires survey { Surveys lineage.now survey.now }
     requires above { AreTold above.now (superclasses (kin_of lineage.now)) }
     ensures same { whole.new ≡ whole.old }
@@ -214,9 +208,7 @@ fn surveyed_needs<T: Told>(
     survey: &Survey,
     given: Given,
 ) -> Result<Vec<Equality>, AllocError>
-    requires lineage { lineage.now ≡ lined_at whole.old place }
-    requires within { place ≤ length whole.old.above }
-    requires class { is_interface (file_of lineage.now.own.file) ≡ false }
+    requires there { IsClassThere whole.old place lineage.now }
     requires survey { Surveys lineage.now survey.now }
     ensures same { whole.new ≡ whole.old }
     ensures needs { IfOk result (λ v. AreFew given (kin_of lineage.now)
@@ -255,9 +247,7 @@ fn class_needs<T: Told>(
     lineage: &Lineage<T>,
     given: Given,
 ) -> Result<Vec<Equality>, AllocError>
-    requires lineage { lineage.now ≡ lined_at whole.old place }
-    requires within { place ≤ length whole.old.above }
-    requires class { is_interface (file_of lineage.now.own.file) ≡ false }
+    requires there { IsClassThere whole.old place lineage.now }
     ensures same { whole.new ≡ whole.old }
     ensures needs { IfOk result (λ v. AreFew given (kin_of lineage.now)
         (needs_of v.items)) }

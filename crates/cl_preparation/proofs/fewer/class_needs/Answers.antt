@@ -11,7 +11,7 @@ use Rattle.cl_preparation.proofs.fewer.class_needs.Goals as goal
 pub surveyed_needs-needs-requires-clause-survey : goal.surveyed_needs-needs-requires-clause-survey
 surveyed_needs-needs-requires-clause-survey g c =
     let is = subst (λ o. IfSome o (IsSurvey (rows_in c.args.whole.now))) c.in-Some.is c.in_ok-found.ensures.survey in
-    subst (λ (l : Lined). Surveys l c.in-Some.survey) (sym c.requires.lineage) (surveys_at c.args.whole.now c.args.place c.in-Some.survey c.lineage.ensures.kept.order c.requires.within is)
+    subst (λ (l : Lined). Surveys l c.in-Some.survey) (sym c.requires.there.is) (surveys_at c.args.whole.now c.args.place c.in-Some.survey c.lineage.ensures.kept.order c.requires.there.within is)
 
 pub returns-in-None-clause-needs : goal.returns-in-None-clause-needs
 returns-in-None-clause-needs g c =

@@ -20,5 +20,5 @@ returns-in-Superclass g c =
     let is = subst (λ (l : Lined). IsChained l c.self.inside.own c.self.inside.survey.now c.self.inside.above.now c.self.inside.over c.self.inside.whole.now c.self.inside.place) c.self.view_is c.self.invariant in
     on_ok_weaker c.push_left.result
     (λ left. subst (λ (x : Given). AreFew x (kin_of c.args.self.now) c.push_left.new.needs.needs) (sym c.in-Superclass.is)
-    (few_left (kin_of c.args.self.now) c.args.needs.now c.push_left.new.needs is.class c.requires.declared left))
+    (few_left (kin_of c.args.self.now) c.args.needs.now c.push_left.new.needs is.there.class c.requires.declared left))
     c.push_left.ensures

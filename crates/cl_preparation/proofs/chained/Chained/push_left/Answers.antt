@@ -25,5 +25,5 @@ returns g c =
     let is = subst (λ (l : Lined). IsChained l c.self.inside.own c.self.inside.survey.now c.self.inside.above.now c.self.inside.over c.self.inside.whole.now c.self.inside.place) c.self.view_is c.self.invariant in
     let l = c.args.self.now in
     on_ok_weaker c.push_new_rows.result
-    (λ left. all_left_rows l c.self.inside.own c.self.inside.over is.class is.over_are (λ r. r.now.value) c.as_slice.result.now c.args.needs.now c.push_new_rows.new.needs c.as_slice.ensures left)
+    (λ left. all_left_rows l c.self.inside.own c.self.inside.over is.there.class is.over_are (λ r. r.now.value) c.as_slice.result.now c.args.needs.now c.push_new_rows.new.needs c.as_slice.ensures left)
     c.push_new_rows.ensures

@@ -32,7 +32,7 @@ use Rattle.cl_preparation.specs.Surveys.{IsPart, IsUnmixed}
 use Rattle.cl_preparation.specs.Walks.{hides}
 use Rattle.cl_preparation.proofs.Chains.{by_rows}
 use Rattle.cl_preparation.proofs.Interfaces.{IsFew, few_superclasses, none_over}
-use Rattle.cl_preparation.proofs.Standing.{left_more}
+use Rattle.cl_preparation.proofs.Standing.{left_more, left_out}
 use Rattle.cl_preparation.proofs.Surveyed.{over_unmixed}
 
 -- ---- lists of which all are met
@@ -351,19 +351,22 @@ pub spared_above : (l : Lined) (rows : List Rowed) (above : Kin) (m : Member) (k
 spared_above l rows above m key None same met = tt
 spared_above l rows above m key (Some most) same met = λ n le. inr (MetAbove (subst (λ (k : Key). is_met_above k (take n (superclasses (kin_of l))) ≡ true) same (met n le)))
 
+-- so far these superclasses were passed, and the rest is left: what is met with those of the rest is with all
+abbrev pub AreClimbed : Key → ℕ → List Kin → List Kin → Type 0
+AreClimbed key passed all rest = (n : ℕ) → is_met_above key (take n rest) ≡ true → is_met_above key (take (passed + n) all) ≡ true
+
 -- one superclass more is passed
-pub passed_more : (key : Key) (passed : ℕ) (all : List Kin) (k : Kin) (left : List Kin) → is_interface k.file ≡ false → hides key k ≡ true → ((n : ℕ) → is_met_above key (take n (k ∷ left)) ≡ true → is_met_above key (take (passed + n) all) ≡ true)
-    → (n : ℕ) → is_met_above key (take n left) ≡ true → is_met_above key (take (passed + 1 + n) all) ≡ true
-passed_more key passed all k left class on so_far n met =
+pub passed_more : (key : Key) (passed : ℕ) (all rest : List Kin) (k : Kin) (left : List Kin) → rest ≡ k ∷ left → is_interface k.file ≡ false → hides key k ≡ true → AreClimbed key passed all rest → AreClimbed key (passed + 1) all left
+passed_more key passed all rest k left split class on so_far = λ n met.
     let one : is_met_above key (take (suc n) (k ∷ left)) ≡ true = rw class (rw on met) in
-    subst (λ (m : ℕ). is_met_above key (take m all) ≡ true) (omega arith) (so_far (suc n) one)
+    subst (λ (m : ℕ). is_met_above key (take m all) ≡ true) (omega arith) (so_far (suc n) (subst (λ (ks : List Kin). is_met_above key (take (suc n) ks) ≡ true) (sym split) one))
 
 -- one that does not hide the method is come to
-pub shown_here : (key : Key) (passed : ℕ) (all : List Kin) (k : Kin) (left : List Kin) → is_interface k.file ≡ false → hides key k ≡ false → ((n : ℕ) → is_met_above key (take n (k ∷ left)) ≡ true → is_met_above key (take (passed + n) all) ≡ true)
-    → (n : ℕ) → passed + 1 ≤ n → is_met_above key (take n all) ≡ true
-shown_here key passed all k left class off so_far n le =
-    let one : is_met_above key (take (suc (n - (passed + 1))) (k ∷ left)) ≡ true = rw class (rw off refl) in
-    subst (λ (m : ℕ). is_met_above key (take m all) ≡ true) (omega (arith, le)) (so_far (suc (n - (passed + 1))) one)
+pub shown_here : (key : Key) (passed : ℕ) (all rest : List Kin) (k : Kin) (left : List Kin) → rest ≡ k ∷ left → is_interface k.file ≡ false → hides key k ≡ false → AreClimbed key passed all rest → (n : ℕ) → passed + 1 ≤ n → is_met_above key (take n all) ≡ true
+shown_here key passed all rest k left split class off so_far = λ n le.
+    let more : ℕ = n - (passed + 1) in
+    let one : is_met_above key (take (suc more) (k ∷ left)) ≡ true = rw class (rw off refl) in
+    subst (λ (m : ℕ). is_met_above key (take m all) ≡ true) (omega (arith, le)) (so_far (suc more) (subst (λ (ks : List Kin). is_met_above key (take (suc more) ks) ≡ true) (sym split) one))
 
 -- of methods of which none is hidden all are left
 pub all_unhidden : (n : ℕ) (ms : List Member) → unhidden (hidden_by None n) ms ≡ ms
@@ -379,6 +382,14 @@ enough_unhidden h n (m ∷ ms) e =
 -- where they are not, those are left that the class hides
 pub few_unhidden : (h : Hider) (n : ℕ) (ms : List Member) → are_enough h.enough n ≡ false → unhidden (hidden_by (Some h) n) ms ≡ filter (λ m. not (hides m.key (bare h.class))) ms
 few_unhidden h n ms e = ap (λ (b : Bool). filter (λ (m : Member). not (not b && hides m.key (bare h.class))) ms) e
+
+-- what is imposed where one superclass or more have the superinterface, of a class that hides methods, or of none
+pub imposed_by : (c j : Kin) (n : ℕ) (one same : Option Hider) → (1 ≤ n → IsImposed c (hidden_by one n) j) → 1 ≤ n → one ≡ same → IsImposed c (hidden_by same n) j
+imposed_by c j n one same imposed some is = subst (λ (o : Option Hider). IsImposed c (hidden_by o n) j) is (imposed some)
+
+-- where none of the methods of a row is among those that may be left, nothing is to be listed of it
+pub nothing_left : (c : Kin) (old : Listing) (r : Rowed) (n : ℕ) (o : Option Hider) → unhidden (hidden_by o n) (bare r).file.methods ≡ (bare r).file.methods → IsImposed c (hidden_by o n) (bare r) → AddsLeft c old (by_row c r) old
+nothing_left c old r n o none imposed = left_out c old (by_row c r) (λ s above. subst (λ (ms : List Member). AllMet s (flat_map (fewer_inherited c (bare r)) ms)) none (imposed s above))
 
 -- ---- rows of superinterfaces that the superclass has too
 

@@ -12,6 +12,7 @@ use Rattle.cl_model.specs.States.{Need}
 use Rattle.cl_hierarchy.specs.ClassesAt.{lined_at, own_at}
 use Rattle.cl_hierarchy.specs.Lineages.{IsInOrder, Lined, kin_of, rows_in}
 use Rattle.cl_hierarchy.specs.declared.equalities.Given.{Given}
+use Rattle.cl_hierarchy.specs.declared.equalities.Given.TheVariants as givens
 use Rattle.cl_hierarchy.specs.Rows.{Rowed}
 use Rattle.cl_hierarchy.specs.Trees.{forest, in_front, kin_named, kin_under, kins, superclass_in}
 use Rattle.cl_hierarchy.proofs.Ancestry.{row_kin}
@@ -26,7 +27,7 @@ use Rattle.cl_preparation.specs.declared.survey.Survey.{Survey}
 use Rattle.indexmap.specs.IndexMap.{IndexMap, get}
 use Rattle.cl_preparation.specs.Declarers.{same_texts}
 use Rattle.cl_preparation.specs.Chains.{IsChained, IsKept, IsUnder}
-use Rattle.cl_preparation.specs.Fewer.{AreFew, by_methods, by_superinterfaces, fewer_declared, fewer_inherited, loaders, loaders_over, others_after}
+use Rattle.cl_preparation.specs.Fewer.{AddsDeclared, AreFew, by_methods, by_superinterfaces, fewer_declared, fewer_inherited, left_above, loaders, loaders_left_over, loaders_over, others_after}
 use Rattle.cl_preparation.specs.Inherited.{equals_from, other_than}
 use Rattle.cl_preparation.specs.Listings.{Listing, with_all, once_of, without_repeats}
 use Rattle.cl_preparation.specs.MethodsAbove.{AreTold, Tells}
@@ -37,6 +38,7 @@ use Rattle.cl_preparation.specs.Walks.{opens}
 use Rattle.cl_preparation.proofs.Listings.{all_append, listed_once}
 use Rattle.cl_preparation.proofs.MethodsAbove.{tree_told}
 use Rattle.cl_preparation.proofs.Nearby.{inherited_is, own_known}
+use Rattle.cl_preparation.proofs.Nearest.{adds_just, adds_one}
 use Rattle.cl_preparation.proofs.Reached.{overridden_is_walked}
 use Rattle.cl_preparation.proofs.Standing.{few_given}
 use Rattle.cl_preparation.proofs.Surveyed.{alone_none, none_inherited}
@@ -103,7 +105,7 @@ pub putting_first : {A S : Type 0} (v : A → Rowed) (l : Lined) (rows : List A)
 putting_first v l rows table are none = record {
   done = [];
   split = append-nil (map (λ x. kin_under (kins l.above) (v x)) rows) ∙ are;
-  told = λ t key reads. subst (λ (o : Option Above). Tells key [] o) (sym (none t)) (record { wide = refl; nearest = refl });
+  told = λ t key reads. subst (λ (o : Option Above). Tells key [] o) (sym (none t)) (record { wide = refl; class = refl; nearest = refl });
 }
 
 pub putting_end : {A S : Type 0} (v : A → Rowed) (l : Lined) (rows : List A) (table : IndexMap MethodTexts Above S) → rows ≡ [] → IsPutting v l rows table → AreTold table (superclasses (kin_of l))
@@ -119,43 +121,67 @@ by_rows v c (x ∷ xs) = ap (λ (ns : List Need). flat_map (fewer_inherited c (b
 
 module _ {S : Type 0} (l : Lined) (own : Rowed) (survey : Survey) (above : IndexMap MethodTexts Above S) (over : List Rowed) (all : Lined) (place : ℕ) (is : IsChained l own survey above over all place) where
   -- the loaders of superclasses, and then those of superinterfaces
-  pub chained_over : (of : List Rowed) → AddLoaders l of → (key : Key) (loader : ℕ) (up all : List ℕ) → takes_part key (kin_of l) ≡ true → loader ≡ own.class.loader → up ≡ others_after loader [] (loaders (filter (opens key) (superclasses (kin_of l))))
-      → all ≡ up ++ others_after loader up (loaders (filter (takes_part key) (map bare of))) → all ≡ others_after l.own.class.loader [] (loaders_over (kin_of l) key)
-  chained_over of tells key loader up all tp le first second =
+  pub chained_over : (of : List Rowed) → AddLoaders l of → (given : Given) (key : Key) (loader : ℕ) (up all : List ℕ) → takes_part key (kin_of l) ≡ true → loader ≡ own.class.loader
+      → up ≡ others_after loader [] (loaders (left_above given (filter (opens key) (superclasses (kin_of l)))))
+      → all ≡ up ++ others_after loader up (loaders (filter (takes_part key) (map bare of))) → all ≡ others_after l.own.class.loader [] (loaders_left_over given (kin_of l) key)
+  chained_over of tells given key loader up all tp le first second =
       let c : Kin = kin_of l in
       let le' : loader ≡ l.own.class.loader = le ∙ ap (λ (r : Rowed). r.class.loader) is.own_is in
+      let left : List ℕ = loaders (left_above given (filter (opens key) (superclasses c))) in
+      let taking : List ℕ = loaders (filter (takes_part key) (superinterfaces c)) in
+      let ups : up ≡ others_after l.own.class.loader [] left = first ∙ ap (λ (n : ℕ). others_after n [] left) le' in
+      second ∙ ap (λ (n : ℕ). up ++ others_after n up (loaders (filter (takes_part key) (map bare of)))) le' ∙ ap (λ (xs : List ℕ). up ++ xs) (tells key up tp)
+      ∙ ap (λ (xs : List ℕ). xs ++ others_after l.own.class.loader xs taking) ups ∙ sym (others_both l.own.class.loader [] left taking)
+
+  -- where nothing is left out, they are those of all that the method overrides
+  all_over : (key : Key) → takes_part key (kin_of l) ≡ true → others_after l.own.class.loader [] (loaders_left_over givens.Nothing (kin_of l) key) ≡ others_after l.own.class.loader [] (loaders_over (kin_of l) key)
+  all_over key tp =
+      let c : Kin = kin_of l in
+      let own : ℕ = l.own.class.loader in
+      let wide : List ℕ = loaders (filter (opens key) (superclasses c)) in
       let tree : List ℕ = loaders (if is_interface c.file then [] else overridden key c) in
       let taking : List ℕ = loaders (filter (takes_part key) (superinterfaces c)) in
-      let ups : up ≡ others_after l.own.class.loader [] tree =
-      first ∙ ap (λ (n : ℕ). others_after n [] (loaders (filter (opens key) (superclasses c)))) le'
-      ∙ sym (open_enough key l.own.class.loader [] (l.own.class ∷ []) (superclasses c) (own_known l.own.class.loader, tt))
-      ∙ ap (λ (ks : List Kin). others_after l.own.class.loader [] (loaders ks)) (sym (overridden_is_walked key c tp))
-      ∙ ap (λ (b : Bool). others_after l.own.class.loader [] (loaders (if b then [] else overridden key c))) (sym is.there.class) in
-      second ∙ ap (λ (n : ℕ). up ++ others_after n up (loaders (filter (takes_part key) (map bare of)))) le' ∙ ap (λ (xs : List ℕ). up ++ xs) (tells key up tp)
-      ∙ ap (λ (xs : List ℕ). xs ++ others_after l.own.class.loader xs taking) ups ∙ sym (others_both l.own.class.loader [] tree taking)
+      let ups : others_after own [] wide ≡ others_after own [] tree =
+      sym (open_enough key own [] (l.own.class ∷ []) (superclasses c) (own_known own, tt))
+      ∙ ap (λ (ks : List Kin). others_after own [] (loaders ks)) (sym (overridden_is_walked key c tp))
+      ∙ ap (λ (b : Bool). others_after own [] (loaders (if b then [] else overridden key c))) (sym is.there.class) in
+      others_both own [] wide taking ∙ ap (λ (xs : List ℕ). xs ++ others_after own xs taking) ups ∙ sym (others_both own [] tree taking)
 
-  pub chained_declared : (m : Member) (key : Key) (needs new : Listing) (listed : List ℕ) (loader : ℕ) → key ≡ m.key → takes_part key (bare own) ≡ true → loader ≡ own.class.loader → listed ≡ others_after l.own.class.loader [] (loaders_over (kin_of l) key)
-      → new ≡ with_all needs (flat_map (equals_of key loader) listed) → new ≡ with_all needs (fewer_declared (kin_of l) m)
-  chained_declared m key needs new listed loader ke tp le are made =
-      let c : Kin = kin_of l in
-      let part : takes_part m.key c ≡ true = ap (λ (k : Key). takes_part k (bare l.own)) (sym ke) ∙ ap (λ (r : Rowed). takes_part key (bare r)) (sym is.own_is) ∙ tp in
-      made ∙ ap (with_all needs)
-      (ap (λ (n : ℕ). flat_map (equals_of key n) listed) (le ∙ ap (λ (r : Rowed). r.class.loader) is.own_is) ∙ ap (flat_map (equals_of key l.own.class.loader)) are
-      ∙ ap (λ (k : Key). flat_map (equals_of k l.own.class.loader) (others_after l.own.class.loader [] (loaders_over c k))) ke
-      ∙ sym (ap (λ (b : Bool). if b then flat_map (equals_of m.key l.own.class.loader) (others_after l.own.class.loader [] (loaders_over c m.key)) else []) part))
+  pub chained_declared : (given : Given) (m : Member) (key : Key) (needs new : Listing) (listed : List ℕ) (loader : ℕ) → key ≡ m.key → takes_part key (bare own) ≡ true → loader ≡ own.class.loader
+      → listed ≡ others_after l.own.class.loader [] (loaders_left_over given (kin_of l) key) → new ≡ with_all needs (flat_map (equals_of key loader) listed) → AddsDeclared given (kin_of l) needs (m ∷ []) new
+  chained_declared given m key needs new listed loader ke tp le are made = by given listed_is
+    where
+      c : Kin
+      c = kin_of l
+
+      part : takes_part m.key c ≡ true
+      part = ap (λ (k : Key). takes_part k (bare l.own)) (sym ke) ∙ ap (λ (r : Rowed). takes_part key (bare r)) (sym is.own_is) ∙ tp
+
+      listed_is : new ≡ with_all needs (flat_map (equals_of m.key l.own.class.loader) (others_after l.own.class.loader [] (loaders_left_over given c m.key)))
+      listed_is =
+          made ∙ ap (with_all needs)
+          (ap (λ (n : ℕ). flat_map (equals_of key n) listed) (le ∙ ap (λ (r : Rowed). r.class.loader) is.own_is) ∙ ap (flat_map (equals_of key l.own.class.loader)) are
+          ∙ ap (λ (k : Key). flat_map (equals_of k l.own.class.loader) (others_after l.own.class.loader [] (loaders_left_over given c k))) ke)
+
+      by : (g : Given) → new ≡ with_all needs (flat_map (equals_of m.key l.own.class.loader) (others_after l.own.class.loader [] (loaders_left_over g c m.key))) → AddsDeclared g c needs (m ∷ []) new
+      by givens.Nothing e =
+          adds_just givens.Nothing c needs new m
+          (e ∙ ap (λ (ls : List ℕ). with_all needs (flat_map (equals_of m.key l.own.class.loader) ls)) (all_over m.key part)
+          ∙ ap (with_all needs) (sym (ap (λ (b : Bool). if b then flat_map (equals_of m.key l.own.class.loader) (others_after l.own.class.loader [] (loaders_over c m.key)) else []) part)))
+      by givens.Superclass e = adds_one c needs new m is.there.class part e
 
   -- a method that takes no part
-  pub chained_past : (m : Member) (key : Key) (needs : Listing) → key ≡ m.key → takes_part key (bare own) ≡ false → needs ≡ with_all needs (fewer_declared (kin_of l) m)
-  chained_past m key needs ke off =
+  pub chained_past : (given : Given) (m : Member) (key : Key) (needs : Listing) → key ≡ m.key → takes_part key (bare own) ≡ false → AddsDeclared given (kin_of l) needs (m ∷ []) needs
+  chained_past given m key needs ke off =
       let c : Kin = kin_of l in
       let part : takes_part m.key c ≡ false = ap (λ (k : Key). takes_part k (bare l.own)) (sym ke) ∙ ap (λ (r : Rowed). takes_part key (bare r)) (sym is.own_is) ∙ off in
-      sym (ap (λ (b : Bool). with_all needs (if b then flat_map (equals_of m.key l.own.class.loader) (others_after l.own.class.loader [] (loaders_over c m.key)) else [])) part)
+      adds_just given c needs needs m (sym (ap (λ (b : Bool). with_all needs (if b then flat_map (equals_of m.key l.own.class.loader) (others_after l.own.class.loader [] (loaders_over c m.key)) else [])) part))
 
   -- a method that classes of one loader alone declare
-  pub chained_alone : (m : Member) (key : Key) (needs : Listing) → key ≡ m.key → ((rows : List Rowed) → IsSurvey rows survey → IsAlone rows key) → needs ≡ with_all needs (fewer_declared (kin_of l) m)
-  chained_alone m key needs ke alone =
+  pub chained_alone : (given : Given) (m : Member) (key : Key) (needs : Listing) → key ≡ m.key → ((rows : List Rowed) → IsSurvey rows survey → IsAlone rows key) → AddsDeclared given (kin_of l) needs (m ∷ []) needs
+  chained_alone given m key needs ke alone =
       let one : IsAlone is.surveyed.rows m.key = subst (λ (k : Key). IsAlone is.surveyed.rows k) ke (alone is.surveyed.rows is.surveyed.is) in
-      sym (ap (with_all needs) (alone_none l is.surveyed.rows is.surveyed.part m (λ tp. one)))
+      adds_just given (kin_of l) needs needs m (sym (ap (with_all needs) (alone_none l is.surveyed.rows is.surveyed.part m (λ tp. one))))
 
   -- ---- the second half
 
@@ -193,11 +219,11 @@ module _ {S : Type 0} (l : Lined) (own : Rowed) (survey : Survey) (above : Index
 
   -- ---- all
 
-  pub chained_first : (ms xs : List Member) (none one : Listing) → ms ≡ (bare own).file.methods → xs ≡ ms → none ≡ once_of [] → one ≡ with_all none (flat_map (fewer_declared (kin_of l)) xs)
-      → one ≡ with_all (once_of []) (flat_map (fewer_declared (kin_of l)) (kin_of l).file.methods)
-  chained_first ms xs none one made same empty first =
+  pub chained_first : (given : Given) (ms xs : List Member) (none one : Listing) → ms ≡ (bare own).file.methods → xs ≡ ms → none ≡ once_of [] → AddsDeclared given (kin_of l) none xs one → AddsDeclared given (kin_of l) (once_of []) (kin_of l).file.methods one
+  chained_first given ms xs none one made same empty first =
       let c : Kin = kin_of l in
-      first ∙ ap (λ (n : Listing). with_all n (flat_map (fewer_declared c) xs)) empty ∙ ap (λ (ys : List Member). with_all (once_of []) (flat_map (fewer_declared c) ys)) (same ∙ made ∙ ap (λ (r : Rowed). (bare r).file.methods) is.own_is)
+      subst (λ (n : Listing). AddsDeclared given c n c.file.methods one) empty
+      (subst (λ (ys : List Member). AddsDeclared given c none ys one) (same ∙ made ∙ ap (λ (r : Rowed). (bare r).file.methods) is.own_is) first)
 
   pub chained_all : (given : Given) (one all : Listing) → one ≡ with_all (once_of []) (flat_map (fewer_declared (kin_of l)) (kin_of l).file.methods) → all ≡ with_all one (by_superinterfaces fewer_inherited (kin_of l)) → AreFew given (kin_of l) all.needs
   chained_all given one all first second =

@@ -32,6 +32,7 @@ use Rattle.cl_preparation.specs.Surveys.{IsPart, IsUnmixed}
 use Rattle.cl_preparation.specs.Walks.{hides}
 use Rattle.cl_preparation.proofs.Chains.{by_rows}
 use Rattle.cl_preparation.proofs.Interfaces.{IsFew, few_superclasses, none_over}
+use Rattle.cl_preparation.proofs.Nearest.{found_met}
 use Rattle.cl_preparation.proofs.Standing.{left_more, left_out}
 use Rattle.cl_preparation.proofs.Surveyed.{over_unmixed}
 
@@ -56,20 +57,6 @@ met_at {A} s f p (x ∷ xs) h = by (p x) refl (λ rest. met_at s f p xs rest) h
         let both = met_split s (f x) (flat_map f (filter p xs)) h in
         (λ on. both.0, more both.1)
     by false e more h = (λ on. absurd (let no : false ≡ true = sym e ∙ on in cc), more h)
-
--- the method that a class declares with a key is among its methods
-found_met : (s : State) (f : Member → List Need) (ms : List Member) (key : Key) (m : Member) → member ms key ≡ Some m → AllMet s (flat_map f ms) → AllMet s (f m) × (m.key ≡ key)
-found_met s f [] key m e h = absurd cc
-found_met s f (x ∷ xs) key m e h = by (same_key x.key key) refl (λ rest. found_met s f xs key m rest both.1) e
-  where
-    both : AllMet s (f x) × AllMet s (flat_map f xs)
-    both = met_split s (f x) (flat_map f xs) h
-
-    by : (b : Bool) → same_key x.key key ≡ b → (member xs key ≡ Some m → AllMet s (f m) × (m.key ≡ key)) → (if b then Some x else member xs key) ≡ Some m → AllMet s (f m) × (m.key ≡ key)
-    by true same more e =
-        let one : x ≡ m = cc in
-        subst (λ (y : Member). AllMet s (f y) × (y.key ≡ key)) one (both.0, (keys_are_told x.key key).0 same)
-    by false same more e = more e
 
 found_has : (P : Member → Type 0) (ms : List Member) (key : Key) (m : Member) → member ms key ≡ Some m → AllByRecursion P ms → P m × (m.key ≡ key)
 found_has P [] key m e h = absurd cc

@@ -11,6 +11,7 @@ pub mod Listings
 pub mod MethodsAbove
 pub mod Named
 pub mod Nearby
+pub mod Nearest
 pub mod Uphill
 pub mod Reached
 pub mod Silence

@@ -8,18 +8,20 @@ use Rattle.std.proofs.lemmas.List.{take_more}
 use Rattle.std.proofs.lemmas.List.Folds.{list_any-append}
 use Rattle.std.proofs.lemmas.Option.{same_Some}
 use Rattle.indexmap.specs.IndexMap.{IndexMap, get}
-use Rattle.cl_classfile.specs.Files.{Key, Member, file_of, member, method_of, same_key}
+use Rattle.cl_classfile.specs.Files.{Key, Member, file_of, is_interface, member, method_of, same_key}
 use Rattle.cl_model.specs.Probes.{first_places, is_in}
 use Rattle.cl_model.specs.Lineages.{Kin, if_declared, is_offered, is_virtual}
 use Rattle.cl_model.specs.Preparation.{is_special}
 use Rattle.cl_model.proofs.Keys.{keys_are_told}
+use Rattle.cl_hierarchy.specs.declared.equalities.Given.{Given}
+use Rattle.cl_hierarchy.specs.declared.equalities.Given.TheVariants as givens
 use Rattle.cl_hierarchy.specs.Rows.{Rowed}
 use Rattle.cl_hierarchy.specs.Trees.{kin_under}
 use Rattle.cl_preparation.specs.declared.declarers.MethodTexts.{MethodTexts}
 use Rattle.cl_preparation.specs.declared.methods_above.Above.{Above}
 use Rattle.cl_preparation.specs.Declarers.{same_texts}
-use Rattle.cl_preparation.specs.Fewer.{is_new, loaders, others_after}
-use Rattle.cl_preparation.specs.MethodsAbove.{ArePut, AreTold, IsPut, Tells, added, without}
+use Rattle.cl_preparation.specs.Fewer.{begins_with_class, is_new, left_above, loaders, others_after}
+use Rattle.cl_preparation.specs.MethodsAbove.{ArePut, AreTold, IsPut, Tells, added, loaders_left, without}
 use Rattle.cl_preparation.specs.Relatives.{bare}
 use Rattle.cl_preparation.specs.Walks.{is_open, opens}
 use Rattle.cl_preparation.proofs.Unmixed.{texts_one, texts_same, texts_self}
@@ -130,16 +132,39 @@ new_but own (x ∷ xs) = same_if x (is_new own [] x) (not (own == x)) (filter (i
 pub once_others : (own : ℕ) (ls : List ℕ) → others_after own [] ls ≡ without own (first_places [] ls)
 once_others own ls = once_after own [] ls ∙ new_but own (first_places [] ls)
 
+-- those of the first alone, if it is of a class
+pub nearest_left : (given : Given) (b : Bool) (wide : List ℕ) (ks : List Kin) → wide ≡ first_places [] (loaders ks) → b ≡ begins_with_class ks → loaders_left given b wide ≡ first_places [] (loaders (left_above given ks))
+nearest_left givens.Nothing b wide ks are is = are
+nearest_left givens.Superclass b wide [] are is = rw is are
+nearest_left givens.Superclass b wide (k ∷ ks) are is = rw is (by (is_interface k.file))
+  where
+    by : (i : Bool) → (if not i then take 1 wide else wide) ≡ first_places [] (loaders (if not i then take 1 (k ∷ ks) else k ∷ ks))
+    by true = are
+    by false = ap (take 1) are
+
 -- ---- one class more
 
 opened_more : (key : Key) (k : Kin) (ks : List Kin) (b : Bool) → opens key k ≡ b → first_places [] (loaders (filter (opens key) (k ∷ ks))) ≡ added k.class.loader b (first_places [] (loaders (filter (opens key) ks)))
 opened_more key k ks true e = rw e (first_more k.class.loader (loaders (filter (opens key) ks)))
 opened_more key k ks false e = rw e refl
 
+-- whether the nearest of them is no interface, once a class below declares the method or not
+abbrev below : Key → Kin → Bool → Bool
+below key k before = if opens key k then not (is_interface k.file) else before
+
+begun_more : (key : Key) (k : Kin) (ks : List Kin) (b : Bool) → opens key k ≡ b → begins_with_class (filter (opens key) (k ∷ ks)) ≡ (if b then not (is_interface k.file) else begins_with_class (filter (opens key) ks))
+begun_more key k ks true e = rw e refl
+begun_more key k ks false e = rw e refl
+
+again_class : (b x y : Bool) → (if b then x else (if b then x else y)) ≡ (if b then x else y)
+again_class true x y = refl
+again_class false x y = refl
+
 pub told_more : (key : Key) (k : Kin) (ks : List Kin) (o : Option Above) (a : Above) → is_offered key k ≡ true → a.nearest ≡ k.class.loader → a.wide.items ≡ added k.class.loader (opens key k) (option_map_or (λ x. x.wide.items) o [])
-    → Tells key ks o → Tells key (k ∷ ks) (Some a)
-told_more key k ks o a on near wide was = record {
+    → a.is_class ≡ below key k (option_map_or (λ x. x.is_class) o false) → Tells key ks o → Tells key (k ∷ ks) (Some a)
+told_more key k ks o a on near wide class was = record {
   wide = wide ∙ ap (added k.class.loader (opens key k)) was.wide ∙ sym (opened_more key k ks (opens key k) refl);
+  class = class ∙ ap (below key k) was.class ∙ sym (begun_more key k ks (opens key k) refl);
   nearest = rw on (ap (λ (n : ℕ). Some n) near);
 }
 
@@ -149,13 +174,16 @@ again_same loader false ls = refl
 
 -- a method that is looked at again
 pub told_again : (key : Key) (k : Kin) (ks : List Kin) (o : Option Above) (a : Above) → is_offered key k ≡ true → a.nearest ≡ k.class.loader → a.wide.items ≡ added k.class.loader (opens key k) (option_map_or (λ x. x.wide.items) o [])
-    → Tells key (k ∷ ks) o → Tells key (k ∷ ks) (Some a)
-told_again key k ks o a on near wide was =
+    → a.is_class ≡ below key k (option_map_or (λ x. x.is_class) o false) → Tells key (k ∷ ks) o → Tells key (k ∷ ks) (Some a)
+told_again key k ks o a on near wide class was =
     let b : Bool = opens key k in
     let before : List ℕ = first_places [] (loaders (filter (opens key) ks)) in
     record {
       wide =
           wide ∙ ap (added k.class.loader b) (was.wide ∙ opened_more key k ks b refl) ∙ again_same k.class.loader b before ∙ sym (opened_more key k ks b refl);
+      class =
+          class ∙ ap (below key k) (was.class ∙ begun_more key k ks b refl) ∙ again_class b (not (is_interface k.file)) (begins_with_class (filter (opens key) ks))
+          ∙ sym (begun_more key k ks b refl);
       nearest = rw on (ap (λ (n : ℕ). Some n) near);
     }
 
@@ -163,7 +191,7 @@ told_again key k ks o a on near wide was =
 pub told_past : (key : Key) (k : Kin) (ks : List Kin) (o : Option Above) → is_offered key k ≡ false → Tells key ks o → Tells key (k ∷ ks) o
 told_past key k ks o off was =
     let closed : opens key k ≡ false = by (is_special key.name) (is_open key k) off in
-    record { wide = was.wide ∙ sym (opened_more key k ks false closed); nearest = rw off was.nearest }
+    record { wide = was.wide ∙ sym (opened_more key k ks false closed); class = was.class ∙ sym (begun_more key k ks false closed); nearest = rw off was.nearest }
   where
     by : (s w : Bool) → is_offered key k ≡ false → ((not s && is_offered key k) && w) ≡ false
     by true w e = refl
@@ -181,12 +209,23 @@ pub offered_is : (b w x : Bool) → Some x ≡ (if b then Some w else None) → 
 offered_is true w x e = (refl, same_Some x w e)
 offered_is false w x e = absurd cc
 
+pub class_lent : {A : Type 0} (v : A → Above) (o : Option A) (kept : Option Above) → option_map v o ≡ kept → option_map_or (λ x. (v x).is_class) o false ≡ option_map_or (λ a. a.is_class) kept false
+class_lent v None kept is = ap (λ (x : Option Above). option_map_or (λ a. a.is_class) x false) is
+class_lent v (Some x) kept is = ap (λ (y : Option Above). option_map_or (λ a. a.is_class) y false) is
+
+pub left_lent : {A : Type 0} (v : A → Above) (o : Option A) (kept : Option Above) (given : Given) → option_map v o ≡ kept
+    → loaders_left given (option_map_or (λ x. (v x).is_class) o false) (option_map_or (λ x. (v x).wide.items) o []) ≡ loaders_left given (option_map_or (λ a. a.is_class) kept false) (option_map_or (λ a. a.wide.items) kept [])
+left_lent v o kept given is =
+    ap (λ (b : Bool). loaders_left given b (option_map_or (λ x. (v x).wide.items) o [])) (class_lent v o kept is)
+    ∙ ap (loaders_left given (option_map_or (λ a. a.is_class) kept false)) (wide_lent v o kept is)
+
 -- the texts of a key were put
 pub put_more : {S : Type 0} (old new : IndexMap MethodTexts Above S) (key : Key) (c : Kin) (texts : MethodTexts) (a : Above) → method_of texts.name texts.descriptor ≡ Some key → is_offered key c ≡ true → a.nearest ≡ c.class.loader
-    → a.wide.items ≡ added c.class.loader (opens key c) (option_map_or (λ x. x.wide.items) (get same_texts old texts) []) → ((u : MethodTexts) → get same_texts new u ≡ cond (same_texts texts u) (Some a) (get same_texts old u)) → IsPut old key c new
-put_more {S} old new key c texts a read on near wide is = record {
-  first = λ t ks reads was. to t ks reads (told_more key c ks (get same_texts old texts) a on near wide (back t ks reads was));
-  again = λ t ks reads was. to t ks reads (told_again key c ks (get same_texts old texts) a on near wide (back t (c ∷ ks) reads was));
+    → a.wide.items ≡ added c.class.loader (opens key c) (option_map_or (λ x. x.wide.items) (get same_texts old texts) [])
+    → a.is_class ≡ (if opens key c then not (is_interface c.file) else option_map_or (λ x. x.is_class) (get same_texts old texts) false) → ((u : MethodTexts) → get same_texts new u ≡ cond (same_texts texts u) (Some a) (get same_texts old u)) → IsPut old key c new
+put_more {S} old new key c texts a read on near wide class is = record {
+  first = λ t ks reads was. to t ks reads (told_more key c ks (get same_texts old texts) a on near wide class (back t ks reads was));
+  again = λ t ks reads was. to t ks reads (told_again key c ks (get same_texts old texts) a on near wide class (back t (c ∷ ks) reads was));
   others = λ t off. is t ∙ ap (λ (b : Bool). cond b (Some a) (get same_texts old t)) (differs t off (same_texts texts t) refl);
 }
   where
@@ -260,9 +299,14 @@ put_all table r ks put = λ t key reads. by t key (list_any (λ m. same_key m.ke
 told_tree : (key : Key) (known : List Kin) (r : Rowed) (ks : List Kin) (o : Option Above) → Tells key (bare r ∷ ks) o → Tells key (kin_under known r ∷ ks) o
 told_tree key known r ks o told = record {
   wide = told.wide ∙ ap (first_places []) (by (opens key (bare r)));
+  class = told.class ∙ begins (opens key (bare r));
   nearest = told.nearest ∙ at (is_offered key (bare r));
 }
   where
+    begins : (b : Bool) → begins_with_class (if b then bare r ∷ filter (opens key) ks else filter (opens key) ks) ≡ begins_with_class (if b then kin_under known r ∷ filter (opens key) ks else filter (opens key) ks)
+    begins true = refl
+    begins false = refl
+
     by : (b : Bool) → loaders (if b then bare r ∷ filter (opens key) ks else filter (opens key) ks) ≡ loaders (if b then kin_under known r ∷ filter (opens key) ks else filter (opens key) ks)
     by true = refl
     by false = refl

@@ -18,19 +18,19 @@ use Rattle.cl_model.proofs.Runs.{joined_self}
 use Rattle.cl_hierarchy.specs.Imposed.{AreEnough, constraints_above, known_by}
 use Rattle.cl_hierarchy.specs.declared.equalities.Given.{Given}
 use Rattle.cl_hierarchy.specs.declared.equalities.Given.TheVariants as givens
-use Rattle.cl_preparation.specs.Fewer.{AddsLeft, AreFew, by_superinterfaces, fewer_constraints_of, fewer_declared, fewer_inherited, fewer_with_repeats, is_between, is_new, loaders, loaders_over, others_after}
+use Rattle.cl_preparation.specs.Fewer.{AddsDeclared, AddsLeft, AreFew, by_superinterfaces, fewer_constraints_of, fewer_declared, fewer_inherited, fewer_with_repeats, is_between, is_new, loaders, loaders_over, others_after}
 use Rattle.cl_preparation.specs.Listings.{Listing, has_need, once_of, same_need, with_all, without_repeats}
 use Rattle.cl_preparation.proofs.Listings.{all_append, listed_once, same_is, unseen, unseen_once}
 
 -- ---- few that stand for all where this holds
 
-record Stand (known : State → Type 0) (all few : List Need) : Type 0 where
+pub record Stand (known : State → Type 0) (all few : List Need) : Type 0 where
   no_more : length few ≤ length all
   among : (n : Need) → Contains few n → Contains all n
   met : (s : State) → known s → AllMet s few → AllMet s all
   next : (s : State) (n : Need) → known s → IsNext s few n → IsNext s all n
 
-stand_same : (known : State → Type 0) (ns : List Need) → Stand known ns ns
+pub stand_same : (known : State → Type 0) (ns : List Need) → Stand known ns ns
 stand_same known ns = record {
   no_more = omega arith;
   among = λ n h. h;
@@ -42,7 +42,7 @@ none_among : (n : Need) (ns : List Need) → Contains [] n → Contains ns n
 none_among n ns (k, below, at) = absurd (omega arith)
 
 -- what is met is left out
-stand_left : (known : State → Type 0) (ns : List Need) → ((s : State) → known s → AllMet s ns) → Stand known ns []
+pub stand_left : (known : State → Type 0) (ns : List Need) → ((s : State) → known s → AllMet s ns) → Stand known ns []
 stand_left known ns met = record {
   no_more = omega arith;
   among = λ n h. none_among n ns h;
@@ -51,7 +51,7 @@ stand_left known ns met = record {
 }
 
 -- more is known
-stand_where : (known more : State → Type 0) (all few : List Need) → ((s : State) → more s → known s) → Stand known all few → Stand more all few
+pub stand_where : (known more : State → Type 0) (all few : List Need) → ((s : State) → more s → known s) → Stand known all few → Stand more all few
 stand_where known more all few f st = record {
   no_more = st.no_more;
   among = st.among;
@@ -72,7 +72,7 @@ among_both xs ys zs bs n first second h = elim (Contains-append_cases zs bs n h)
 ]
 
 -- one list after another, the few of which are met by then
-stand_both : (known : State → Type 0) (xs ys zs bs : List Need) → Stand known xs zs → Stand (λ s. known s × AllMet s zs) ys bs → Stand known (xs ++ ys) (zs ++ bs)
+pub stand_both : (known : State → Type 0) (xs ys zs bs : List Need) → Stand known xs zs → Stand (λ s. known s × AllMet s zs) ys bs → Stand known (xs ++ ys) (zs ++ bs)
 stand_both known xs ys zs bs first second = record {
   no_more = (let one = first.no_more in let two = second.no_more in omega (arith, length-append zs bs, length-append xs ys));
   among = λ n h. among_both xs ys zs bs n (first.among n) (second.among n) h;
@@ -83,7 +83,7 @@ stand_both known xs ys zs bs first second = record {
 -- ---- loaders that are listed once
 
 -- what each of these gives is met
-abbrev AreMet : (ℕ → List Need) → ℕ → List ℕ → State → Type 0
+abbrev pub AreMet : (ℕ → List Need) → ℕ → List ℕ → State → Type 0
 AreMet f own listed s = (a : ℕ) → is_new own listed a ≡ false → AllMet s (f a)
 
 one_more : (f : ℕ → List Need) (own x : ℕ) (listed : List ℕ) (s : State) → AreMet f own listed s → AllMet s (f x) → AreMet f own (listed ++ x ∷ []) s
@@ -114,7 +114,7 @@ others_step f own listed x xs false e rest =
     (stand_where (AreMet f own listed) (λ s. AreMet f own listed s × AllMet s []) (flat_map f xs) few (λ s k. k.0) (rest listed))
 
 -- loaders that are listed once stand for all
-stand_others : (f : ℕ → List Need) (own : ℕ) (listed xs : List ℕ) → Stand (AreMet f own listed) (flat_map f xs) (flat_map f (others_after own listed xs))
+pub stand_others : (f : ℕ → List Need) (own : ℕ) (listed xs : List ℕ) → Stand (AreMet f own listed) (flat_map f xs) (flat_map f (others_after own listed xs))
 stand_others f own listed [] = stand_same (AreMet f own listed) []
 stand_others f own listed (x ∷ xs) = others_step f own listed x xs (is_new own listed x) refl (λ before. stand_others f own before xs)
 
@@ -126,11 +126,11 @@ self_met s true a (n ∷ names) = (joined_self s.equalities n a, self_met s true
 self_met s false a (n ∷ names) = (joined_self s.equalities n a, self_met s false a names)
 
 -- equalities of a loader with itself are met
-equals_met : (s : State) (key : Key) (a b : ℕ) → (a == b) ≡ true → AllMet s (equals_of key a b)
+pub equals_met : (s : State) (key : Key) (a b : ℕ) → (a == b) ≡ true → AllMet s (equals_of key a b)
 equals_met s key a b e = subst (λ (c : ℕ). AllMet s (equals_of key a c)) (eqb-true a b e) (self_met s (nat_le a a) a (class_names key.descriptor))
 
 -- with none listed, only the own loader is not new
-none_listed : (s : State) (key : Key) (own : ℕ) → AreMet (equals_of key own) own [] s
+pub none_listed : (s : State) (key : Key) (own : ℕ) → AreMet (equals_of key own) own [] s
 none_listed s key own = λ a e. by a (own == a) refl e
   where
     by : (a : ℕ) (b : Bool) → (own == a) ≡ b → (not b && true) ≡ false → AllMet s (equals_of key own a)
@@ -139,10 +139,10 @@ none_listed s key own = λ a e. by a (own == a) refl e
 
 -- ---- the first half
 
-abbrev Any : State → Type 0
+abbrev pub Any : State → Type 0
 Any s = Unit {0}
 
-with_loaders : (key : Key) (own : ℕ) (ks : List Kin) → equals_with key own ks ≡ flat_map (equals_of key own) (loaders ks)
+pub with_loaders : (key : Key) (own : ℕ) (ks : List Kin) → equals_with key own ks ≡ flat_map (equals_of key own) (loaders ks)
 with_loaders key own [] = refl
 with_loaders key own (k ∷ ks) = ap (λ ns. equals_of key own k.class.loader ++ ns) (with_loaders key own ks)
 
@@ -164,7 +164,7 @@ if_part : (b : Bool) (all few : List Need) → Stand Any all few → Stand Any (
 if_part true all few st = st
 if_part false all few st = stand_same Any []
 
-declared_stand : (c : Kin) (m : Member) → Stand Any (for_declared c m) (fewer_declared c m)
+pub declared_stand : (c : Kin) (m : Member) → Stand Any (for_declared c m) (fewer_declared c m)
 declared_stand c m =
     let own : ℕ = c.class.loader in
     let f : ℕ → List Need = equals_of m.key own in
@@ -232,7 +232,7 @@ once_stand : (ns : List Need) → Stand Any ns (without_repeats ns)
 once_stand ns = stand_where (λ s. AllMet s []) Any ns (without_repeats ns) (λ s k. tt) (unseen_stand [] ns)
 
 -- some of the few, by way of these
-stand_through : (known : State → Type 0) (all mid few : List Need) → Stand known all mid → Stand known mid few → Stand known all few
+pub stand_through : (known : State → Type 0) (all mid few : List Need) → Stand known all mid → Stand known mid few → Stand known all few
 stand_through known all mid few first second = record {
   no_more = (let one = first.no_more in let two_ = second.no_more in omega arith);
   among = λ n h. first.among n (second.among n h);
@@ -271,10 +271,10 @@ few_given given c needs e = record {
 
 -- ---- what the superclass imposes
 
-enough_stand : (known all few : List Need) → AreEnough known all few → Stand (λ s. AllMet s known) all few
+pub enough_stand : (known all few : List Need) → AreEnough known all few → Stand (λ s. AllMet s known) all few
 enough_stand known all few are = record { no_more = are.no_more; among = are.among; met = are.met; next = are.next }
 
-stand_enough : (known all few : List Need) → Stand (λ s. AllMet s known) all few → AreEnough known all few
+pub stand_enough : (known all few : List Need) → Stand (λ s. AllMet s known) all few → AreEnough known all few
 stand_enough known all few st = record { no_more = st.no_more; among = st.among; met = st.met; next = st.next }
 
 -- ---- what is left, step by step
@@ -325,20 +325,21 @@ left_more c old mid new xs ys first second =
 not_nothing : givens.Superclass ≡ givens.Nothing → ⊥
 not_nothing e = cc
 
--- what is left of what a class inherits, behind what it declares
-pub few_left : (c : Kin) (first needs : Listing) → is_interface c.file ≡ false → first ≡ with_all (once_of []) (flat_map (fewer_declared c) c.file.methods) → AddsLeft c first (by_superinterfaces fewer_inherited c) needs → AreFew givens.Superclass c needs.needs
-few_left c first needs class e left =
+-- what is left of what a class inherits, behind what is left of what it declares
+pub few_left : (c : Kin) (first needs : Listing) → is_interface c.file ≡ false → AddsDeclared givens.Superclass c (once_of []) c.file.methods first → AddsLeft c first (by_superinterfaces fewer_inherited c) needs → AreFew givens.Superclass c needs.needs
+few_left c first needs class declared left =
     let known : State → Type 0 = λ s. AllMet s (constraints_above c) in
     let all : List Need = flat_map (for_declared c) c.file.methods in
-    let few : List Need = flat_map (fewer_declared c) c.file.methods in
+    let few : List Need = declared.added in
     let rest : List Need = by_superinterfaces for_inherited c in
-    let one = stand_where Any known all few (λ s k. tt) (stand_each (for_declared c) (fewer_declared c) c.file.methods (declared_stand c)) in
+    let one : Stand known all few = enough_stand (constraints_above c) all few declared.enough in
     let two_ : Stand known rest left.added =
     stand_through known rest (by_superinterfaces fewer_inherited c) left.added (stand_where Any known rest (by_superinterfaces fewer_inherited c) (λ s k. tt) (second_stand c false))
     (enough_stand (constraints_above c) (by_superinterfaces fewer_inherited c) left.added left.enough) in
     let both : Stand known (all ++ rest) (few ++ left.added) = stand_both known all rest few left.added one (stand_where known (λ s. known s × AllMet s few) rest left.added (λ s k. k.0) two_) in
     let are : Stand known (constraints_of c) (few ++ left.added) = subst (λ (b : Bool). Stand known (all ++ (if b then [] else rest)) (few ++ left.added)) (sym class) both in
     let once : Stand known (few ++ left.added) (without_repeats (few ++ left.added)) = stand_where Any known (few ++ left.added) (without_repeats (few ++ left.added)) (λ s k. tt) (once_stand (few ++ left.added)) in
-    let is : without_repeats (few ++ left.added) ≡ needs.needs = sym (listed_once (few ++ left.added)) ∙ ap (λ (l : Listing). l.needs) (all_append (once_of []) few left.added ∙ sym (left.more ∙ ap (λ (l : Listing). with_all l left.added) e)) in
+    let is : without_repeats (few ++ left.added) ≡ needs.needs =
+    sym (listed_once (few ++ left.added)) ∙ ap (λ (l : Listing). l.needs) (all_append (once_of []) few left.added ∙ sym (left.more ∙ ap (λ (l : Listing). with_all l left.added) declared.more)) in
     let st : Stand known (constraints_of c) needs.needs = subst (λ (ns : List Need). Stand known (constraints_of c) ns) is (stand_through known (constraints_of c) (few ++ left.added) (without_repeats (few ++ left.added)) are once) in
     record { enough = stand_enough (constraints_above c) (constraints_of c) needs.needs st; exactly = λ none. absurd (not_nothing none); once = subst (NoneTwice has_need) is (unseen_once [] (few ++ left.added)) }

@@ -13,6 +13,10 @@ of_file f = record { class = in_app "p/A"; file = f; superclass = Bare; interfac
 abbrev pub with_m : ℕ → Kin
 with_m flags = of_file (with_methods ((flags, taking_t "m") ∷ []) (plain "p/A"))
 
+-- an interface that declares m
+abbrev pub with_m_over : Kin
+with_m_over = of_file (with_methods ((abstract, taking_t "m") ∷ []) (interface "p/A"))
+
 -- one that declares nothing, and an interface that declares nothing
 abbrev pub with_none : Kin
 with_none = of_file (plain "p/A")

@@ -1,15 +1,16 @@
 -- The few equalities of a preparation that stand for all of them (JVMS SE 8, 5.3.4, 5.4.2).
-use Rattle.std.specs.Prelude.{◌≡◌, ◌==◌, ℕ, Bool, true, ◌&&◌, not, if◌then◌else◌, List, [], ◌∷◌, ◌++◌, map, filter, flat_map}
+use Rattle.std.specs.Prelude.{◌≡◌, ◌==◌, ℕ, Bool, true, false, ◌&&◌, not, if◌then◌else◌, List, [], ◌∷◌, ◌++◌, map, filter, flat_map, take}
 use Rattle.std.specs.List.{list_any}
 use Rattle.cl_classfile.specs.Files.{Key, Member, is_interface}
-use Rattle.cl_model.specs.Lineages.{Kin, superinterfaces}
-use Rattle.cl_model.specs.Preparation.{constraints_of, equals_of, for_inherited, overridden, takes_part}
+use Rattle.cl_model.specs.Lineages.{Kin, superclasses, superinterfaces}
+use Rattle.cl_model.specs.Preparation.{constraints_of, equals_of, for_declared, for_inherited, overridden, takes_part}
 use Rattle.cl_model.specs.States.{AllMet, Entry, Equal, Need, State}
 use Rattle.cl_hierarchy.specs.Imposed.{AreEnough, constraints_above, known_by}
 use Rattle.cl_hierarchy.specs.declared.equalities.Given.{Given}
 use Rattle.cl_hierarchy.specs.declared.equalities.Given.TheVariants as givens
 use Rattle.cl_model.specs.Once.{NoneTwice}
 use Rattle.cl_preparation.specs.Listings.{Listing, has_need, with_all, without_repeats}
+use Rattle.cl_preparation.specs.Walks.{opens}
 
 -- a loader is another than the own one, and none of these (5.3.4)
 abbrev pub is_new : ℕ → List ℕ → ℕ → Bool
@@ -32,6 +33,24 @@ loaders ks = map (λ k. k.class.loader) ks
 abbrev pub loaders_over : Kin → Key → List ℕ
 loaders_over c key =
     loaders (if is_interface c.file then [] else overridden key c)
+    ++ loaders (filter (takes_part key) (superinterfaces c))
+
+-- the first of these classes is no interface
+abbrev pub begins_with_class : List Kin → Bool
+begins_with_class [] = false
+begins_with_class (k ∷ ks) = not (is_interface k.file)
+
+-- of the superclasses that declare a method open, nearest first, those with which a class below has
+-- something to impose where this is given: if they are prepared the nearest alone, since that is no
+-- interface and its own method overrides those of the others (5.4.2, 5.4.5)
+abbrev pub left_above : Given → List Kin → List Kin
+left_above givens.Nothing ks = ks
+left_above givens.Superclass ks = if begins_with_class ks then take 1 ks else ks
+
+-- the loaders of what a method of c overrides, so far as something is left to impose (5.4.2)
+abbrev pub loaders_left_over : Given → Kin → Key → List ℕ
+loaders_left_over given c key =
+    loaders (left_above given (filter (opens key) (superclasses c)))
     ++ loaders (filter (takes_part key) (superinterfaces c))
 
 -- first half: for a method of c, equalities with each other loader of what it overrides, once
@@ -89,6 +108,17 @@ pub record AddsLeft (c : Kin) (old : Listing) (all : List Need) (new : Listing) 
   pub added : List Need
   pub more : new ≡ with_all old added
   pub enough : AreEnough (constraints_above c) all added
+
+-- needs were listed for all of these: just the few, or some that stand for all where superclasses are
+-- prepared (5.4.2)
+abbrev pub AddsFew : Given → Kin → Listing → List Need → List Need → Listing → Type 0
+AddsFew givens.Nothing c old all few new = new ≡ with_all old few
+AddsFew givens.Superclass c old all few new = AddsLeft c old all new
+
+-- for what these methods of c impose (5.4.2)
+abbrev pub AddsDeclared : Given → Kin → Listing → List Member → Listing → Type 0
+AddsDeclared given c old ms new =
+    AddsFew given c old (flat_map (for_declared c) ms) (flat_map (fewer_declared c) ms) new
 
 -- these stand for all, where this is given, none twice; where nothing is, they are just the few (5.4.2)
 pub record AreFew (given : Given) (c : Kin) (needs : List Need) : Type 0 where

@@ -1,15 +1,17 @@
 -- What a class and its superclasses declare, by methods (JVMS SE 8, 5.3.4, 5.4.2, 5.4.5).
-use Rattle.std.specs.Prelude.{◌≡◌, ◌==◌, Bool, ℕ, not, if◌then◌else◌, List, [], ◌∷◌, Option, Some, find, filter, option_map}
+use Rattle.std.specs.Prelude.{◌≡◌, ◌==◌, Bool, ℕ, false, not, if◌then◌else◌, List, [], ◌∷◌, Option, Some, find, filter, option_map, take}
 use Rattle.std.specs.Option.{option_map_or}
 use Rattle.std.specs.List.{list_any}
 use Rattle.indexmap.specs.IndexMap.{IndexMap, get}
 use Rattle.cl_classfile.specs.Files.{Key, Member, method_of, same_key}
 use Rattle.cl_model.specs.Lineages.{Kin, is_offered}
 use Rattle.cl_model.specs.Probes.{first_places}
+use Rattle.cl_hierarchy.specs.declared.equalities.Given.{Given}
+use Rattle.cl_hierarchy.specs.declared.equalities.Given.TheVariants as givens
 use Rattle.cl_preparation.specs.declared.declarers.MethodTexts.{MethodTexts}
 use Rattle.cl_preparation.specs.declared.methods_above.Above.{Above}
 use Rattle.cl_preparation.specs.Declarers.{same_texts}
-use Rattle.cl_preparation.specs.Fewer.{loaders}
+use Rattle.cl_preparation.specs.Fewer.{begins_with_class, loaders}
 use Rattle.cl_preparation.specs.Walks.{opens}
 
 -- these loaders without one
@@ -21,11 +23,13 @@ abbrev pub added : ℕ → Bool → List ℕ → List ℕ
 added loader is_open ls = if is_open then loader ∷ without loader ls else ls
 
 -- what is kept of a method tells of these classes, nearest first: the loaders of those that declare
--- it public or protected, and of the nearest that declares it neither private nor static
--- (5.4.2, 5.4.5)
+-- it public or protected, whether the nearest of these is no interface, and the loader of the
+-- nearest that declares it neither private nor static (5.4.2, 5.4.5)
 pub record Tells (key : Key) (ks : List Kin) (o : Option Above) : Type 0 where
   pub wide :
       option_map_or (λ a. a.wide.items) o [] ≡ first_places [] (loaders (filter (opens key) ks))
+  pub class :
+      option_map_or (λ a. a.is_class) o false ≡ begins_with_class (filter (opens key) ks)
   pub nearest :
       option_map (λ a. a.nearest) o ≡ option_map (λ k. k.class.loader) (find (is_offered key) ks)
 
@@ -34,6 +38,12 @@ abbrev pub AreTold : {S : Type 0} → IndexMap MethodTexts Above S → List Kin 
 AreTold table ks =
     (t : MethodTexts) (key : Key) → method_of t.name t.descriptor ≡ Some key
     → Tells key ks (get same_texts table t)
+
+-- of these loaders those that are left where this is given, as the first is of a class or not
+-- (5.4.2)
+abbrev pub loaders_left : Given → Bool → List ℕ → List ℕ
+loaders_left givens.Nothing is_class ls = ls
+loaders_left givens.Superclass is_class ls = if is_class then take 1 ls else ls
 
 -- ---- for the steps of a call
 

@@ -1,13 +1,13 @@
 //! The few loading constraints of a class that is no interface, where what its superclasses declare is kept, and the lineage was
 //! surveyed: one look for each of its methods (JVMS SE 8, 5.3.4, 5.4.2).
 
-ghost use Rattle.std.specs.Prelude.{◌≡◌, ◌≤◌, [], filter, flat_map, map, option_map, true, IfOk, OnOk};
+ghost use Rattle.std.specs.Prelude.{◌≡◌, ◌≤◌, [], ◌∷◌, filter, flat_map, map, option_map, true, IfOk, OnOk};
 ghost use Rattle.cl_hierarchy.specs.Imposed.{needs_of};
 ghost use Rattle.cl_hierarchy.specs.Lineages.{kin_of};
 ghost use Rattle.cl_hierarchy.specs.OversAt.{AreSharingIn};
 ghost use Rattle.cl_model.specs.Preparation.{takes_part};
 ghost use Rattle.cl_preparation.specs.Chains.{AreImposed, by_row, hidden_by};
-ghost use Rattle.cl_preparation.specs.Fewer.{AddsLeft, AreFew, IsImposed, by_superinterfaces, fewer_declared, fewer_inherited, loaders_over, others_after};
+ghost use Rattle.cl_preparation.specs.Fewer.{AddsDeclared, AddsLeft, AreFew, IsImposed, by_superinterfaces, fewer_inherited, loaders_left_over, others_after};
 ghost use Rattle.cl_preparation.specs.Listings.{with_all, once_of};
 ghost use Rattle.cl_preparation.specs.Nearby.{AddLoaders};
 ghost use Rattle.cl_preparation.specs.Relatives.{bare};
@@ -75,20 +75,22 @@ impl<'a, 'b, 'c, 'd, T: Told> Model for Chained<'a, 'b, 'c, 'd, T> {
 
 impl<'a, 'b, 'c, 'd, T: Told> Chained<'a, 'b, 'c, 'd, T> {
     /// The other loaders of what a method with this key overrides, each once: those of superclasses, nearest first, then those
-    /// of superinterfaces (JVMS SE 8, 5.4.5).
+    /// of superinterfaces. Where superclasses are prepared, the nearest superclass alone is asked: the same method of others is what
+    /// that one overrides, so that it imposed the equalities with these (JVMS SE 8, 5.4.2, 5.4.5).
     fn loaders_over(
         &self,
         alloc: Global,
         over: &Away<'_, T>,
         key: &MethodKey,
+        given: Given,
     ) -> Result<Listed, AllocError>
         requires over { AddLoaders self.now over.now }
         requires part { takes_part key.now (kin_of self.now) ≡ true }
         ensures { IfOk result (λ v. v ≡ others_after self.now.own.class.loader []
-            (loaders_over (kin_of self.now) key.now)) }
+            (loaders_left_over given (kin_of self.now) key.now)) }
     {
         let own = self.own.loader();
-        let mut listed = wide_above(alloc, self.above, own, key)?;
+        let mut listed = wide_above(alloc, self.above, own, key, given)?;
         over.list_counted(&mut listed, own, key, false)?;
         Ok(listed)
     }
@@ -100,10 +102,11 @@ impl<'a, 'b, 'c, 'd, T: Told> Chained<'a, 'b, 'c, 'd, T> {
         needs: &mut Needs,
         over: &Away<'_, T>,
         method: &Method,
+        given: Given,
     ) -> Result<(), AllocError>
         requires { AddLoaders self.now over.now }
-        ensures { OnOk result (needs.new ≡ with_all needs.old
-            (fewer_declared (kin_of self.now) method.now)) }
+        ensures { OnOk result (AddsDeclared given (kin_of self.now) needs.old (method.now ∷ [])
+            needs.new) }
     {
         let key = method.key();
         if !self.own.takes_part(key) {
@@ -113,7 +116,7 @@ impl<'a, 'b, 'c, 'd, T: Told> Chained<'a, 'b, 'c, 'd, T> {
         if self.survey.is_alone(alloc, key)? {
             return Ok(());
         }
-        let loaders = self.loaders_over(alloc, over, key)?;
+        let loaders = self.loaders_over(alloc, over, key, given)?;
         needs.push_with(alloc, key, self.own.loader(), &loaders)
     }
 
@@ -124,13 +127,14 @@ impl<'a, 'b, 'c, 'd, T: Told> Chained<'a, 'b, 'c, 'd, T> {
         needs: &mut Needs,
         over: &Away<'_, T>,
         methods: &[Method],
+        given: Given,
     ) -> Result<(), AllocError>
         requires { AddLoaders self.now over.now }
-        ensures { OnOk result (needs.new ≡ with_all needs.old
-            (flat_map (fewer_declared (kin_of self.now)) methods.now)) }
+        ensures { OnOk result (AddsDeclared given (kin_of self.now) needs.old methods.now
+            needs.new) }
     {
         for method in methods {
-            self.push_declared(alloc, needs, over, method)?;
+            self.push_declared(alloc, needs, over, method, given)?;
         }
         Ok(())
     }
@@ -141,18 +145,19 @@ impl<'a, 'b, 'c, 'd, T: Told> Chained<'a, 'b, 'c, 'd, T> {
         alloc: Global,
         needs: &mut Needs,
         methods: &[Method],
+        given: Given,
     ) -> Result<(), AllocError>
-        ensures { OnOk result (needs.new ≡ with_all needs.old
-            (flat_map (fewer_declared (kin_of self.now)) methods.now)) }
+        ensures { OnOk result (AddsDeclared given (kin_of self.now) needs.old methods.now
+            needs.new) }
     {
         let is_little = methods.len() <= FEW || self.over.len() <= FEW;
         if is_little || are_alone(alloc, self.survey, &self.own, methods)? {
-            return self.push_each_declared(alloc, needs, &self.over, methods);
+            return self.push_each_declared(alloc, needs, &self.over, methods, given);
         }
         let many = methods.len().saturating_mul(FEW);
         let like = rows_like(alloc, &self.own, self.over.as_slice(), many)?;
         let over = Away::unfiltered(alloc, like);
-        let pushed = self.push_each_declared(alloc, needs, &over, methods);
+        let pushed = self.push_each_declared(alloc, needs, &over, methods, given);
         drop(over);
         pushed
     }
@@ -340,8 +345,8 @@ impl<'a, 'b, 'c, 'd, T: Told> Chained<'a, 'b, 'c, 'd, T> {
         needs: &mut Needs,
         given: Given,
     ) -> Result<(), AllocError>
-        requires declared { needs.old ≡ with_all (once_of []) (flat_map
-            (fewer_declared (kin_of self.now)) (kin_of self.now).file.methods) }
+        requires declared { AddsDeclared given (kin_of self.now) (once_of [])
+            (kin_of self.now).file.methods needs.old }
         ensures { OnOk result (AreFew given (kin_of self.now) needs.new.needs) }
     {
         // brings what is kept of the class
@@ -358,7 +363,7 @@ impl<'a, 'b, 'c, 'd, T: Told> Chained<'a, 'b, 'c, 'd, T> {
     {
         let mut needs = Needs::once(alloc, self.lineage.config().seed());
         let methods = self.own.methods(alloc)?;
-        self.push_all_declared(alloc, &mut needs, methods.as_slice())?;
+        self.push_all_declared(alloc, &mut needs, methods.as_slice(), given)?;
         self.push_inherited(alloc, &mut needs, given)?;
         needs.into_vec(alloc)
     }

@@ -1,10 +1,12 @@
 //! Worked examples of definitions of this crate, which the checker computes (JVMS SE 8, 5.3.4, 5.4.2, 5.4.5).
 
 ghost use Rattle.std.specs.Prelude.{◌≡◌, ◌∷◌, [], codes, false, true};
-ghost use Rattle.cl_classfile.specs.Flags.{private, public, static};
+ghost use Rattle.cl_classfile.specs.Flags.{private, protected, public, static};
 ghost use Rattle.cl_model.specs.Examples.{app, boot, plug};
 ghost use Rattle.cl_model.specs.States.{Equal};
-ghost use Rattle.cl_preparation.specs.Examples.{Meets, with_m, with_none, with_none_over};
+ghost use Rattle.cl_hierarchy.specs.declared.equalities.Given.TheVariants as givens;
+ghost use Rattle.cl_preparation.specs.Examples.{Meets, with_m, with_m_over, with_none, with_none_over};
+ghost use Rattle.cl_preparation.specs.Fewer.{left_above};
 ghost use Rattle.cl_preparation.specs.Listings.{without_repeats};
 
 /// A constraint stands where it is first; one of another name, or between other loaders, is another.
@@ -27,4 +29,16 @@ pub fn met_above()
     ensures none { Meets [] false }
     ensures interface { Meets (with_m private ∷ with_none_over ∷ []) false }
     ensures below_interface { Meets (with_none_over ∷ with_m public ∷ []) false }
+{}
+
+/// Of the superclasses that declare a method, a class below them is left with the nearest alone, if that is no interface, where it
+/// is given that they are prepared.
+pub fn nearest_left()
+    ensures nearest { left_above givens.Superclass (with_m public ∷ with_m protected ∷ [])
+        ≡ with_m public ∷ [] }
+    ensures interface { left_above givens.Superclass (with_m_over ∷ with_m public ∷ [])
+        ≡ with_m_over ∷ with_m public ∷ [] }
+    ensures not_given { left_above givens.Nothing (with_m public ∷ with_m protected ∷ [])
+        ≡ with_m public ∷ with_m protected ∷ [] }
+    ensures none { left_above givens.Superclass [] ≡ [] }
 {}

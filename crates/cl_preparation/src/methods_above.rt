@@ -1,11 +1,11 @@
 //! What a class and its superclasses declare, by methods, kept while classes below one another are prepared: each adds its own
 //! methods, and one look for each method of the next tells what all above it declare (JVMS SE 8, 5.4.2, 5.4.5).
 
-ghost use Rattle.std.specs.Prelude.{◌≡◌, ◌++◌, ◌∷◌, List, [], find, filter, if◌then◌else◌, option_map, IfOk, OnOk};
+ghost use Rattle.std.specs.Prelude.{◌≡◌, ◌++◌, ◌∷◌, List, [], false, find, filter, if◌then◌else◌, option_map, take, IfOk, OnOk};
 ghost use Rattle.std.specs.Option.{option_map_or};
 ghost use Rattle.cl_model.specs.Lineages.{Kin, is_offered};
-ghost use Rattle.cl_preparation.specs.Fewer.{loaders, others_after};
-ghost use Rattle.cl_preparation.specs.MethodsAbove.{ArePut, AreTold, IsPut, added, without};
+ghost use Rattle.cl_preparation.specs.Fewer.{left_above, loaders, others_after};
+ghost use Rattle.cl_preparation.specs.MethodsAbove.{ArePut, AreTold, IsPut, added, loaders_left, without};
 ghost use Rattle.cl_preparation.specs.Relatives.{bare};
 ghost use Rattle.cl_preparation.specs.Walks.{opens};
 
@@ -14,7 +14,7 @@ use crate::key::MethodKey;
 use crate::listed::Listed;
 use crate::method::Method;
 use crate::relative::Relative;
-use cl_hierarchy::ClassRow;
+use cl_hierarchy::{ClassRow, Given};
 use cl_model::{LoaderId, Told};
 use cl_names::Seed;
 use indexmap::IndexMap;
@@ -25,6 +25,8 @@ use std::sync::Arc;
 pub(crate) struct Above {
     /// Which loaders defined the classes that declare it public or protected, nearest first, each once.
     wide: Vec<LoaderId>,
+    /// Whether the nearest of these classes is no interface.
+    is_class: bool,
     /// Which loader defined the nearest class that declares it neither private nor static.
     nearest: LoaderId,
 }
@@ -33,6 +35,7 @@ impl Drop for Above {
     fn drop(self) {
         let Above {
             wide: _,
+            is_class: _,
             nearest: _,
         } = self;
     }
@@ -80,17 +83,59 @@ fn wide_of(known: Option<&Above>) -> &[LoaderId]
     }
 }
 
+/// Whether the nearest of these is no interface, if there is one that is known.
+fn is_class_of(known: Option<&Above>) -> bool
+    ensures { result ≡ option_map_or (λ x. x.now.is_class) known.entry false }
+{
+    match known {
+        Some(above) => above.is_class,
+        None => false,
+    }
+}
+
+/// The first of these loaders alone, if there is one.
+fn first_alone(loaders: &[LoaderId]) -> &[LoaderId]
+    ensures { result.now ≡ take 1 loaders.now }
+{
+    match loaders.get(..1) {
+        Some(first) => first,
+        None => loaders,
+    }
+}
+
+/// Of the loaders of the classes that declare a method public or protected those that are left where this is given.
+fn left_of(known: Option<&Above>, given: Given) -> &[LoaderId]
+    ensures { result.now ≡ loaders_left given
+        (option_map_or (λ x. x.now.is_class) known.entry false)
+        (option_map_or (λ x. x.now.wide.items) known.entry []) }
+{
+    let wide = wide_of(known);
+    match given {
+        Given::Nothing => wide,
+        Given::Superclass => {
+            if is_class_of(known) {
+                first_alone(wide)
+            } else {
+                wide
+            }
+        }
+    }
+}
+
 impl Above {
-    /// What is kept once a class below declares the method.
+    /// What is kept once a class below declares the method, which is an interface or not.
     fn with(
         alloc: Global,
         known: Option<&Above>,
         loader: LoaderId,
         is_open: bool,
+        is_class: bool,
     ) -> Result<Above, AllocError>
         ensures nearest { IfOk result (λ a. a.nearest ≡ loader) }
         ensures wide { IfOk result (λ a. a.wide.items ≡ added loader is_open
             (option_map_or (λ x. x.now.wide.items) known.entry [])) }
+        ensures class { IfOk result (λ a. a.is_class ≡ (if is_open then is_class else
+            option_map_or (λ x. x.now.is_class) known.entry false)) }
     {
         let before = wide_of(known);
         let wide = if is_open {
@@ -100,6 +145,11 @@ impl Above {
         };
         Ok(Above {
             wide,
+            is_class: if is_open {
+                is_class
+            } else {
+                is_class_of(known)
+            },
             nearest: loader,
         })
     }
@@ -118,7 +168,13 @@ fn put<T: Told>(
         return Ok(());
     };
     let texts = MethodTexts::of(alloc, key)?;
-    let above = Above::with(alloc, methods.get(&texts), class.loader(), is_open)?;
+    let above = Above::with(
+        alloc,
+        methods.get(&texts),
+        class.loader(),
+        is_open,
+        !class.is_interface(),
+    )?;
     methods.insert(texts, above)?;
     Ok(())
 }
@@ -166,19 +222,21 @@ fn list_but(listed: &mut Listed, own: LoaderId, loaders: &[LoaderId]) -> Result<
 }
 
 /// The other loaders than this of the classes that declare a public or protected method with this key which takes part, each once,
-/// nearest first (JVMS SE 8, 5.4.5).
+/// nearest first; where it is given that the superclasses are prepared, that of the nearest alone, if that is no interface
+/// (JVMS SE 8, 5.4.2, 5.4.5).
 pub(crate) fn wide_above(
     alloc: Global,
     methods: &MethodsAbove,
     own: LoaderId,
     key: &MethodKey,
+    given: Given,
 ) -> Result<Listed, AllocError>
     ensures { (ks : List Kin) → AreTold methods.now ks → IfOk result (λ v. v ≡ others_after own []
-        (loaders (filter (opens key.now) ks))) }
+        (loaders (left_above given (filter (opens key.now) ks)))) }
 {
     let texts = MethodTexts::of(alloc, key)?;
     let mut listed = Listed::new(alloc);
-    list_but(&mut listed, own, wide_of(methods.get(&texts)))?;
+    list_but(&mut listed, own, left_of(methods.get(&texts), given))?;
     Ok(listed)
 }
 

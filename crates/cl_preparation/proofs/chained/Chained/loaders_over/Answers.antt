@@ -10,6 +10,6 @@ pub returns : goal.returns
 returns g c =
     let is = subst (λ (l : Lined). IsChained l c.self.inside.own c.self.inside.survey.now c.self.inside.above.now c.self.inside.over c.self.inside.whole.now c.self.inside.place) c.self.view_is c.self.invariant in
     let l = c.args.self.now in
-    chained_over l c.self.inside.own c.self.inside.survey.now c.self.inside.above.now c.self.inside.over c.self.inside.whole.now c.self.inside.place is c.args.over.now c.requires.over c.args.key.now c.loader-own.result c.in_ok-listed.listed c.list_counted.new.listed c.requires.part
+    chained_over l c.self.inside.own c.self.inside.survey.now c.self.inside.above.now c.self.inside.over c.self.inside.whole.now c.self.inside.place is c.args.over.now c.requires.over c.args.given c.args.key.now c.loader-own.result c.in_ok-listed.listed c.list_counted.new.listed c.requires.part
     c.loader-own.ensures (IfOk-at_ok _ c.in_ok-listed.was (c.wide_above.ensures (superclasses (kin_of l)) is.above_are))
     (IfOk-at_ok _ c.in_ok-list_counted.was c.list_counted.ensures)

@@ -1,9 +1,7 @@
-use Rattle.std.proofs.Common.{◌≡◌, take}
-use Rattle.std.specs.List.{flat_map}
+use Rattle.std.proofs.Common.{take}
 use Rattle.cl_hierarchy.specs.Lineages.{kin_of}
-use Rattle.cl_preparation.specs.Fewer.{fewer_declared}
-use Rattle.cl_preparation.specs.Listings.{with_all}
+use Rattle.cl_preparation.specs.Fewer.{AddsDeclared}
 use Rattle.cl_preparation.proofs.chained.Chained.push_each_declared.Given as goal
 
 abbrev pub invariant-loop-method : goal.invariant-loop-method
-invariant-loop-method g l = l.needs ≡ with_all l.initial.needs (flat_map (fewer_declared (kin_of l.self)) (take l.method-index l.methods))
+invariant-loop-method g l = AddsDeclared l.given (kin_of l.self) l.initial.needs (take l.method-index l.methods) l.needs

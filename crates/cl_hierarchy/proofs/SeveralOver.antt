@@ -305,6 +305,11 @@ module _ {A : Type 0} (v : A → Rowed) (rows : List Rowed) (goal : Class → Bo
       pass_by rows goal (map v earlier) (v x) found left ordered with_last found-now left-now (test true f) (subst (λ (y : Rowed). Joins found (interfaces_in y) found-now) is over)
       (subst (λ (y : Rowed). Joins left (interfaces_in y ++ superclass_in y) left-now) is up)
 
+-- ---- the end
+
+pub none_wanted : {A : Type 0} (kin : A → Kin) (xs : List A) (found : List Class) → xs ≡ [] → found ≡ [] → (c : Class) → is_among found c ≡ is_among (superinterfaces_of_any (map kin xs)) c
+none_wanted {A} kin xs found none empty c = ap (λ (cs : List Class). is_among cs c) empty ∙ ap (λ (ys : List A). is_among (superinterfaces_of_any (map kin ys)) c) (sym none)
+
 last_false : (b : Bool) → (b || false) ≡ b
 last_false true = refl
 last_false false = refl

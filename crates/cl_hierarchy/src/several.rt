@@ -37,7 +37,7 @@ fn put_if(classes: &mut Classes, class: Option<Class>) -> Result<(), AllocError>
     }
 }
 
-/// The classes of rows likewise.
+/// The classes of rows.
 fn put_all<T: Told>(
     alloc: Global,
     classes: &mut Classes,
@@ -62,7 +62,7 @@ fn class_of(alloc: Global, name: &Name, loader: LoaderId) -> Result<Class, Alloc
     })
 }
 
-/// The superclass of a row's class, if it has one.
+/// The superclass of a row's class, if it has one (JVMS SE 8, 5.3.5, step 3).
 fn put_superclass<T: Told>(
     alloc: Global,
     classes: &mut Classes,
@@ -76,7 +76,7 @@ fn put_superclass<T: Told>(
     }
 }
 
-/// A direct superinterface of a row's class, by its place in the file.
+/// A direct superinterface of a row's class, by its place in the file (JVMS SE 8, 5.3.5, step 4).
 fn interface_at<T: Told>(
     alloc: Global,
     row: &ClassRow<T>,
@@ -93,7 +93,7 @@ fn interface_at<T: Told>(
     }
 }
 
-/// The direct superinterfaces of a row's class.
+/// All direct superinterfaces of a row's class (JVMS SE 8, 5.3.5, step 4).
 fn put_interfaces<T: Told>(
     alloc: Global,
     classes: &mut Classes,
@@ -107,8 +107,8 @@ fn put_interfaces<T: Told>(
     Ok(())
 }
 
-/// Finds the direct superinterfaces of a row's class. All its direct supertypes are left to be looked at: the superclass's
-/// superinterfaces count too, but not the superclass.
+/// Looks at a row: the direct superinterfaces of its class are found, and all its direct supertypes are left to be looked at,
+/// the superclass too, whose superinterfaces count while it does not (JVMS SE 8, 5.4.3.3).
 fn look<T: Told>(
     alloc: Global,
     found: &mut Classes,
@@ -124,9 +124,9 @@ fn look<T: Told>(
     put_superclass(alloc, left, row)
 }
 
-/// The classes of all superinterfaces of any of some classes, by their rows among these, each of which stands after its
-/// direct supertypes. They are looked at from the last to the first: when a row is come to, all that has its class as a
-/// direct supertype was looked at before.
+/// The classes of all superinterfaces of any of some classes (JVMS SE 8, 5.4.3.3), by their rows among these, each of which
+/// stands after its direct supertypes. One pass from the last row to the first is enough: each class that has another as a
+/// direct supertype is looked at before that. Time linear in the rows and the supertypes that they name.
 pub(crate) fn superinterface_classes<T: Told>(
     alloc: Global,
     seed: Seed,
@@ -140,6 +140,9 @@ pub(crate) fn superinterface_classes<T: Told>(
         (map (λ r. kin_under (kins (map (λ x. x.value) rows.now)) r.value) some.now)) c) }
 {
     let mut found = IndexSet::with_hasher(alloc, seed);
+    if some.is_empty() {
+        return Ok(found);
+    }
     let mut left = IndexSet::with_hasher(alloc, seed);
     put_all(alloc, &mut left, some)?;
     let mut rest = rows;

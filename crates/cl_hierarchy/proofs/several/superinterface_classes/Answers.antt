@@ -1,8 +1,13 @@
-use Rattle.std.proofs.Common.{◌≡◌, ◌∙◌, arith, length, map, ap, refl}
+use Rattle.std.proofs.Common.{◌≡◌, ◌∙◌, arith, length, map, ap, refl, sym}
+use Rattle.std.proofs.lemmas.Bool.{eqb-true}
 use Rattle.std.proofs.lemmas.List.{nil_from_length}
 use Rattle.cl_hierarchy.specs.Rows.{Rowed}
-use Rattle.cl_hierarchy.proofs.SeveralOver.{by_in, first_pass, on_in, passed}
+use Rattle.cl_hierarchy.proofs.SeveralOver.{by_in, first_pass, none_wanted, on_in, passed}
 use Rattle.cl_hierarchy.proofs.several.superinterface_classes.Goals as goal
+
+pub returns-then-is_empty : goal.returns-then-is_empty
+returns-then-is_empty g c =
+    none_wanted _ c.args.some.now c.with_hasher-found.result.keys (nil_from_length _ (eqb-true _ _ (sym c.is_empty.ensures ∙ c.if-is_empty.true))) c.with_hasher-found.ensures.empty
 
 pub loop-row-init : goal.loop-row-init
 loop-row-init g c =

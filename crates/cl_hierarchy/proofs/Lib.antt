@@ -8,6 +8,7 @@ pub mod Ends
 pub mod Enough
 pub mod Frames
 pub mod Inside
+pub mod Joining
 pub mod Ladders
 pub mod MetAbove
 pub mod Namings
@@ -22,6 +23,7 @@ pub mod RowIndex
 pub mod RowTables
 pub mod Rungs
 pub mod Scans
+pub mod SeveralOver
 pub mod Sharing
 pub mod Spelling
 pub mod Stages

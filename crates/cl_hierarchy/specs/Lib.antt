@@ -16,6 +16,7 @@ pub mod Places
 pub mod RowIndex
 pub mod RowTables
 pub mod Rows
+pub mod Several
 pub mod Spelling
 pub mod Stems
 pub mod Supers

@@ -23,6 +23,7 @@ mod place_tour;
 pub mod row;
 mod row_index;
 mod rung;
+mod several;
 mod shared;
 mod stem;
 mod supers;

@@ -3,6 +3,8 @@
 ghost use Rattle.std.specs.Prelude.{◌≡◌, ℕ, Some, is_some, map, take, true, IfOk, IfSome};
 ghost use Rattle.std.specs.List.{AllByRecursion};
 ghost use Rattle.std.specs.Option.{option_map};
+ghost use Rattle.cl_model.specs.Classes.{is_among};
+ghost use Rattle.cl_model.specs.declared.class.Class.{Class};
 ghost use Rattle.cl_model.specs.Lineages.{alone, first, is_subclass, once, superclasses, superinterfaces};
 ghost use Rattle.cl_hierarchy.specs.Above.{AreOvers};
 ghost use Rattle.cl_hierarchy.specs.ClassesAt.{lined_by, own_at};
@@ -10,6 +12,7 @@ ghost use Rattle.cl_hierarchy.specs.Climbs.{kins_up};
 ghost use Rattle.cl_hierarchy.specs.Fronts.{IsFront, IsOnStem};
 ghost use Rattle.cl_hierarchy.specs.Ladders.{HasRung, IsCut, IsLadder};
 ghost use Rattle.cl_hierarchy.specs.Lineages.{IsLined, IsRowIn, field_order, kin_at, kin_of, others_of, rows_in};
+ghost use Rattle.cl_hierarchy.specs.Several.{superinterfaces_of_any};
 ghost use Rattle.cl_hierarchy.specs.Tours.{stops, told_at};
 ghost use Rattle.cl_hierarchy.specs.Trees.{kin_under, kins};
 
@@ -20,10 +23,13 @@ use crate::ladder::Ladder;
 use crate::over::Overs;
 use crate::row::ClassRow;
 use crate::row_index::RowIndex;
+use crate::several::superinterface_classes;
 use crate::stem::{lineage_rows, stem_end, superinterfaces_behind};
 use crate::tour::{Order, rows_in_order};
 use cl_config::Config;
 use cl_model::{Class, Told};
+use cl_names::Seed;
+use indexmap::IndexSet;
 use std::alloc::{AllocError, Global};
 use std::marker::Model;
 use std::sync::Arc;
@@ -287,25 +293,24 @@ impl<T: Told> Lineage<T> {
         ensures rows { IfOk result (λ v. AllByRecursion (λ r. IsRowIn (rows_in self.now) r.value)
             v.items) }
     {
-        self.superinterfaces_of(alloc, self.own())
-    }
-
-    /// The rows of all superinterfaces of the class of a row of the lineage, each once at its first place (JVMS SE 8, 5.4.3.3).
-    pub fn superinterfaces_of(
-        &self,
-        alloc: Global,
-        row: &Arc<ClassRow<T>>,
-    ) -> Result<Vec<Arc<ClassRow<T>>>, AllocError>
-        requires { IsRowIn (rows_in self.now) row.now.value }
-        ensures superinterfaces { IfOk result (λ v. map (λ r. kin_at self.now r.value) v.items
-            ≡ superinterfaces (kin_at self.now row.now.value)) }
-        ensures rows { IfOk result (λ v. AllByRecursion (λ r. IsRowIn (rows_in self.now) r.value)
-            v.items) }
-    {
-        match stem_end(self.above(), row) {
-            None => self.rows_by_tour(alloc, Order::Superinterfaces, row, false),
+        match stem_end(self.above(), self.own()) {
+            None => self.rows_by_tour(alloc, Order::Superinterfaces, self.own(), false),
             Some((end, before)) => superinterfaces_behind(alloc, self.config().seed(), before, end),
         }
+    }
+
+    /// The classes of all superinterfaces of any of the classes of these rows of the lineage (JVMS SE 8, 5.4.3.3). Time
+    /// linear in the rows of the lineage and the supertypes that they name, for all of them together.
+    pub fn superinterfaces_of_any(
+        &self,
+        alloc: Global,
+        rows: &[Arc<ClassRow<T>>],
+    ) -> Result<IndexSet<Class, Seed>, AllocError>
+        requires { AllByRecursion (λ r. IsRowIn (rows_in self.now) r.value) rows.now }
+        ensures { IfOk result (λ s. (c : Class) → is_among s.keys c
+            ≡ is_among (superinterfaces_of_any (map (λ r. kin_at self.now r.value) rows.now)) c) }
+    {
+        superinterface_classes(alloc, self.config().seed(), self.rows(), rows)
     }
 
     /// The lineage of the class of a row of the lineage, as a tour through all rows tells it (JVMS SE 8, 5.3.5).

@@ -5,5 +5,4 @@ pub mod Keyed
 pub mod Works
 pub mod Located
 pub mod Owners
-pub mod Among
 pub mod Inside

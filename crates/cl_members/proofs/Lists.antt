@@ -1,6 +1,7 @@
 -- Finding and filtering in lists that a function made.
-use Rattle.std.proofs.Common.{◌≡◌, Bool, true, false, ◌||◌, if◌then◌else◌, List, [], ◌∷◌, ◌++◌, map, Option, Some, None, refl, sym, ap, ◌∙◌}
+use Rattle.std.proofs.Common.{◌≡◌, Bool, true, false, if◌then◌else◌, List, [], ◌∷◌, ◌++◌, map, Option, Some, None, refl, sym, ap, ◌∙◌}
 use Rattle.std.specs.Prelude.{find, filter, option_map}
+use Rattle.std.specs.List.{AllByRecursion}
 use Rattle.std.specs.Option.{option_or}
 use Rattle.std.proofs.lemmas.Option.{same_Some}
 
@@ -55,9 +56,14 @@ module _ {A : Type 0} where
   filter_same p q e [] = refl
   filter_same p q e (x ∷ xs) = same_step p q x xs (q x) (e x) refl (filter_same p q e xs)
 
-pub or_of : (a b c : Bool) → (a || b) || c ≡ a || (b || c)
-or_of true b c = refl
-or_of false b c = refl
+  -- what holds of each of a list holds of those that are kept
+  kept_now : (P : A → Type 0) (p : A → Bool) (r : A) (rs : List A) (b : Bool) → p r ≡ b → P r → AllByRecursion P (filter p rs) → AllByRecursion P (if b then r ∷ filter p rs else filter p rs)
+  kept_now P p r rs true e h all = (h, all)
+  kept_now P p r rs false e h all = all
+
+  pub all_kept : (P : A → Type 0) (p : A → Bool) (rs : List A) → AllByRecursion P rs → AllByRecursion P (filter p rs)
+  all_kept P p [] all = tt
+  all_kept P p (r ∷ rs) all = kept_now P p r rs (p r) refl all.0 (all_kept P p rs all.1)
 
 -- ---- what was found passes
 

@@ -10,18 +10,18 @@ use Rattle.cl_model.specs.Lineages.{Kin, classes, superinterfaces, is_maximal, f
 use Rattle.cl_classfile.specs.Files.{Key}
 use Rattle.cl_hierarchy.specs.Rows.{Rowed}
 use Rattle.cl_hierarchy.specs.Lineages.{Lined, kin_at, kin_of}
+use Rattle.cl_hierarchy.specs.Several.{superinterfaces_of_any}
 use Rattle.cl_members.specs.Members.{implements, offers}
 use Rattle.cl_members.proofs.Lists.{filter_map_is, filter_same, map_map, option_map_map}
-use Rattle.cl_members.specs.Lookups.{beneath}
 
-pub beneath_is : (ks : List Kin) (c : Class) → is_among (beneath ks) c ≡ list_any (λ k. is_among (classes (superinterfaces k)) c) ks
-beneath_is [] c = refl
-beneath_is (k ∷ ks) c =
-    list_any-append (same_class c) (classes (superinterfaces k)) (beneath ks) ∙ ap (λ (b : Bool). is_among (classes (superinterfaces k)) c || b) (beneath_is ks c)
+pub any_is : (ks : List Kin) (c : Class) → is_among (superinterfaces_of_any ks) c ≡ list_any (λ k. is_among (classes (superinterfaces k)) c) ks
+any_is [] c = refl
+any_is (k ∷ ks) c =
+    list_any-append (same_class c) (classes (superinterfaces k)) (superinterfaces_of_any ks) ∙ ap (λ (b : Bool). is_among (classes (superinterfaces k)) c || b) (any_is ks c)
 
 -- those whose class stands above none of them are the maximally specific ones
-pub maximal_is : (ks : List Kin) → filter (λ k. not (is_among (beneath ks) k.class)) ks ≡ filter (is_maximal ks) ks
-maximal_is ks = filter_same (λ k. not (is_among (beneath ks) k.class)) (is_maximal ks) (λ k. ap not (beneath_is ks k.class)) ks
+pub maximal_is : (ks : List Kin) → filter (λ k. not (is_among (superinterfaces_of_any ks) k.class)) ks ≡ filter (is_maximal ks) ks
+maximal_is ks = filter_same (λ k. not (is_among (superinterfaces_of_any ks) k.class)) (is_maximal ks) (λ k. ap not (any_is ks k.class)) ks
 
 -- ---- from rows to classes
 
@@ -48,13 +48,13 @@ end_is (Some key) k = refl
 
 module _ {R : Type 0} (f : R → Kin) where
   -- what the code leaves of the rows that offer the method is the maximally specific ones that implement it
-  pub left_is : (key : Option Key) (k : Kin) (rows : List R) (among : Class → Bool) → map f rows ≡ offered key k → ((x : Class) → among x ≡ is_among (beneath (map f rows)) x)
+  pub left_is : (key : Option Key) (k : Kin) (rows : List R) (among : Class → Bool) → map f rows ≡ offered key k → ((x : Class) → among x ≡ is_among (superinterfaces_of_any (map f rows)) x)
       → map f (filter (λ r. implements key (f r).file) (filter (λ r. not (among (f r).class)) rows)) ≡ implemented key (offered key k)
   left_is key k rows among made told =
       filter_map_is f (λ a. implements key a.file) (filter (λ r. not (among (f r).class)) rows)
       ∙ ap (filter (λ a. implements key a.file)) (
       filter_map_is f (λ a. not (among a.class)) rows
-      ∙ filter_same (λ a. not (among a.class)) (λ a. not (is_among (beneath (map f rows)) a.class)) (λ a. ap not (told a.class)) (map f rows)
+      ∙ filter_same (λ a. not (among a.class)) (λ a. not (is_among (superinterfaces_of_any (map f rows)) a.class)) (λ a. ap not (told a.class)) (map f rows)
       ∙ maximal_is (map f rows)
       ∙ ap (λ (ks : List Kin). filter (is_maximal ks) ks) made
       )

@@ -1,16 +1,14 @@
 //! Methods of superinterfaces (JVMS SE 8, 5.4.3.3).
 
-ghost use Rattle.std.specs.Prelude.{◌≡◌, ◌||◌, not, filter, map, option_and_then, IfOk, IfSome, OnOk};
+ghost use Rattle.std.specs.Prelude.{◌≡◌, not, filter, map, option_and_then, IfOk, IfSome};
 ghost use Rattle.std.specs.List.{AllByRecursion};
 ghost use Rattle.std.specs.Option.{option_map, option_or};
 ghost use Rattle.cl_classfile.specs.Files.{file_of, method_key};
 ghost use Rattle.cl_classfile.specs.References.{plain_symbol};
-ghost use Rattle.cl_model.specs.Classes.{is_among, same_class};
+ghost use Rattle.cl_model.specs.Classes.{is_among};
 ghost use Rattle.cl_model.specs.Lineages.{first, from_superinterfaces, only, superinterfaces};
-ghost use Rattle.cl_model.specs.declared.class.Class.{Class};
 ghost use Rattle.cl_hierarchy.specs.Lineages.{IsRowIn, kin_at, kin_of, rows_in};
 ghost use Rattle.cl_members.specs.Members.{offers, implements};
-ghost use Rattle.cl_members.specs.Lookups.{beneath};
 
 use crate::owning::{implements, offers};
 use cl_classfile::Symbol;
@@ -43,48 +41,6 @@ fn keep_apart<T: Told>(rows: &mut Vec<Arc<ClassRow<T>>>, classes: &IndexSet<Clas
         rows.old.items }
 {
     rows.retain(|row| !classes.contains(row.class()));
-}
-
-/// One class more.
-fn put(classes: &mut IndexSet<Class, Seed>, class: Class) -> Result<(), AllocError>
-    ensures { OnOk result ((x : Class) → is_among classes.new.keys x ≡ is_among classes.old.keys x
-        || same_class x class) }
-{
-    classes.insert(class)?;
-    Ok(())
-}
-
-/// The classes of rows likewise.
-fn put_all<T: Told>(
-    alloc: Global,
-    classes: &mut IndexSet<Class, Seed>,
-    rows: &[Arc<ClassRow<T>>],
-) -> Result<(), AllocError>
-    ensures { OnOk result ((x : Class) → is_among classes.new.keys x ≡ is_among classes.old.keys x
-        || is_among (map (λ r. r.value.class) rows.now) x) }
-{
-    for row in rows {
-        put(classes, row.class().try_clone(alloc)?)?;
-    }
-    Ok(())
-}
-
-/// The classes of the superinterfaces of each of these rows.
-fn beneath<T: Told>(
-    alloc: Global,
-    c: &Lineage<T>,
-    rows: &[Arc<ClassRow<T>>],
-) -> Result<IndexSet<Class, Seed>, AllocError>
-    requires { AllByRecursion (λ r. IsRowIn (rows_in c.now) r.value) rows.now }
-    ensures { IfOk result (λ s. (x : Class)
-        → is_among s.keys x ≡ is_among (beneath (map (λ r. kin_at c.now r.value) rows.now)) x) }
-{
-    let mut classes = IndexSet::with_hasher(alloc, c.config().seed());
-    for row in rows {
-        let above = c.superinterfaces_of(alloc, row)?;
-        put_all(alloc, &mut classes, above.as_slice())?;
-    }
-    Ok(classes)
 }
 
 /// The superinterfaces of the class that offer the method, in preorder.
@@ -143,7 +99,7 @@ pub fn interface_owner<T: Told>(
 {
     let mut rows = offering(alloc, c, symbol)?;
     let first = first_of(rows.as_slice())?;
-    let beneath = beneath(alloc, c, rows.as_slice())?;
+    let beneath = c.superinterfaces_of_any(alloc, rows.as_slice())?;
     keep_apart(&mut rows, &beneath);
     keep_implementing(&mut rows, symbol);
     only_or(rows.as_slice(), first)

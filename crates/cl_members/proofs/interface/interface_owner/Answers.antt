@@ -9,10 +9,10 @@ use Rattle.cl_model.specs.Classes.{is_among}
 use Rattle.cl_model.specs.Lineages.{first, only}
 use Rattle.cl_hierarchy.specs.Lineages.{IsRowIn, kin_at, kin_of, rows_in}
 use Rattle.cl_hierarchy.specs.Rows.{Rowed}
+use Rattle.cl_hierarchy.specs.Several.{superinterfaces_of_any}
 use Rattle.cl_members.specs.Members.{implements}
-use Rattle.cl_members.specs.Lookups.{beneath}
-use Rattle.cl_members.proofs.Among.{all_kept}
 use Rattle.cl_members.proofs.Inside.{first_all, only_all}
+use Rattle.cl_members.proofs.Lists.{all_kept}
 use Rattle.cl_members.proofs.Maximal.{finished, left_is}
 use Rattle.cl_members.proofs.interface.interface_owner.Goals as goal
 
@@ -22,7 +22,7 @@ returns-clause-owner g c =
     c.keep_implementing.ensures ∙ ap (filter (λ r. implements (method_key (plain_symbol c.args.symbol)) (file_of r.value.file))) c.keep_apart.ensures
     )
     ∙ left_is (λ r. kin_at c.args.c.now r.value) (method_key (plain_symbol c.args.symbol)) (kin_of c.args.c.now) c.in_ok-rows.rows.items (λ x. is_among c.in_ok-beneath.beneath.keys x) c.in_ok-rows.ensures.kins
-    (λ x. c.in_ok-beneath.ensures x ∙ ap (λ (rs : List _). is_among (beneath (map (λ r. kin_at c.args.c.now r.value) rs)) x) c.as_slice-2.ensures.value) in
+    (λ x. c.in_ok-beneath.ensures x ∙ ap (λ (rs : List _). is_among (superinterfaces_of_any (map (λ r. kin_at c.args.c.now r.value) rs)) x) c.as_slice-2.ensures.value) in
     IfOk-weaker c.only_or.result _ _ (λ o e.
     finished (λ r. r.value) c.args.c.now (method_key (plain_symbol c.args.symbol)) o c.in_ok-first.first c.keep_implementing.new.rows.items c.in_ok-rows.rows.items
     (e ∙ ap (λ (rs : List _). option_or (only (map (λ r. r.value) rs)) (option_map (λ r. r.value) c.in_ok-first.first)) c.as_slice-3.ensures.value)

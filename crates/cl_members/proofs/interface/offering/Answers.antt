@@ -5,8 +5,7 @@ use Rattle.cl_classfile.specs.Files.{file_of, method_key}
 use Rattle.cl_classfile.specs.References.{plain_symbol}
 use Rattle.cl_hierarchy.specs.Lineages.{IsRowIn, kin_at, rows_in}
 use Rattle.cl_members.specs.Members.{offers}
-use Rattle.cl_members.proofs.Among.{all_kept}
-use Rattle.cl_members.proofs.Lists.{filter_map_is}
+use Rattle.cl_members.proofs.Lists.{all_kept, filter_map_is}
 use Rattle.cl_members.proofs.interface.offering.Goals as goal
 
 pub returns-clause-kins : goal.returns-clause-kins

@@ -1,0 +1,157 @@
+//! The superinterfaces of several classes at once (JVMS SE 8, 5.4.3.3).
+
+ghost use Rattle.std.specs.Prelude.{◌≡◌, ◌++◌, ◌∷◌, [], map, option_to_list, slice_get, IfOk, OnOk};
+ghost use Rattle.std.specs.List.{AllByRecursion};
+ghost use Rattle.cl_model.specs.Classes.{class, is_among};
+ghost use Rattle.cl_model.specs.declared.class.Class.{Class};
+ghost use Rattle.cl_hierarchy.specs.Lineages.{IsRowIn};
+ghost use Rattle.cl_hierarchy.specs.Several.{Joins, superinterfaces_of_any};
+ghost use Rattle.cl_hierarchy.specs.Trees.{SupersBefore, interfaces_in, kin_under, kins, superclass_in};
+
+use crate::row::ClassRow;
+use crate::way::superclass_named;
+use cl_model::{Class, LoaderId, Told};
+use cl_names::{Name, Seed};
+use indexmap::IndexSet;
+use std::alloc::{AllocError, Global};
+use std::sync::Arc;
+
+/// Classes, each once.
+pub(crate) type Classes = IndexSet<Class, Seed>;
+
+/// One class more.
+fn put(classes: &mut Classes, class: Class) -> Result<(), AllocError>
+    ensures { OnOk result (Joins classes.old.keys (class ∷ []) classes.new.keys) }
+{
+    classes.insert(class)?;
+    Ok(())
+}
+
+/// The same, if there is one.
+fn put_if(classes: &mut Classes, class: Option<Class>) -> Result<(), AllocError>
+    ensures { OnOk result (Joins classes.old.keys (option_to_list class) classes.new.keys) }
+{
+    match class {
+        None => Ok(()),
+        Some(class) => put(classes, class),
+    }
+}
+
+/// The classes of rows.
+fn put_all<T: Told>(
+    alloc: Global,
+    classes: &mut Classes,
+    rows: &[Arc<ClassRow<T>>],
+) -> Result<(), AllocError>
+    ensures { OnOk result (Joins classes.old.keys (map (λ r. r.value.class) rows.now)
+        classes.new.keys) }
+{
+    for row in rows {
+        put(classes, row.class().try_clone(alloc)?)?;
+    }
+    Ok(())
+}
+
+/// The class of a name that a loader defined.
+fn class_of(alloc: Global, name: &Name, loader: LoaderId) -> Result<Class, AllocError>
+    ensures { IfOk result (λ c. c ≡ class name.now loader) }
+{
+    Ok(Class {
+        name: name.try_clone(alloc)?,
+        loader,
+    })
+}
+
+/// The superclass of a row's class, if it has one (JVMS SE 8, 5.3.5, step 3).
+fn put_superclass<T: Told>(
+    alloc: Global,
+    classes: &mut Classes,
+    row: &ClassRow<T>,
+) -> Result<(), AllocError>
+    ensures { OnOk result (Joins classes.old.keys (superclass_in row.now) classes.new.keys) }
+{
+    match superclass_named(row) {
+        None => Ok(()),
+        Some((name, loader)) => put(classes, class_of(alloc, name, loader)?),
+    }
+}
+
+/// A direct superinterface of a row's class, by its place in the file (JVMS SE 8, 5.3.5, step 4).
+fn interface_at<T: Told>(
+    alloc: Global,
+    row: &ClassRow<T>,
+    place: usize,
+) -> Result<Option<Class>, AllocError>
+    ensures { IfOk result (λ o. o ≡ slice_get (interfaces_in row.now) place) }
+{
+    match row.file().interface_name(place) {
+        None => Ok(None),
+        Some(name) => match row.interface_places().get(place) {
+            None => Ok(None),
+            Some(loader) => Ok(Some(class_of(alloc, name, *loader)?)),
+        },
+    }
+}
+
+/// All direct superinterfaces of a row's class (JVMS SE 8, 5.3.5, step 4).
+fn put_interfaces<T: Told>(
+    alloc: Global,
+    classes: &mut Classes,
+    row: &ClassRow<T>,
+) -> Result<(), AllocError>
+    ensures { OnOk result (Joins classes.old.keys (interfaces_in row.now) classes.new.keys) }
+{
+    for place in 0..row.interface_places().len() {
+        put_if(classes, interface_at(alloc, row, place)?)?;
+    }
+    Ok(())
+}
+
+/// Looks at a row: the direct superinterfaces of its class are found, and all its direct supertypes are left to be looked at,
+/// the superclass too, whose superinterfaces count while it does not (JVMS SE 8, 5.4.3.3).
+fn look<T: Told>(
+    alloc: Global,
+    found: &mut Classes,
+    left: &mut Classes,
+    row: &ClassRow<T>,
+) -> Result<(), AllocError>
+    ensures found { OnOk result (Joins found.old.keys (interfaces_in row.now) found.new.keys) }
+    ensures left { OnOk result (Joins left.old.keys (interfaces_in row.now ++ superclass_in row.now)
+        left.new.keys) }
+{
+    put_interfaces(alloc, found, row)?;
+    put_interfaces(alloc, left, row)?;
+    put_superclass(alloc, left, row)
+}
+
+/// The classes of all superinterfaces of any of some classes (JVMS SE 8, 5.4.3.3), by their rows among these, each of which
+/// stands after its direct supertypes. One pass from the last row to the first is enough: each class that has another as a
+/// direct supertype is looked at before that. Time linear in the rows and the supertypes that they name.
+pub(crate) fn superinterface_classes<T: Told>(
+    alloc: Global,
+    seed: Seed,
+    rows: &[Arc<ClassRow<T>>],
+    some: &[Arc<ClassRow<T>>],
+) -> Result<Classes, AllocError>
+    requires ordered { SupersBefore [] (map (λ r. r.value) rows.now) }
+    requires inside { AllByRecursion (λ r. IsRowIn (map (λ x. x.value) rows.now) r.value) some.now }
+    ensures { IfOk result (λ s. (c : Class) → is_among s.keys c
+        ≡ is_among (superinterfaces_of_any
+        (map (λ r. kin_under (kins (map (λ x. x.value) rows.now)) r.value) some.now)) c) }
+{
+    let mut found = IndexSet::with_hasher(alloc, seed);
+    if some.is_empty() {
+        return Ok(found);
+    }
+    let mut left = IndexSet::with_hasher(alloc, seed);
+    put_all(alloc, &mut left, some)?;
+    let mut rest = rows;
+    while let Some((row, earlier)) = rest.split_last() {
+        rest = earlier;
+        if !left.contains(row.class()) {
+            continue;
+        }
+        look(alloc, &mut found, &mut left, row)?;
+    }
+    Ok(found)
+}

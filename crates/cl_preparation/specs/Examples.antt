@@ -1,6 +1,7 @@
 -- The words of the worked examples: superclasses of one loader (JVMS SE 8, 5.4.2, 5.4.5).
 use Rattle.std.specs.Prelude.{◌≡◌, ◌∷◌, ℕ, Bool, List, []}
 use Rattle.cl_classfile.specs.Files.{File}
+use Rattle.cl_classfile.specs.Flags.{public}
 use Rattle.cl_model.specs.Examples.{in_app, interface, plain, taking_t, with_methods}
 use Rattle.cl_model.specs.Lineages.{Bare, Kin}
 use Rattle.cl_preparation.specs.Spared.{is_met_above}
@@ -15,7 +16,7 @@ with_m flags = of_file (with_methods ((flags, taking_t "m") ∷ []) (plain "p/A"
 
 -- an interface that declares m
 abbrev pub with_m_over : Kin
-with_m_over = of_file (with_methods ((abstract, taking_t "m") ∷ []) (interface "p/A"))
+with_m_over = of_file (with_methods ((public, taking_t "m") ∷ []) (interface "p/A"))
 
 -- one that declares nothing, and an interface that declares nothing
 abbrev pub with_none : Kin

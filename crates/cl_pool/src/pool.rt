@@ -9,13 +9,17 @@ use crate::draws::{Draws, Seat};
 use crate::gate::Gate;
 use cl_config::{Config, Script};
 use cl_findings::Finding;
+use cl_hierarchy::Equalities;
 use cl_model::{Request, Told};
-use cl_schedule::{ask_registry, ask_source};
+use cl_schedule::{ask_registry, ask_source, impose_ahead};
 use cl_source::Source;
 use cl_tasks::{Reply, Task, Turn};
 use std::alloc::Global;
 use std::sync::{Arc, Condvar, Mutex, MutexGuard, Wait};
 use std::thread::{Scope, Threads};
+
+/// So many equalities of a list are imposed at most in one holding of the lock, behind the first: some milliseconds.
+const MOST_AHEAD: usize = 1000;
 
 /// What the workers share.
 #[derive(Drop)]
@@ -126,12 +130,19 @@ impl<T: Told> Pool<T> {
     ) -> Option<Finding<T>> {
         let q = task.q();
         let mut reply = Reply::Start;
+        let mut ahead = 0;
         while task.expects(&reply) {
             match task.turn(alloc, reply) {
                 Turn::Post(finding) => return Some(finding),
                 Turn::Read(loader, name) => {
                     gate.before_read(q, loader, &name);
                     reply = ask_source(alloc, source, loader, &name);
+                }
+                Turn::Impose(list, place) => {
+                    match self.impose(rt, alloc, gate, q, list, place, &mut ahead) {
+                        Some(told) => reply = told,
+                        None => return None,
+                    }
                 }
                 call => match self.call(rt, alloc, gate, q, call) {
                     Some(told) => reply = told,
@@ -158,6 +169,34 @@ impl<T: Told> Pool<T> {
         desk.take(q, round)
     }
 
+    /// Imposes the equality at a place of a task's list, under the lock, and with it those behind it, at most so many, which the task
+    /// will ask for next. `ahead` is before which place of the list all are known to stand: what is asked of these is answered without
+    /// the lock. None, where the workers are to stop (JVMS SE 8, 5.3.4).
+    fn impose<G: Gate, R: Wait>(
+        &self,
+        rt: &R,
+        alloc: Global,
+        gate: &G,
+        q: u32,
+        list: Arc<Equalities<T>>,
+        place: usize,
+        ahead: &mut usize,
+    ) -> Option<Reply<T>> {
+        // (at 0 a list begins, of which nothing is known yet)
+        if place == 0 || *ahead <= place {
+            let Some(mut desk) = self.enter(rt, gate, q) else {
+                drop(list);
+                return None;
+            };
+            *ahead = impose_ahead(alloc, &mut desk.registry, &list, place, MOST_AHEAD);
+            if *ahead <= place {
+                return self.ask(alloc, &mut desk, Turn::Impose(list, place));
+            }
+        }
+        drop(list);
+        Some(Reply::Imposed)
+    }
+
     /// Makes the call that a task asks for, under the lock. None, where the workers are to stop.
     fn call<G: Gate, R: Wait>(
         &self,
@@ -174,6 +213,13 @@ impl<T: Told> Pool<T> {
             drop(call);
             return None;
         };
+        self.ask(alloc, &mut desk, call)
+    }
+
+    /// Makes the call that a task asks for, of what stands behind the lock. None, where the workers are to stop.
+    fn ask(&self, alloc: Global, desk: &mut Desk<T>, call: Turn<T>) -> Option<Reply<T>>
+        requires { IsOfTables call }
+    {
         let told = ask_registry(alloc, &mut desk.registry, call);
         if told.is_none() {
             desk.stopped = true;

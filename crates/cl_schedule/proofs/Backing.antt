@@ -81,7 +81,7 @@ enter_later told old new d kept h may = record {
 
 -- ---- what a list was made from, and what is met
 
-all_met_later : (old new : Shown) (ns : List Need) → GoesOn old new → AllMet (state_of old) ns → AllMet (state_of new) ns
+pub all_met_later : (old new : Shown) (ns : List Need) → GoesOn old new → AllMet (state_of old) ns → AllMet (state_of new) ns
 all_met_later old new [] h all = tt
 all_met_later old new (n ∷ ns) h all = (met_goes old new n h all.0, all_met_later old new ns h all.1)
 
@@ -104,7 +104,7 @@ holds_later : (old new : Shown) (l : Lined) (given : Given) → GoesOn old new �
 holds_later old new l givens.Nothing h is = tt
 holds_later old new l givens.Superclass h is = above_prepared_later old new l.own.class (superclass_of (file_of l.own.file)) h is
 
-stands_for_later : (old new : Shown) (o : Sprung) → GoesOn old new → StandsFor old o → StandsFor new o
+pub stands_for_later : (old new : Shown) (o : Sprung) → GoesOn old new → StandsFor old o → StandsFor new o
 stands_for_later old new (OfReference d c index) h stands = (
   standing_later old new d h stands.0,
   record {

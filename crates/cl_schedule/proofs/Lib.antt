@@ -1,3 +1,4 @@
+pub mod Ahead
 pub mod Histories
 pub mod Serving
 pub mod States

@@ -1,3 +1,4 @@
+pub mod Ahead
 pub mod Blames
 pub mod Serving
 pub mod Rounds

@@ -1,0 +1,62 @@
+//! Equalities of a list that are imposed one after another, with nothing between (JVMS SE 8, 5.3.4).
+
+ghost use Rattle.std.specs.Prelude.{◌<◌, ◌≤◌, ◌+◌};
+ghost use Rattle.cl_registry.specs.Tables.{IsKept};
+ghost use Rattle.cl_schedule.specs.Ahead.{AreImposed, StandsBefore};
+
+use cl_hierarchy::Equalities;
+use cl_model::Told;
+use cl_registry::Registry;
+use std::alloc::Global;
+
+/// Imposes the equalities of a list from a place on, before which all stand, at most so many, up to the first that is refused.
+/// Answers before which place all stand then.
+fn impose_behind<T: Told>(
+    alloc: Global,
+    registry: &mut Registry<T>,
+    list: &Equalities<T>,
+    place: usize,
+    most: usize,
+) -> usize
+    requires { StandsBefore registry.old list.now place }
+    ensures imposed { AreImposed registry.old registry.new list.now place result }
+    ensures standing { StandsBefore registry.new list.now result }
+    ensures within { place ≤ result }
+    ensures most { result ≤ place + most }
+    ensures kept { IsKept T.told registry.new }
+{
+    let end = place.saturating_add(most).min(list.needs().len());
+    let mut next = place;
+    while next < end {
+        match registry.impose_allowed(alloc, list, next) {
+            Ok(()) => next += 1,
+            Err(_) => return next,
+        }
+    }
+    next
+}
+
+/// Imposes the equality at a place of a list, if that may be done, and then those behind it, at most so many, one after another up
+/// to the first that is refused (JVMS SE 8, 5.3.4). Answers before which place of the list all stand then; where it is the place
+/// itself, nothing was imposed.
+///
+/// What stands before the first is looked at, and not again for those behind it: nothing else is done between. So who has a registry to
+/// himself for many equalities of a list at once takes time in its length, and not in its square.
+pub fn impose_ahead<T: Told>(
+    alloc: Global,
+    registry: &mut Registry<T>,
+    list: &Equalities<T>,
+    place: usize,
+    most: usize,
+) -> usize
+    ensures imposed { AreImposed registry.old registry.new list.now place result }
+    ensures standing { place < result → StandsBefore registry.new list.now result }
+    ensures within { place ≤ result }
+    ensures most { result ≤ place + 1 + most }
+    ensures kept { IsKept T.told registry.new }
+{
+    match registry.impose(alloc, list, place) {
+        Ok(()) => impose_behind(alloc, registry, list, place + 1, most),
+        Err(_) => place,
+    }
+}

@@ -27,6 +27,7 @@
   stacked       2,000 interfaces over one another, each with one method, which is resolved through a class that names the last
   heads         a class that names 2,000 interfaces with one method, each over one that has none; the method is resolved
   pairs         a class in each of 64 loaders, over one another, with the same methods, which name 200 classes; the last is linked
+  differing     a class over one of another loader, with the same methods, whose descriptors name 10,000 classes; it is linked
   scanned       600 classes of app over one another, each with ten methods that the last of 1,500 superinterfaces of boot has
   described     a class of app over one of boot, each with 7,500 methods of 75 descriptors of 254 parameters of class type, as @hex
   stretched     the same two, each with 8,000 methods that share one descriptor, of one class with a name of 65,000 bytes
@@ -49,7 +50,7 @@
   blocks        2,000 classes over one another, in blocks of 63 loaders, each with the same method; the last is linked
 
 and of overriding, plain, topped, distinct, many, inherited, naming, interfaces, beside, comb, fringe, twos, combs, blocks, repeated,
-halves, crowned, paired, against, inherits, renamed, hiding, turning, slotted, broad, veiled, draped, lone, uneven, dense, stacked, heads, pairs, scanned, offered, crossed and fans one more with so many classes that it has about a megabyte, as plain_mb.
+halves, crowned, paired, against, inherits, renamed, hiding, turning, slotted, broad, veiled, draped, lone, uneven, dense, stacked, heads, pairs, differing, scanned, offered, crossed and fans one more with so many classes that it has about a megabyte, as plain_mb.
 
 Each is a bundle: classlink bundle < FILE.
 """
@@ -311,6 +312,15 @@ def pairs(path, count=200):
     bundle(path, config, classes, [f"link {loaders[-1]} {above}\n"])
 
 
+def differing(path, count=10000):
+    """A class over one of another loader with the same methods, whose descriptors name so many different classes."""
+    letters = "abcdefghijklmnopqrstuvwxyzABCDEFGHIJKLMNOPQRSTUVWXYZ0123456789"
+    names = [one + two + three for one in letters for two in letters for three in letters][:count]
+    methods = [f"method 0001 m{n} ({''.join(f'L{name};' for name in names[n : n + 250])})V" for n in range(0, count, 250)]
+    classes = [TOP, with_lines(section("boot", "C0"), methods), with_lines(section("app", "C1", "C0"), methods)]
+    bundle(path, TWO, classes, ["link app C1\n"])
+
+
 def scanned(path, count=600):
     own = [f"method 0001 m{n} ()V" for n in range(10)]
     over = [f"p/I{n}" for n in range(5 * count // 2)]
@@ -493,12 +503,12 @@ def blocks(path, count=2000):
 def main(folder):
     os.makedirs(folder, exist_ok=True)
     references = methods, settled, constraints, refused, described, stretched
-    chains = overriding, repeated, halves, crowned, paired, against, inherits, renamed, hiding, turning, slotted, broad, veiled, draped, lone, uneven, dense, stacked, heads, pairs, scanned, offered, crossed, fans, plain, topped, wide, distinct, many, inherited, naming, interfaces, beside, comb, fringe, twos, combs, blocks
+    chains = overriding, repeated, halves, crowned, paired, against, inherits, renamed, hiding, turning, slotted, broad, veiled, draped, lone, uneven, dense, stacked, heads, pairs, differing, scanned, offered, crossed, fans, plain, topped, wide, distinct, many, inherited, naming, interfaces, beside, comb, fringe, twos, combs, blocks
     for make in *references, ladder, links, *chains:
         make(f"{folder}/{make.__name__}")
     counts = {overriding: 15000, plain: 22000, topped: 22000, distinct: 15000, many: 1000, inherited: 14000, naming: 17000}
     for make, count in {**counts, interfaces: 14000, beside: 7000, comb: 6500, fringe: 6500, twos: 11000, combs: 5000, blocks: 14000, repeated: 7500, halves: 7000,
-        crowned: 7000, paired: 7000, against: 12000, inherits: 7000, renamed: 7000, hiding: 7000, turning: 7000, slotted: 7000, broad: 6000, veiled: 6000, draped: 4500, lone: 14000, uneven: 125, dense: 7000, stacked: 8000, heads: 7000, pairs: 3800, scanned: 2300, offered: 10000, crossed: 11000, fans: 6700}.items():
+        crowned: 7000, paired: 7000, against: 12000, inherits: 7000, renamed: 7000, hiding: 7000, turning: 7000, slotted: 7000, broad: 6000, veiled: 6000, draped: 4500, lone: 14000, uneven: 125, dense: 7000, stacked: 8000, heads: 7000, pairs: 3800, differing: 90000, scanned: 2300, offered: 10000, crossed: 11000, fans: 6700}.items():
         make(f"{folder}/{make.__name__}_mb", count)
 
 

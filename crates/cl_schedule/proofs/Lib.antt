@@ -1,4 +1,4 @@
-pub mod Ahead
+pub mod Onward
 pub mod Histories
 pub mod Serving
 pub mod States

@@ -1,6 +1,6 @@
 //! Equalities of a list that are imposed one after another, with nothing between (JVMS SE 8, 5.3.4).
 
-ghost use Rattle.std.specs.Prelude.{◌<◌, ◌≤◌, ◌+◌};
+ghost use Rattle.std.specs.Prelude.{◌<◌, ◌≤◌, ◌+◌, length};
 ghost use Rattle.cl_registry.specs.Tables.{IsKept};
 ghost use Rattle.cl_schedule.specs.Ahead.{AreImposed, StandsBefore};
 
@@ -9,23 +9,23 @@ use cl_model::Told;
 use cl_registry::Registry;
 use std::alloc::Global;
 
-/// Imposes the equalities of a list from a place on, before which all stand, at most so many, up to the first that is refused.
+/// Imposes the equalities of a list from a place on, before which all stand, up to another place or to the first that is refused.
 /// Answers before which place all stand then.
-fn impose_behind<T: Told>(
+fn impose_up_to<T: Told>(
     alloc: Global,
     registry: &mut Registry<T>,
     list: &Equalities<T>,
     place: usize,
-    most: usize,
+    end: usize,
 ) -> usize
-    requires { StandsBefore registry.old list.now place }
+    requires stands { StandsBefore registry.old list.now place }
+    requires within { (place ≤ end) × (end ≤ length list.now.needs) }
+    requires kept { IsKept T.told registry.old }
     ensures imposed { AreImposed registry.old registry.new list.now place result }
     ensures standing { StandsBefore registry.new list.now result }
-    ensures within { place ≤ result }
-    ensures most { result ≤ place + most }
+    ensures within { (place ≤ result) × (result ≤ end) }
     ensures kept { IsKept T.told registry.new }
 {
-    let end = place.saturating_add(most).min(list.needs().len());
     let mut next = place;
     while next < end {
         match registry.impose_allowed(alloc, list, next) {
@@ -55,8 +55,13 @@ pub fn impose_ahead<T: Told>(
     ensures most { result ≤ place + 1 + most }
     ensures kept { IsKept T.told registry.new }
 {
+    let count = list.needs().len();
     match registry.impose(alloc, list, place) {
-        Ok(()) => impose_behind(alloc, registry, list, place + 1, most),
+        Ok(()) => {
+            let next = place + 1;
+            let end = next.saturating_add(most).min(count);
+            impose_up_to(alloc, registry, list, next, end)
+        }
         Err(_) => place,
     }
 }

@@ -2,7 +2,7 @@
 use Rattle.std.proofs.Common.{◌≡◌, ◌∙◌, ◌+◌, ◌<◌, ◌≤◌, ℕ, zero, suc, arith, Bool, true, false, ◌||◌, cond, List, [], ◌∷◌, ◌++◌, Option, get_or, length, map, take, refl, sym, ap, subst}
 use Rattle.std.specs.Prelude.{option_to_list, slice_get}
 use Rattle.std.proofs.lemmas.Grind.{take_at_read}
-use Rattle.std.proofs.lemmas.List.{map_push}
+use Rattle.std.proofs.lemmas.List.{map_push, take_all}
 use Rattle.cl_model.specs.declared.class.Class.{Class}
 use Rattle.cl_model.specs.Classes.{Above, is_among, same_class}
 use Rattle.cl_hierarchy.specs.Frames.{accepted_of}
@@ -20,7 +20,7 @@ cond_or false false = refl
 pub joins_one : (old new : List Class) (c : Class) → ((x : Class) → is_among new x ≡ cond (same_class c x) true (is_among old x)) → Joins old (c ∷ []) new
 joins_one old new c told x = told x ∙ ap (λ (b : Bool). cond b true (is_among old x)) (same_turned c x) ∙ cond_or (is_among old x) (same_class x c)
 
-none_more : (b : Bool) → b ≡ (b || false)
+pub none_more : (b : Bool) → b ≡ (b || false)
 none_more true = refl
 none_more false = refl
 
@@ -28,15 +28,15 @@ none_more false = refl
 pub joins_none : (cs : List Class) → Joins cs [] cs
 joins_none cs x = none_more (is_among cs x)
 
-or_left_first : (a b c : Bool) → ((a || b) || c) ≡ (a || (b || c))
-or_left_first true b c = refl
-or_left_first false b c = refl
+pub or_assoc : (a b c : Bool) → ((a || b) || c) ≡ (a || (b || c))
+or_assoc true b c = refl
+or_assoc false b c = refl
 
 -- some and then others
 pub joins_both : (first some middle others last : List Class) → Joins first some middle → Joins middle others last → Joins first (some ++ others) last
 joins_both first some middle others last f g x =
     g x ∙ ap (λ (b : Bool). b || is_among others x) (f x)
-    ∙ or_left_first (is_among first x) (is_among some x) (is_among others x)
+    ∙ or_assoc (is_among first x) (is_among some x) (is_among others x)
     ∙ ap (λ (b : Bool). is_among first x || b) (sym (among_both some others x))
 
 -- the class of one row more
@@ -46,12 +46,6 @@ joins_row {A} f rs i r first middle last c less is same before one =
     let more : map f (take i rs) ++ c ∷ [] ≡ map f (take (i + 1) rs) =
     ap (λ (d : Class). map f (take i rs) ++ d ∷ []) same ∙ sym (map_push f (take i rs) r) ∙ ap (λ (x : A). map f (take i rs ++ x ∷ [])) is ∙ ap (λ (xs : List A). map f xs) (sym ((take_at_read rs i r less).1)) in
     subst (λ (cs : List Class). Joins first cs last) more (joins_both first (map f (take i rs)) middle (c ∷ []) last before one)
-
-pub take_all : {A : Type 0} (xs : List A) (n : ℕ) → length xs ≤ n → take n xs ≡ xs
-take_all [] zero le = refl
-take_all [] (suc n) le = refl
-take_all (x ∷ xs) zero le = absurd (omega (arith, le))
-take_all {A} (x ∷ xs) (suc n) le = ap (λ (ys : List A). x ∷ ys) (take_all xs n (omega (arith, le)))
 
 -- one more of those at places, if one stands there
 take_if : {A : Type 0} (xs : List A) (i : ℕ) → take (suc i) xs ≡ take i xs ++ option_to_list (slice_get xs i)
@@ -70,7 +64,7 @@ joins_next cs i o first middle last at before one =
 
 -- all of them
 pub joins_all : (cs : List Class) (i : ℕ) (first last : List Class) → length cs ≤ i → Joins first (take i cs) last → Joins first cs last
-joins_all cs i first last le h = subst (λ (ds : List Class). Joins first ds last) (take_all cs i le) h
+joins_all cs i first last le h = subst (λ (ds : List Class). Joins first ds last) (take_all i cs le) h
 
 -- no more were accepted than there are places
 pub accepted_few : (names : List Above) (places : List ℕ) → length (accepted_of names places) ≤ length places

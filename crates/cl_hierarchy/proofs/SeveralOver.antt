@@ -1,5 +1,5 @@
 -- The superinterfaces of several classes, by one pass through rows, from the last to the first.
-use Rattle.std.proofs.Common.{◌≡◌, ◌∙◌, Bool, true, false, ◌&&◌, ◌||◌, if◌then◌else◌, List, [], ◌∷◌, ◌++◌, Option, Some, None, is_some, map, refl, sym, ap, subst}
+use Rattle.std.proofs.Common.{◌≡◌, ◌∙◌, Bool, true, false, ◌&&◌, ◌||◌, if◌then◌else◌, List, [], ◌∷◌, ◌++◌, append-nil, append_assoc, Option, Some, None, is_some, map, refl, sym, ap, subst}
 use Rattle.std.specs.List.{AllByRecursion, list_any}
 use Rattle.std.proofs.lemmas.List.{map_push}
 use Rattle.std.proofs.lemmas.List.Folds.{list_any-append}
@@ -13,6 +13,8 @@ use Rattle.cl_hierarchy.specs.Several.{Joins, superinterfaces_of_any}
 use Rattle.cl_hierarchy.specs.Trees.{AllKnown, SupersBefore, forest, in_front, interfaces_in, kin_named, kin_under, kins, superclass_in}
 use Rattle.cl_hierarchy.proofs.Ancestry.{kins_push, row_kin, same_turned}
 use Rattle.cl_hierarchy.proofs.Climbs.{before_split, placed_row}
+use Rattle.cl_hierarchy.proofs.Joining.{none_more, or_assoc}
+use Rattle.cl_hierarchy.proofs.Told.{kin_is}
 use Rattle.cl_hierarchy.proofs.Tours.{among_both, classes_both}
 
 -- ---- of some classes those that are among others, and what one of them passes
@@ -114,18 +116,6 @@ over_is k c =
     ∙ ap (λ (cs : List Class). is_among cs c) (classes_both (preorder k.interfaces true) (preorder k.superclass false))
     ∙ among_both (classes (preorder k.interfaces true)) (classes (preorder k.superclass false)) c
 
-named_class : (known : List Kin) (d : Class) (k : Kin) → kin_named known d ≡ Some k → d ≡ k.class
-named_class [] d k e = absurd cc
-named_class (x ∷ known) d k e = at (λ f. named_class known d k f) (same_class d x.class) refl e
-  where
-    at : (kin_named known d ≡ Some k → d ≡ k.class) → (b : Bool) → same_class d x.class ≡ b → (if b then Some x else kin_named known d) ≡ Some k → d ≡ k.class
-    at further true s f = let same : x ≡ k = cc in is_class d x.class s ∙ ap (λ (y : Kin). y.class) same
-    at further false s f = further f
-
-or_assoc : (a b c : Bool) → (a || (b || c)) ≡ ((a || b) || c)
-or_assoc true b c = refl
-or_assoc false b c = refl
-
 -- a class that comes in front of others
 in_front_of : (k : Kin) (others : Forest) (wanted : Bool) (c : Class)
     → is_among (classes (preorder (in_front (Some k) others) wanted)) c ≡ ((wanted && same_class c k.class) || (is_among (classes (superinterfaces k)) c || is_among (classes (preorder others wanted)) c))
@@ -160,7 +150,7 @@ brought known (d ∷ ds) wanted c all = at (brought known ds wanted c all.1) (ki
     at more (Some k) e s =
         ap (λ (o : Option Kin). is_among (classes (preorder (in_front o (forest known ds)) wanted)) c) e
         ∙ in_front_of k (forest known ds) wanted c
-        ∙ ap (λ (x : Class). (wanted && same_class c x) || (is_among (classes (superinterfaces k)) c || is_among (classes (preorder (forest known ds) wanted)) c)) (sym (named_class known d k e))
+        ∙ ap (λ (x : Class). (wanted && same_class c x) || (is_among (classes (superinterfaces k)) c || is_among (classes (preorder (forest known ds) wanted)) c)) (kin_is known d k e).same
         ∙ ap (λ (b : Bool). (wanted && same_class c d) || (is_among (classes (superinterfaces k)) c || b)) more
         ∙ gathered wanted (same_class c d) (is_among ds c) (is_among (classes (superinterfaces k)) c) (list_any (over known c) ds)
         ∙ ap (λ (o : Option Kin). (wanted && (same_class c d || is_among ds c)) || (over_kin o c || list_any (over known c) ds)) (sym e)
@@ -174,7 +164,7 @@ over_row rows r c ordered i =
     ∙ over_is (kin_under (kins rows) r) c
     ∙ ap (λ (b : Bool). b || is_among (classes (preorder (forest (kins rows) (superclass_in r)) false)) c) (brought (kins rows) (interfaces_in r) true c k.interfaces)
     ∙ ap (λ (b : Bool). (is_among (interfaces_in r) c || list_any (over (kins rows) c) (interfaces_in r)) || b) (brought (kins rows) (superclass_in r) false c k.superclass)
-    ∙ sym (or_assoc (is_among (interfaces_in r) c) (list_any (over (kins rows) c) (interfaces_in r)) (list_any (over (kins rows) c) (superclass_in r)))
+    ∙ or_assoc (is_among (interfaces_in r) c) (list_any (over (kins rows) c) (interfaces_in r)) (list_any (over (kins rows) c) (superclass_in r))
     ∙ ap (λ (b : Bool). is_among (interfaces_in r) c || b) (sym (list_any-append (over (kins rows) c) (interfaces_in r) (superclass_in r)))
 
 -- those of any of the classes of rows
@@ -222,22 +212,17 @@ pub record IsPassed (rows : List Rowed) (goal : Class → Bool) (front : List Ro
 
 -- at first all rows are
 pub first_pass : {A : Type 0} (v : A → Rowed) (rows : List Rowed) (xs : List A) (none found left : List Class) → SupersBefore [] rows → AllByRecursion (λ x. IsRowIn rows (v x)) xs → none ≡ [] → found ≡ [] → Joins none (map (λ x. (v x).class) xs) left
-    → (front : List Rowed) → front ≡ rows → IsPassed rows (λ c. is_among (superinterfaces_of_any (map (λ x. kin_under (kins rows) (v x)) xs)) c) front found left
-first_pass v rows xs none found left ordered all empty nothing joined front same = record {
+    → IsPassed rows (λ c. is_among (superinterfaces_of_any (map (λ x. kin_under (kins rows) (v x)) xs)) c) rows found left
+first_pass v rows xs none found left ordered all empty nothing joined = record {
   later = [];
-  split = sym (ap (λ (rs : List Rowed). rs ++ []) same ∙ end_of rows);
+  split = sym (append-nil rows);
   told = λ c.
       over_any v rows xs c ordered all
       ∙ sym (any_in (over (kins rows) c) (map (λ x. (v x).class) xs) (classes (kins rows)) (rows_in v rows xs ordered all))
       ∙ ap (λ (b : Bool). b || any_of (over (kins rows) c) (map (λ x. (v x).class) xs) (classes (kins rows))) (sym (any_none (over (kins rows) c) (classes (kins rows))))
       ∙ sym (any_joined (over (kins rows) c) [] (map (λ x. (v x).class) xs) left (classes (kins rows)) (subst (λ (cs : List Class). Joins cs (map (λ x. (v x).class) xs) left) empty joined))
-      ∙ ap (λ (cs : List Class). is_among cs c || any_of (over (kins rows) c) left (classes (kins rows))) (sym nothing)
-      ∙ ap (λ (rs : List Rowed). is_among found c || any_of (over (kins rows) c) left (classes (kins rs))) (sym same);
+      ∙ ap (λ (cs : List Class). is_among cs c || any_of (over (kins rows) c) left (classes (kins rows))) (sym nothing);
 }
-  where
-    end_of : (rs : List Rowed) → rs ++ [] ≡ rs
-    end_of [] = refl
-    end_of (r ∷ rs) = ap (λ (x : List Rowed). r ∷ x) (end_of rs)
 
 moved : (f i n a : Bool) → (f || ((i || n) || a)) ≡ ((f || i) || (a || n))
 moved true i n a = refl
@@ -249,11 +234,7 @@ moved false false false false = refl
 
 module _ (rows : List Rowed) (goal : Class → Bool) (front : List Rowed) (r : Rowed) (found left : List Class) (ordered : SupersBefore [] rows) (h : IsPassed rows goal (front ++ r ∷ []) found left) where
   split_at : rows ≡ front ++ r ∷ h.later
-  split_at = h.split ∙ pushed front
-    where
-      pushed : (rs : List Rowed) → (rs ++ r ∷ []) ++ h.later ≡ rs ++ r ∷ h.later
-      pushed [] = refl
-      pushed (x ∷ rs) = ap (λ (ys : List Rowed). x ∷ ys) (pushed rs)
+  split_at = h.split ∙ append_assoc front (r ∷ []) h.later
 
   told_at : (c : Class) (b : Bool) → is_among left r.class ≡ b
       → goal c ≡ (is_among found c || ((b && over (kins rows) c r.class) || any_of (over (kins rows) c) left (classes (kins front))))
@@ -310,11 +291,7 @@ module _ {A : Type 0} (v : A → Rowed) (rows : List Rowed) (goal : Class → Bo
 pub none_wanted : {A : Type 0} (kin : A → Kin) (xs : List A) (found : List Class) → xs ≡ [] → found ≡ [] → (c : Class) → is_among found c ≡ is_among (superinterfaces_of_any (map kin xs)) c
 none_wanted {A} kin xs found none empty c = ap (λ (cs : List Class). is_among cs c) empty ∙ ap (λ (ys : List A). is_among (superinterfaces_of_any (map kin ys)) c) (sym none)
 
-last_false : (b : Bool) → (b || false) ≡ b
-last_false true = refl
-last_false false = refl
-
 -- at last none is
 pub passed : (rows : List Rowed) (goal : Class → Bool) (front : List Rowed) (found left : List Class) → front ≡ [] → IsPassed rows goal front found left → (c : Class) → is_among found c ≡ goal c
 passed rows goal front found left none h c =
-    sym (h.told c ∙ ap (λ (rs : List Rowed). is_among found c || any_of (over (kins rows) c) left (classes (kins rs))) none ∙ last_false (is_among found c))
+    sym (h.told c ∙ ap (λ (rs : List Rowed). is_among found c || any_of (over (kins rows) c) left (classes (kins rs))) none ∙ sym (none_more (is_among found c)))

@@ -109,6 +109,7 @@ fn put_interfaces<T: Told>(
 
 /// Looks at a row: the direct superinterfaces of its class are found, and all its direct supertypes are left to be looked at,
 /// the superclass too, whose superinterfaces count while it does not (JVMS SE 8, 5.4.3.3).
+#[tactic(auto, using(crate::proofs::Joining::joins_both))]
 fn look<T: Told>(
     alloc: Global,
     found: &mut Classes,

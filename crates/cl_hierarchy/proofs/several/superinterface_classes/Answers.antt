@@ -1,4 +1,4 @@
-use Rattle.std.proofs.Common.{◌≡◌, ◌∙◌, arith, length, map, ap, refl, sym}
+use Rattle.std.proofs.Common.{◌≡◌, ◌∙◌, arith, length, map, ap, sym}
 use Rattle.std.proofs.lemmas.Bool.{eqb-true}
 use Rattle.std.proofs.lemmas.List.{nil_from_length}
 use Rattle.cl_hierarchy.specs.Rows.{Rowed}
@@ -12,7 +12,7 @@ returns-then-is_empty g c =
 pub loop-row-init : goal.loop-row-init
 loop-row-init g c =
     first_pass (λ r. r.value) (map (λ r. r.value) c.args.rows.now) c.args.some.now c.with_hasher-left.result.keys c.with_hasher-found.result.keys c.put_all.new.classes.keys c.requires.ordered c.requires.inside c.with_hasher-left.ensures.empty
-    c.with_hasher-found.ensures.empty c.in_ok-put_all.ensures (map (λ r. r.value) c.args.rows.now) refl
+    c.with_hasher-found.ensures.empty c.in_ok-put_all.ensures
 
 pub loop-row-preserved-then-not-contains : goal.loop-row-preserved-then-not-contains
 loop-row-preserved-then-not-contains g c =

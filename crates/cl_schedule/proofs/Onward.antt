@@ -1,5 +1,5 @@
 -- Equalities that are imposed one after another: each next one may be.
-use Rattle.std.proofs.Common.{◌≡◌, ◌+◌, ◌<◌, ◌≤◌, ℕ, zero, suc, arith, List, [], ◌∷◌, length, refl, subst, sym, take}
+use Rattle.std.proofs.Common.{◌≡◌, ◌+◌, ◌<◌, ℕ, zero, suc, arith, List, [], ◌∷◌, length, refl, subst, sym, take}
 use Rattle.std.specs.Prelude.{IfSome, slice_get}
 use Rattle.cl_hierarchy.specs.Imposed.{Listed, equal_need, needs_of}
 use Rattle.cl_model.specs.declared.need.Equality.{Equality}

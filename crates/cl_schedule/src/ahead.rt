@@ -57,11 +57,10 @@ pub fn impose_ahead<T: Told>(
 {
     let count = list.needs().len();
     match registry.impose(alloc, list, place) {
-        Ok(()) => {
-            let next = place + 1;
-            let end = next.saturating_add(most).min(count);
-            impose_up_to(alloc, registry, list, next, end)
-        }
-        Err(_) => place,
+        Ok(()) => {}
+        Err(_) => return place,
     }
+    let next = place + 1;
+    let end = next.saturating_add(most).min(count);
+    impose_up_to(alloc, registry, list, next, end)
 }

@@ -1,4 +1,4 @@
-use Rattle.std.proofs.Common.{◌+◌, ◌<◌, ◌≤◌, arith, length, subst, sym}
+use Rattle.std.proofs.Common.{◌<◌, arith, length, subst, sym}
 use Rattle.cl_registry.specs.Tables.{Shown}
 use Rattle.cl_schedule.specs.Ahead.{StandsBefore}
 use Rattle.cl_schedule.proofs.Onward.{imposed_next, may_next, none_imposed, one_more}
@@ -22,7 +22,7 @@ loop-next-preserved g c =
     let less : next < length l.needs = omega (arith, test, end) in
     let may = may_next mid l next h.1 less in
     let says = c.in-Ok.ensures.says in
-    let from = h.2.0.0 in
+    let from = h.2.0 in
     (one_more old mid new l c.args.place next h.0 may says.imposed, imposed_next mid new l next may says.imposed says.met, (omega (arith, from), omega (arith, test)), says.kept)
 
 pub returns-in-Err-clause-standing : goal.returns-in-Err-clause-standing

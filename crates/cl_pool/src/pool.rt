@@ -18,7 +18,7 @@ use std::alloc::Global;
 use std::sync::{Arc, Condvar, Mutex, MutexGuard, Wait};
 use std::thread::{Scope, Threads};
 
-/// So many equalities of a list are imposed at most in one holding of the lock, behind the first: some milliseconds.
+/// How many equalities of a list are imposed at most in one holding of the lock, behind the one that is asked for.
 const MOST_AHEAD: usize = 1000;
 
 /// What the workers share.
@@ -130,6 +130,7 @@ impl<T: Told> Pool<T> {
     ) -> Option<Finding<T>> {
         let q = task.q();
         let mut reply = Reply::Start;
+        // before this place all equalities of the list in hand were imposed
         let mut ahead = 0;
         while task.expects(&reply) {
             match task.turn(alloc, reply) {
@@ -139,15 +140,27 @@ impl<T: Told> Pool<T> {
                     reply = ask_source(alloc, source, loader, &name);
                 }
                 Turn::Impose(list, place) => {
-                    match self.impose(rt, alloc, gate, q, list, place, &mut ahead) {
+                    if place < ahead {
+                        drop(list);
+                        reply = Reply::Imposed;
+                    } else {
+                        match self.impose(rt, alloc, gate, q, list, place) {
+                            Some((told, next)) => {
+                                reply = told;
+                                ahead = next;
+                            }
+                            None => return None,
+                        }
+                    }
+                }
+                call => {
+                    // (whatever is asked between ends a list)
+                    ahead = 0;
+                    match self.call(rt, alloc, gate, q, call) {
                         Some(told) => reply = told,
                         None => return None,
                     }
                 }
-                call => match self.call(rt, alloc, gate, q, call) {
-                    Some(told) => reply = told,
-                    None => return None,
-                },
             }
         }
         self.stop(rt);
@@ -170,8 +183,7 @@ impl<T: Told> Pool<T> {
     }
 
     /// Imposes the equality at a place of a task's list, under the lock, and with it those behind it, at most so many, which the task
-    /// will ask for next. `ahead` is before which place of the list all are known to stand: what is asked of these is answered without
-    /// the lock. None, where the workers are to stop (JVMS SE 8, 5.3.4).
+    /// will ask for next: answers before which place all are imposed, too. None, where the workers are to stop (JVMS SE 8, 5.3.4).
     fn impose<G: Gate, R: Wait>(
         &self,
         rt: &R,
@@ -180,21 +192,19 @@ impl<T: Told> Pool<T> {
         q: u32,
         list: Arc<Equalities<T>>,
         place: usize,
-        ahead: &mut usize,
-    ) -> Option<Reply<T>> {
-        // (at 0 a list begins, of which nothing is known yet)
-        if place == 0 || *ahead <= place {
-            let Some(mut desk) = self.enter(rt, gate, q) else {
-                drop(list);
-                return None;
-            };
-            *ahead = impose_ahead(alloc, &mut desk.registry, &list, place, MOST_AHEAD);
-            if *ahead <= place {
-                return self.ask(alloc, &mut desk, Turn::Impose(list, place));
-            }
+    ) -> Option<(Reply<T>, usize)> {
+        let Some(mut desk) = self.enter(rt, gate, q) else {
+            drop(list);
+            return None;
+        };
+        let ahead = impose_ahead(alloc, &mut desk.registry, &list, place, MOST_AHEAD);
+        if place < ahead {
+            drop(list);
+            return Some((Reply::Imposed, ahead));
         }
-        drop(list);
-        Some(Reply::Imposed)
+        // (why not, the registry tells when it is asked for this one alone)
+        let told = self.ask(alloc, &mut desk, Turn::Impose(list, place))?;
+        Some((told, ahead))
     }
 
     /// Makes the call that a task asks for, under the lock. None, where the workers are to stop.

@@ -25,9 +25,9 @@ use std::thread::{self, Threads};
 /// tables can be trusted.
 ///
 /// The first worker takes the source, each other one a further source. One whose source or thread cannot be had is not
-/// started. The registry stands behind one lock, which is held for one call of it at a time, of equalities of one list for up to
-/// some hundreds, and behind a post for the rounds
-/// that may begin and a copy of the next request too; reading, parsing and searching are done without it.
+/// started. The registry stands behind one lock, which is held for one call of it at a time, or for up to a thousand and one
+/// equalities of one list, and behind a post for the rounds that may begin and a copy of the next request too; reading, parsing
+/// and searching are done without it.
 ///
 /// # Errors
 ///

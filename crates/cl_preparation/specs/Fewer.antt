@@ -40,9 +40,11 @@ abbrev pub begins_with_class : List Kin → Bool
 begins_with_class [] = false
 begins_with_class (k ∷ ks) = not (is_interface k.file)
 
--- of the superclasses that declare a method open, nearest first, those with which a class below has
--- something to impose where this is given: if they are prepared the nearest alone, since that is no
--- interface and its own method overrides those of the others (5.4.2, 5.4.5)
+-- of the superclasses that declare a method public or protected, nearest first, those with which a
+-- class below has something to impose where this is given: if they are prepared the nearest alone,
+-- where it is no interface, since its method overrides those of the others, so that its own
+-- preparation made it equal with them; no loaded class has an interface as superclass, but a tree may
+-- (5.3.4, 5.3.5, 5.4.2, 5.4.5)
 abbrev pub left_above : Given → List Kin → List Kin
 left_above givens.Nothing ks = ks
 left_above givens.Superclass ks = if begins_with_class ks then take 1 ks else ks

@@ -75,8 +75,9 @@ impl<'a, 'b, 'c, 'd, T: Told> Model for Chained<'a, 'b, 'c, 'd, T> {
 
 impl<'a, 'b, 'c, 'd, T: Told> Chained<'a, 'b, 'c, 'd, T> {
     /// The other loaders of what a method with this key overrides, each once: those of superclasses, nearest first, then those
-    /// of superinterfaces. Where superclasses are prepared, the nearest superclass alone is asked: the same method of others is what
-    /// that one overrides, so that it imposed the equalities with these (JVMS SE 8, 5.4.2, 5.4.5).
+    /// of superinterfaces. Where superclasses are prepared, of these the nearest alone that declares it public or protected is named, if
+    /// it is no interface: the same method of others is what that one overrides, so that it imposed the equalities with these (JVMS SE
+    /// 8, 5.4.2, 5.4.5).
     fn loaders_over(
         &self,
         alloc: Global,

@@ -343,9 +343,10 @@ fn needs_at<T: Told>(
 
 /// The loading constraints that the preparation of the class at a place of a lineage imposes, in order, but for such as always
 /// stand where those before them do: those of a loader with itself, and those that the list has. Where it is given that the
-/// superclass is prepared, those with what the class inherits may be left out too, which the preparations of superclasses imposed.
-/// Where the next of the few has to stand, it is the next of `constraints_of`
-/// that does not yet; and all of these stand where the few do. Only memory refuses it (JVMS SE 8, 5.3.4, 5.4.2).
+/// superclass is prepared, those may be left out too that follow from what the preparations of superclasses imposed: with what the class
+/// inherits, and with what a method of it overrides beyond the nearest superclass that declares it. Where the next of the few has
+/// to stand, it is the next of `constraints_of` that does not yet; and all of these stand where the few do. Only memory refuses it
+/// (JVMS SE 8, 5.3.4, 5.4.2).
 pub fn fewer_constraints_of<T: Told>(
     alloc: Global,
     whole: &mut Preparations<T>,

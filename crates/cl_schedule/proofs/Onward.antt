@@ -27,7 +27,7 @@ met_next s [] k all next = tt
 met_next s (e ∷ es) zero all next = (next, tt)
 met_next s (e ∷ es) (suc k) all next = (all.0, met_next s es k all.1 next)
 
--- it was
+-- what is imposed stands: all before the next place do
 pub imposed_next : (x new : Shown) (l : Listed) (k : ℕ) → MayImpose x l k → Imposes x new l k → IsNextOf l k (Met (state_of new)) → StandsBefore new l (k + 1)
 imposed_next x new l k may imposes met =
     let goes : GoesOn x new = goes_on_did x new (ImposesBy l k) (did_impose x new l k may imposes) in
@@ -49,7 +49,7 @@ one_more old mid new l from to h may imposes =
       imposed = (mid, h.imposed, subst (λ (k : ℕ). MayImpose mid l k) is may, subst (λ (k : ℕ). Imposes mid new l k) is imposes);
     }
 
--- the first was, and then those behind it
+-- the first is imposed, and then those behind it
 pub first_and_more : (old mid new : Shown) (l : Listed) (k to : ℕ) → MayImpose old l k → Imposes old mid l k → AreImposed mid new l (k + 1) to → AreImposed old new l k to
 first_and_more old mid new l k to may imposes h =
     let is = h.to_is in

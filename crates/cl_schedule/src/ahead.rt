@@ -40,8 +40,9 @@ fn impose_up_to<T: Told>(
 /// to the first that is refused (JVMS SE 8, 5.3.4). Answers before which place of the list all stand then; where it is the place
 /// itself, nothing was imposed.
 ///
-/// What stands before the first is looked at, and not again for those behind it: nothing else is done between. So who has a registry to
-/// himself for many equalities of a list at once takes time in its length, and not in its square.
+/// What stands before the first is looked at, and not again for those behind it: nothing else is done between. So a call takes time in
+/// the place and in how many it imposes, where a call of `Registry::impose` for each takes time in the square of the list. Memory
+/// that is refused ends it too; why it ended is not told, and who wants to know asks for the next equality.
 pub fn impose_ahead<T: Told>(
     alloc: Global,
     registry: &mut Registry<T>,

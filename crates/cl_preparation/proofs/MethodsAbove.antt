@@ -20,8 +20,8 @@ use Rattle.cl_hierarchy.specs.Trees.{kin_under}
 use Rattle.cl_preparation.specs.declared.declarers.MethodTexts.{MethodTexts}
 use Rattle.cl_preparation.specs.declared.methods_above.Above.{Above}
 use Rattle.cl_preparation.specs.Declarers.{same_texts}
-use Rattle.cl_preparation.specs.Fewer.{begins_with_class, is_new, left_above, loaders, others_after}
-use Rattle.cl_preparation.specs.MethodsAbove.{ArePut, AreTold, IsPut, Tells, added, loaders_left, without}
+use Rattle.cl_preparation.specs.Fewer.{begins_with_class, is_new, left_above, left_where, loaders, others_after}
+use Rattle.cl_preparation.specs.MethodsAbove.{ArePut, AreTold, IsPut, Tells, added, without}
 use Rattle.cl_preparation.specs.Relatives.{bare}
 use Rattle.cl_preparation.specs.Walks.{is_open, opens}
 use Rattle.cl_preparation.proofs.Unmixed.{texts_one, texts_same, texts_self}
@@ -133,7 +133,7 @@ pub once_others : (own : ℕ) (ls : List ℕ) → others_after own [] ls ≡ wit
 once_others own ls = once_after own [] ls ∙ new_but own (first_places [] ls)
 
 -- those of the first alone, if it is of a class
-pub nearest_left : (given : Given) (b : Bool) (wide : List ℕ) (ks : List Kin) → wide ≡ first_places [] (loaders ks) → b ≡ begins_with_class ks → loaders_left given b wide ≡ first_places [] (loaders (left_above given ks))
+pub nearest_left : (given : Given) (b : Bool) (wide : List ℕ) (ks : List Kin) → wide ≡ first_places [] (loaders ks) → b ≡ begins_with_class ks → left_where given b wide ≡ first_places [] (loaders (left_above given ks))
 nearest_left givens.Nothing b wide ks are is = are
 nearest_left givens.Superclass b wide [] are is = rw is are
 nearest_left givens.Superclass b wide (k ∷ ks) are is = rw is (by (is_interface k.file))
@@ -214,10 +214,10 @@ class_lent v None kept is = ap (λ (x : Option Above). option_map_or (λ a. a.is
 class_lent v (Some x) kept is = ap (λ (y : Option Above). option_map_or (λ a. a.is_class) y false) is
 
 pub left_lent : {A : Type 0} (v : A → Above) (o : Option A) (kept : Option Above) (given : Given) → option_map v o ≡ kept
-    → loaders_left given (option_map_or (λ x. (v x).is_class) o false) (option_map_or (λ x. (v x).wide.items) o []) ≡ loaders_left given (option_map_or (λ a. a.is_class) kept false) (option_map_or (λ a. a.wide.items) kept [])
+    → left_where given (option_map_or (λ x. (v x).is_class) o false) (option_map_or (λ x. (v x).wide.items) o []) ≡ left_where given (option_map_or (λ a. a.is_class) kept false) (option_map_or (λ a. a.wide.items) kept [])
 left_lent v o kept given is =
-    ap (λ (b : Bool). loaders_left given b (option_map_or (λ x. (v x).wide.items) o [])) (class_lent v o kept is)
-    ∙ ap (loaders_left given (option_map_or (λ a. a.is_class) kept false)) (wide_lent v o kept is)
+    ap (λ (b : Bool). left_where given b (option_map_or (λ x. (v x).wide.items) o [])) (class_lent v o kept is)
+    ∙ ap (left_where given (option_map_or (λ a. a.is_class) kept false)) (wide_lent v o kept is)
 
 -- the texts of a key were put
 pub put_more : {S : Type 0} (old new : IndexMap MethodTexts Above S) (key : Key) (c : Kin) (texts : MethodTexts) (a : Above) → method_of texts.name texts.descriptor ≡ Some key → is_offered key c ≡ true → a.nearest ≡ c.class.loader

@@ -40,14 +40,18 @@ abbrev pub begins_with_class : List Kin → Bool
 begins_with_class [] = false
 begins_with_class (k ∷ ks) = not (is_interface k.file)
 
+-- of these those that are left where this is given, as the first of them is of a class or not
+abbrev pub left_where : {A : Type 0} → Given → Bool → List A → List A
+left_where givens.Nothing is_class xs = xs
+left_where givens.Superclass is_class xs = if is_class then take 1 xs else xs
+
 -- of the superclasses that declare a method public or protected, nearest first, those with which a
 -- class below has something to impose where this is given: if they are prepared the nearest alone,
 -- where it is no interface, since its method overrides those of the others, so that its own
 -- preparation made it equal with them; no loaded class has an interface as superclass, but a tree may
 -- (5.3.4, 5.3.5, 5.4.2, 5.4.5)
 abbrev pub left_above : Given → List Kin → List Kin
-left_above givens.Nothing ks = ks
-left_above givens.Superclass ks = if begins_with_class ks then take 1 ks else ks
+left_above given ks = left_where given (begins_with_class ks) ks
 
 -- the loaders of what a method of c overrides, so far as something is left to impose (5.4.2)
 abbrev pub loaders_left_over : Given → Kin → Key → List ℕ
@@ -111,16 +115,11 @@ pub record AddsLeft (c : Kin) (old : Listing) (all : List Need) (new : Listing) 
   pub more : new ≡ with_all old added
   pub enough : AreEnough (constraints_above c) all added
 
--- needs were listed for all of these: just the few, or some that stand for all where superclasses are
--- prepared (5.4.2)
-abbrev pub AddsFew : Given → Kin → Listing → List Need → List Need → Listing → Type 0
-AddsFew givens.Nothing c old all few new = new ≡ with_all old few
-AddsFew givens.Superclass c old all few new = AddsLeft c old all new
-
--- for what these methods of c impose (5.4.2)
+-- needs were listed for what these methods of c impose: just the few, or, where superclasses are
+-- prepared, some that stand for all (5.4.2)
 abbrev pub AddsDeclared : Given → Kin → Listing → List Member → Listing → Type 0
-AddsDeclared given c old ms new =
-    AddsFew given c old (flat_map (for_declared c) ms) (flat_map (fewer_declared c) ms) new
+AddsDeclared givens.Nothing c old ms new = new ≡ with_all old (flat_map (fewer_declared c) ms)
+AddsDeclared givens.Superclass c old ms new = AddsLeft c old (flat_map (for_declared c) ms) new
 
 -- these stand for all, where this is given, none twice; where nothing is, they are just the few (5.4.2)
 pub record AreFew (given : Given) (c : Kin) (needs : List Need) : Type 0 where

@@ -1,13 +1,11 @@
 -- What a class and its superclasses declare, by methods (JVMS SE 8, 5.3.4, 5.4.2, 5.4.5).
-use Rattle.std.specs.Prelude.{◌≡◌, ◌==◌, Bool, ℕ, false, not, if◌then◌else◌, List, [], ◌∷◌, Option, Some, find, filter, option_map, take}
+use Rattle.std.specs.Prelude.{◌≡◌, ◌==◌, Bool, ℕ, false, not, if◌then◌else◌, List, [], ◌∷◌, Option, Some, find, filter, option_map}
 use Rattle.std.specs.Option.{option_map_or}
 use Rattle.std.specs.List.{list_any}
 use Rattle.indexmap.specs.IndexMap.{IndexMap, get}
 use Rattle.cl_classfile.specs.Files.{Key, Member, method_of, same_key}
 use Rattle.cl_model.specs.Lineages.{Kin, is_offered}
 use Rattle.cl_model.specs.Probes.{first_places}
-use Rattle.cl_hierarchy.specs.declared.equalities.Given.{Given}
-use Rattle.cl_hierarchy.specs.declared.equalities.Given.TheVariants as givens
 use Rattle.cl_preparation.specs.declared.declarers.MethodTexts.{MethodTexts}
 use Rattle.cl_preparation.specs.declared.methods_above.Above.{Above}
 use Rattle.cl_preparation.specs.Declarers.{same_texts}
@@ -38,12 +36,6 @@ abbrev pub AreTold : {S : Type 0} → IndexMap MethodTexts Above S → List Kin 
 AreTold table ks =
     (t : MethodTexts) (key : Key) → method_of t.name t.descriptor ≡ Some key
     → Tells key ks (get same_texts table t)
-
--- of these loaders those that are left where this is given, as the first is of a class or not
--- (5.4.2)
-abbrev pub loaders_left : Given → Bool → List ℕ → List ℕ
-loaders_left givens.Nothing is_class ls = ls
-loaders_left givens.Superclass is_class ls = if is_class then take 1 ls else ls
 
 -- ---- for the steps of a call
 

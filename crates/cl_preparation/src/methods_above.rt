@@ -4,8 +4,8 @@
 ghost use Rattle.std.specs.Prelude.{◌≡◌, ◌++◌, ◌∷◌, List, [], false, find, filter, if◌then◌else◌, option_map, take, IfOk, OnOk};
 ghost use Rattle.std.specs.Option.{option_map_or};
 ghost use Rattle.cl_model.specs.Lineages.{Kin, is_offered};
-ghost use Rattle.cl_preparation.specs.Fewer.{left_above, loaders, others_after};
-ghost use Rattle.cl_preparation.specs.MethodsAbove.{ArePut, AreTold, IsPut, added, loaders_left, without};
+ghost use Rattle.cl_preparation.specs.Fewer.{left_above, left_where, loaders, others_after};
+ghost use Rattle.cl_preparation.specs.MethodsAbove.{ArePut, AreTold, IsPut, added, without};
 ghost use Rattle.cl_preparation.specs.Relatives.{bare};
 ghost use Rattle.cl_preparation.specs.Walks.{opens};
 
@@ -105,7 +105,7 @@ fn first_alone(loaders: &[LoaderId]) -> &[LoaderId]
 
 /// Of the loaders of the classes that declare a method public or protected those that are left where this is given.
 fn left_of(known: Option<&Above>, given: Given) -> &[LoaderId]
-    ensures { result.now ≡ loaders_left given
+    ensures { result.now ≡ left_where given
         (option_map_or (λ x. x.now.is_class) known.entry false)
         (option_map_or (λ x. x.now.wide.items) known.entry []) }
 {

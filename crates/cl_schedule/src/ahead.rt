@@ -19,11 +19,12 @@ fn impose_up_to<T: Told>(
     end: usize,
 ) -> usize
     requires stands { StandsBefore registry.old list.now place }
-    requires within { (place ≤ end) × (end ≤ length list.now.needs) }
+    requires order { place ≤ end }
+    requires end { end ≤ length list.now.needs }
     requires kept { IsKept T.told registry.old }
     ensures imposed { AreImposed registry.old registry.new list.now place result }
     ensures standing { StandsBefore registry.new list.now result }
-    ensures within { (place ≤ result) × (result ≤ end) }
+    ensures end { result ≤ end }
     ensures kept { IsKept T.told registry.new }
 {
     let mut next = place;
@@ -52,7 +53,6 @@ pub fn impose_ahead<T: Told>(
 ) -> usize
     ensures imposed { AreImposed registry.old registry.new list.now place result }
     ensures standing { place < result → StandsBefore registry.new list.now result }
-    ensures within { place ≤ result }
     ensures most { result ≤ place + 1 + most }
     ensures kept { IsKept T.told registry.new }
 {

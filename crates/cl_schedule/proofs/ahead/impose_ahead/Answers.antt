@@ -14,7 +14,8 @@ impose_up_to-requires g c =
     let fits = c.saturating_add.type_inv in
     record {
       stands = imposed_next c.args.registry.now c.impose.new.self c.args.list.now c.args.place may says.imposed says.met;
-      within = (omega (arith, inside, count, least, sum, fits), omega (arith, count, least));
+      order = omega (arith, inside, count, least, sum, fits);
+      end = omega (arith, count, least);
       kept = says.kept;
     }
 

@@ -6,8 +6,7 @@ use Rattle.cl_schedule.proofs.ahead.impose_up_to.Goals as goal
 
 pub loop-next-init : goal.loop-next-init
 loop-next-init g c =
-    let within = c.requires.within in
-    (none_imposed c.args.registry.now c.args.list.now c.args.place, c.requires.stands, (omega arith, within.0), c.requires.kept)
+    (none_imposed c.args.registry.now c.args.list.now c.args.place, c.requires.stands, (omega arith, c.requires.order), c.requires.kept)
 
 pub loop-next-preserved : goal.loop-next-preserved
 loop-next-preserved g c =
@@ -18,7 +17,7 @@ loop-next-preserved g c =
     let next = c.loop-next.next in
     let h = c.loop-next.invariant in
     let test = c.loop-next-test.true in
-    let end = c.requires.within.1 in
+    let end = c.requires.end in
     let less : next < length l.needs = omega (arith, test, end) in
     let may = may_next mid l next h.1 less in
     let says = c.in-Ok.ensures.says in

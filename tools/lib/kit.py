@@ -70,6 +70,15 @@ class Ended(Exception):
     """A check was asked for after its lanes were closed."""
 
 
+def not_laid_out(folder):
+    """What `rt fmt` would change in a crate's folder, a line each; rt ci proves no crate where there is any."""
+    with tempfile.TemporaryFile("w+") as said:
+        if not rtlib.fmt(folder, "--check", said):
+            return []
+        said.seek(0)
+        return said.read().splitlines() or ["rt fmt would change it"]
+
+
 @dataclass
 class Crate:
     """A crate of the repository, by the kit's own description of it."""

@@ -6,6 +6,7 @@ import os
 import re
 import subprocess
 
+import kit
 import names
 import page
 from edits import FOLDERS, of_crate
@@ -102,6 +103,11 @@ def files_are_short(root, files, _crates):
     return [f"{it}: {number} lines, over {MOST_LINES}" for it, number in counted if number > MOST_LINES]
 
 
+def code_is_laid_out(root, _files, crates):
+    """Each file of code is as `rt fmt` lays it out: rt ci proves no crate else."""
+    return [f"{os.path.relpath(it.folder, root)}: {why}: run rt fmt there" for it in crates for why in kit.not_laid_out(it.folder)]
+
+
 def code_is_checked(_root, files, crates):
     """Each file of code is one that a check reads: rt ci takes no other in the repository."""
     known = {it.name for it in crates}
@@ -118,6 +124,7 @@ RULES = (
     nothing_made,
     nothing_half_merged,
     code_is_checked,
+    code_is_laid_out,
     stands_alone,
     files_are_short,
     edits_apply,

@@ -5,14 +5,15 @@ ghost use Rattle.std.specs.Ordering.{nat_cmp};
 ghost use Rattle.std.specs.Cmp;
 ghost use Rattle.std.specs.Cmp.Lexicographic.{slice_cmp, nat_list_eq_equiv, nat_list_cmp_total, texts_ties, texts_po};
 ghost use Rattle.std.specs.Cmp.Rules.{hashing};
-ghost use Rattle.std.specs.Hash as fed;
 ghost use Rattle.std.proofs.Common.{rules};
 ghost use Rattle.cl_names.specs.Text.{IsModifiedUtf8};
+ghost use Rattle.cl_names.specs.Digest.{fed_name};
 ghost use Rattle.cl_names.specs.Truth.{Reads};
 ghost use Rattle.cl_names.specs.Escape.{escaped, WritesName};
 ghost use Rattle.cl_names.specs.Name.{TestedNameOf, WritesClass};
 ghost use Rattle.cl_names.specs.Plain.{plain_of};
 
+use crate::digest::{DIGEST_BYTES, MOST_SHARED_BYTES, kept};
 use crate::escape::{bytes_of_text, put_printed};
 use crate::kind::{
     MOST_TEXT_BYTES, has_class_form, has_method_form, has_unqualified_form, is_class_name,
@@ -28,25 +29,30 @@ use std::sync::ArcSlice;
 use thiserror::Error;
 
 /// A name, in modified UTF-8 (JVMS SE 8, 4.4.7). Its copies share one allocation of the bytes, of which it may be a part, so
-/// that the names of a file take one allocation in all.
+/// that most names of a file take one allocation in all.
 #[derive(Debug, Drop)]
 pub struct Name {
+    /// Behind the text of a long name stands its digest.
     bytes: ArcSlice<u8>,
     start: u32,
     len: u16,
+    /// Of a long name, how many bytes stand before its last `/`.
+    front: u16,
 }
 
 impl Model for Name {
-    ghost use Rattle.std.specs.Prelude.{ℕ, List, length, ◌+◌, ◌≤◌};
+    ghost use Rattle.std.specs.Prelude.{ℕ, List, length, ◌+◌, ◌<◌, ◌≤◌};
     ghost use Rattle.std.specs.Arc.{arc_slice_items};
     ghost use Rattle.cl_names.specs.Text.{IsModifiedUtf8};
+    ghost use Rattle.cl_names.specs.Digest.{KeepsLong};
     ghost use Rattle.cl_names.specs.Name.{part_of};
+    ghost use Rattle.cl_names.specs.declared.digest.TheConstants.{MOST_SHARED_BYTES};
 
     ghost Value = { List ℕ };
 
     ghost view = { λ n. part_of n.start n.len (arc_slice_items n.bytes) };
 
-    ghost invariant = { λ n. IsModifiedUtf8 (part_of n.start n.len (arc_slice_items n.bytes)) × (n.start + n.len ≤ length (arc_slice_items n.bytes)) };
+    ghost invariant = { λ n. IsModifiedUtf8 (part_of n.start n.len (arc_slice_items n.bytes)) × (n.start + n.len ≤ length (arc_slice_items n.bytes)) × (MOST_SHARED_BYTES < n.len → KeepsLong n.start n.len n.front (arc_slice_items n.bytes)) };
 }
 
 impl PartialEq for Name {
@@ -88,14 +94,15 @@ impl Ord for Name {
 }
 
 impl Hash for Name {
-    ghost hash_input = { fed.str };
+    ghost hash_input = { fed_name };
 
     ghost respects_eq = { Prim.search (hashing, rules) };
 
-    // The bytes at once, and then one that no text has, as std hashes a str: byte by byte takes ten times as long.
+    // The bytes at once, and then one that no text has, as std hashes a str: byte by byte takes ten times as long. Behind a
+    // digest another, so that no short name is hashed as a long one.
     fn hash<H: Hasher>(&self, state: &mut H) {
-        state.write(self.bytes());
-        state.write_u8(0xff);
+        state.write(self.hashed());
+        state.write_u8(if self.is_long() { 0xfe } else { 0xff });
     }
 }
 
@@ -121,11 +128,12 @@ impl From<AllocError> for NameFault {
 }
 
 impl Name {
-    ghost use Rattle.std.specs.Prelude.{◌+◌, string_bytes};
+    ghost use Rattle.std.specs.Prelude.{◌+◌, string_bytes, take};
     ghost use Rattle.cl_names.specs.Truth.{Decides};
     ghost use Rattle.std.specs.Arc.{arc_slice_items};
     ghost use Rattle.std.specs.List.{starts_with};
     ghost use Rattle.cl_names.specs.Kind.{IsUnqualified, IsMethod, IsClass, IsNameOf, is_unqualified_name, is_method_name, is_class_name, HasNoSlash, package_of};
+    ghost use Rattle.cl_names.specs.Digest.{hashed, is_long};
     ghost use Rattle.cl_names.specs.Name.{NameOf, KindNameOf, TextNameOf, part_of};
     ghost use Rattle.cl_names.specs.declared.name.NameFault.TheVariants.{Memory};
 
@@ -143,11 +151,21 @@ impl Name {
         requires short { length bytes.now ≤ MOST_TEXT_BYTES }
         ensures { IfOk result (λ name. name ≡ bytes.now) }
     {
-        Ok(Name::whole(ArcSlice::from_slice(alloc, bytes)?))
+        let front = if bytes.len() > MOST_SHARED_BYTES {
+            package_len(bytes)
+        } else {
+            0
+        };
+        Ok(Name {
+            bytes: ArcSlice::from_vec(kept(alloc, bytes)?)?,
+            start: 0,
+            len: bytes.len() as u16,
+            front: front as u16,
+        })
     }
 
-    /// The name of `len` of these bytes from `start` on, which are known to be text: it shares them, and is not looked at
-    /// again. It takes memory where `start` is over 4,294,967,295 alone.
+    /// The name of `len` of these bytes from `start` on, which are known to be text: it shares them, and they are not looked
+    /// at again. It takes memory where `len` is over `MOST_SHARED_BYTES`, or `start` over 4,294,967,295, alone.
     pub fn of_part(
         alloc: Global,
         bytes: &ArcSlice<u8>,
@@ -159,27 +177,15 @@ impl Name {
         requires short { len ≤ MOST_TEXT_BYTES }
         ensures { IfOk result (λ name. name ≡ part_of start len (arc_slice_items bytes.now)) }
     {
-        if start > u32::MAX as usize {
+        if len > MOST_SHARED_BYTES || start > u32::MAX as usize {
             return Name::of_text(alloc, &bytes.as_slice()[start..][..len]);
         }
         Ok(Name {
             bytes: bytes.clone()?,
             start: start as u32,
             len: len as u16,
+            front: 0,
         })
-    }
-
-    fn whole(bytes: ArcSlice<u8>) -> Name
-        requires text { IsModifiedUtf8 (arc_slice_items bytes) }
-        requires short { length (arc_slice_items bytes) ≤ MOST_TEXT_BYTES }
-        ensures { result ≡ arc_slice_items bytes }
-    {
-        let len = bytes.len() as u16;
-        Name {
-            bytes,
-            start: 0,
-            len,
-        }
     }
 
     /// The class's name that the bytes spell, unqualified names with `/` between them: `NotModifiedUtf8`,
@@ -213,7 +219,9 @@ impl Name {
     pub fn from_text(alloc: Global, text: &str) -> Result<Name, NameFault>
         ensures { TextNameOf text.now result }
     {
-        Ok(Name::whole(ArcSlice::from_vec(bytes_of_text(alloc, text.as_bytes())?)?))
+        let bytes = bytes_of_text(alloc, text.as_bytes())?;
+        // (a copy, since bytes that grew may have room for twice as many)
+        Ok(Name::of_text(alloc, bytes.as_slice())?)
     }
 
     /// The name as escaped text, in lower case, with escapes only where they are needed, or `Memory`.
@@ -265,8 +273,19 @@ impl Name {
         ensures none { HasNoSlash self.now → result.now ≡ [] }
         ensures value { result.now ≡ package_of self.now }
     {
-        let bytes = self.bytes();
-        &bytes[..package_len(bytes)]
+        &self.bytes()[..self.package_len()]
+    }
+
+    /// How many bytes stand before the last `/`. Constant time, if the name is long.
+    fn package_len(&self) -> usize
+        ensures within { result ≤ length self.now }
+        ensures before { take result self.now ≡ package_of self.now }
+    {
+        if self.is_long() {
+            self.front as usize
+        } else {
+            package_len(self.bytes())
+        }
     }
 
     /// Whether its bytes begin with those of `prefix`.
@@ -286,6 +305,23 @@ impl Name {
         &self.bytes.as_slice()[self.start as usize..][..self.len as usize]
     }
 
+    /// Whether a digest stands behind the text.
+    fn is_long(&self) -> bool
+        ensures { result ≡ is_long self.now }
+    {
+        self.len as usize > MOST_SHARED_BYTES
+    }
+
+    /// What a table hashes of it: its bytes, or the digest of a long one.
+    fn hashed(&self) -> &[u8]
+        ensures { result.now ≡ hashed self.now }
+    {
+        if !self.is_long() {
+            return self.bytes();
+        }
+        &self.bytes.as_slice()[self.start as usize + self.len as usize..][..DIGEST_BYTES]
+    }
+
     /// The name in UTF-8, as a system's paths are written, where a supplementary character is one character; none where
     /// the name has U+0000 or half of a supplementary character.
     pub fn plain(&self, alloc: Global) -> Result<Option<String>, AllocError>
@@ -303,6 +339,7 @@ impl Name {
             bytes: self.bytes.clone()?,
             start: self.start,
             len: self.len,
+            front: self.front,
         })
     }
 }

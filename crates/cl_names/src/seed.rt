@@ -5,7 +5,8 @@ ghost use Rattle.cl_names.specs.Seed.{first_hasher};
 use std::hash::{BuildHasher, DefaultHasher, RandomState};
 
 /// What a table hashes its names with. A run draws a seed once and copies it to each table whose names strangers choose,
-/// so that they cannot choose names that fall on one place. No value and no answer depends on it.
+/// so that they cannot choose short names that fall on one place, nor long ones but such as have one digest. No value and no
+/// answer depends on it.
 #[derive(Clone, Copy, Debug)]
 pub struct Seed {
     drawn: Option<RandomState>,

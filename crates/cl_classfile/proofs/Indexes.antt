@@ -17,7 +17,7 @@ use Rattle.cl_classfile.specs.Files.{text_at}
 use Rattle.cl_classfile.specs.Lookups.{is_this, has_texts}
 use Rattle.cl_classfile.specs.Numbers.{IsNumber, IsFirst, IsMemberNoted, number_of}
 use Rattle.cl_classfile.specs.Seen.{pair_cmp}
-use Rattle.cl_classfile.specs.Indexes.{Lead, StandThere, StandTo, StandsAt, led_to, member_at, pair_of, place_of}
+use Rattle.cl_classfile.specs.Indexes.{Lead, PutsPlace, StandThere, StandTo, StandsAt, led_to, member_at, pair_of, place_of}
 use Rattle.cl_classfile.proofs.Codec.{both}
 use Rattle.cl_classfile.proofs.MemberRows.{named_text, reflexive}
 
@@ -103,11 +103,7 @@ starts ns ps ms e = record {
   all = λ i m lt stands. absurd (omega (arith, lt));
 }
 
--- what the places are when a member's was put in
-abbrev pub Puts : Places → Places → ℕ × ℕ → ℕ → Type 0
-Puts old new pair i = (q : ℕ × ℕ) → place_of new q ≡ cond (is_eq (pair_cmp pair q)) (Some i) (place_of old q)
-
-module _ (ns : Numbers) (old new : Places) (ms : List Member) (i : ℕ) (m : Member) (there : slice_get ms i ≡ Some m) (pair : ℕ × ℕ) (is : pair_of ns m ≡ pair) (puts : Puts old new pair i) (so_far : StandTo ns old ms i) where
+module _ (ns : Numbers) (old new : Places) (ms : List Member) (i : ℕ) (m : Member) (there : slice_get ms i ≡ Some m) (pair : ℕ × ℕ) (is : pair_of ns m ≡ pair) (puts : PutsPlace old new pair i) (so_far : StandTo ns old ms i) where
   each_one : (q : ℕ × ℕ) (j : ℕ) (b : Bool) → is_eq (pair_cmp pair q) ≡ b → cond b (Some i) (place_of old q) ≡ Some j → StandsAt ns ms q j
   each_one q j true e place =
       let here : i ≡ j = cc in
@@ -198,8 +194,8 @@ module _ (pool : List Entry) (ns : Numbers) (ps : Places) (ms : List Member) (le
   test m = has_texts pool name descriptor m
 
   record HasNumbers (m : Member) : Type 0 where
-    named : number_of ns name ≡ Some (pair_of ns m).0
-    described : number_of ns descriptor ≡ Some (pair_of ns m).1
+    named : number_of pool ns name ≡ Some (pair_of ns m).0
+    described : number_of pool ns descriptor ≡ Some (pair_of ns m).1
 
   noted : (i : ℕ) (m : Member) → slice_get ms i ≡ Some m → IsMemberNoted pool ns m
   noted i m stands = all_at (IsMemberNoted pool ns) ms i m stands lead.noted.each
@@ -209,36 +205,36 @@ module _ (pool : List Entry) (ns : Numbers) (ps : Places) (ms : List Member) (le
       let b = both (is_this descriptor (text_at pool m.descriptor_index)) (is_this name (text_at pool m.name_index)) is in
       let n = noted i m stands in
       record {
-        named = text_says (number_of ns) name (text_at pool m.name_index) (pair_of ns m).0 n.0 b.1;
-        described = text_says (number_of ns) descriptor (text_at pool m.descriptor_index) (pair_of ns m).1 n.1 b.0;
+        named = text_says (number_of pool ns) name (text_at pool m.name_index) (pair_of ns m).0 n.0 b.1;
+        described = text_says (number_of pool ns) descriptor (text_at pool m.descriptor_index) (pair_of ns m).1 n.1 b.0;
       }
 
-  numbers_told : (i : ℕ) (m : Member) → slice_get ms i ≡ Some m → number_of ns name ≡ Some (pair_of ns m).0 → number_of ns descriptor ≡ Some (pair_of ns m).1 → test m ≡ true
+  numbers_told : (i : ℕ) (m : Member) → slice_get ms i ≡ Some m → number_of pool ns name ≡ Some (pair_of ns m).0 → number_of pool ns descriptor ≡ Some (pair_of ns m).1 → test m ≡ true
   numbers_told i m stands e f =
       let n = noted i m stands in
       let first = lead.noted.numbers.first in
-      let by_name : is_this name (text_at pool m.name_index) ≡ true = text_told pool (number_of ns) first name (text_at pool m.name_index) (pair_of ns m).0 n.0 e in
-      let by_descriptor : is_this descriptor (text_at pool m.descriptor_index) ≡ true = text_told pool (number_of ns) first descriptor (text_at pool m.descriptor_index) (pair_of ns m).1 n.1 f in
+      let by_name : is_this name (text_at pool m.name_index) ≡ true = text_told pool (number_of pool ns) first name (text_at pool m.name_index) (pair_of ns m).0 n.0 e in
+      let by_descriptor : is_this descriptor (text_at pool m.descriptor_index) ≡ true = text_told pool (number_of pool ns) first descriptor (text_at pool m.descriptor_index) (pair_of ns m).1 n.1 f in
       rw (by_descriptor, by_name) refl
 
-  place_case : (n d : ℕ) → number_of ns name ≡ Some n → number_of ns descriptor ≡ Some d → (o : Option ℕ) → place_of ps (n, d) ≡ o → option_and_then (slice_get ms) o ≡ find test ms
+  place_case : (n d : ℕ) → number_of pool ns name ≡ Some n → number_of pool ns descriptor ≡ Some d → (o : Option ℕ) → place_of ps (n, d) ≡ o → option_and_then (slice_get ms) o ≡ find test ms
   place_case n d e f None g =
       sym (find_none test ms (λ i m stands. never (test m) (λ is.
       let s = numbers_say i m stands is in
-      let pair : pair_of ns m ≡ (n, d) = pairs (pair_of ns m).0 n (pair_of ns m).1 d (some_number (number_of ns name) (pair_of ns m).0 n s.named e) (some_number (number_of ns descriptor) (pair_of ns m).1 d s.described f) in
+      let pair : pair_of ns m ≡ (n, d) = pairs (pair_of ns m).0 n (pair_of ns m).1 d (some_number (number_of pool ns name) (pair_of ns m).0 n s.named e) (some_number (number_of pool ns descriptor) (pair_of ns m).1 d s.described f) in
       none_there (place_of ps (n, d)) g (subst (λ (p : ℕ × ℕ). IsSome (place_of ps p)) pair (lead.stand.all i m (slice_get_within ms i m stands) stands)))))
   place_case n d e f (Some i) g =
       let s = lead.stand.each (n, d) i g in
       let is = numbers_told i s.member s.stands (e ∙ ap (λ (p : ℕ × ℕ). Some p.0) (sym s.pair_is)) (f ∙ ap (λ (p : ℕ × ℕ). Some p.1) (sym s.pair_is)) in
       s.stands ∙ sym (find_at pool test (agree pool name descriptor) [] ms i s.member new s.stands is)
 
-  descriptor_case : (n : ℕ) → number_of ns name ≡ Some n → (o : Option ℕ) → number_of ns descriptor ≡ o → option_and_then (λ d. member_at ps ms n d) o ≡ find test ms
-  descriptor_case n e None f = sym (find_none test ms (λ i m stands. never (test m) (λ is. no_number (number_of ns descriptor) (pair_of ns m).1 f (numbers_say i m stands is).described)))
+  descriptor_case : (n : ℕ) → number_of pool ns name ≡ Some n → (o : Option ℕ) → number_of pool ns descriptor ≡ o → option_and_then (λ d. member_at ps ms n d) o ≡ find test ms
+  descriptor_case n e None f = sym (find_none test ms (λ i m stands. never (test m) (λ is. no_number (number_of pool ns descriptor) (pair_of ns m).1 f (numbers_say i m stands is).described)))
   descriptor_case n e (Some d) f = place_case n d e f (place_of ps (n, d)) refl
 
-  name_case : (o : Option ℕ) → number_of ns name ≡ o → option_and_then (λ n. option_and_then (λ d. member_at ps ms n d) (number_of ns descriptor)) o ≡ find test ms
-  name_case None e = sym (find_none test ms (λ i m stands. never (test m) (λ is. no_number (number_of ns name) (pair_of ns m).0 e (numbers_say i m stands is).named)))
-  name_case (Some n) e = descriptor_case n e (number_of ns descriptor) refl
+  name_case : (o : Option ℕ) → number_of pool ns name ≡ o → option_and_then (λ n. option_and_then (λ d. member_at ps ms n d) (number_of pool ns descriptor)) o ≡ find test ms
+  name_case None e = sym (find_none test ms (λ i m stands. never (test m) (λ is. no_number (number_of pool ns name) (pair_of ns m).0 e (numbers_say i m stands is).named)))
+  name_case (Some n) e = descriptor_case n e (number_of pool ns descriptor) refl
 
-  pub leads : led_to ns ps ms name descriptor ≡ find (has_texts pool name descriptor) ms
-  leads = name_case (number_of ns name) refl
+  pub leads : led_to pool ns ps ms name descriptor ≡ find (has_texts pool name descriptor) ms
+  leads = name_case (number_of pool ns name) refl

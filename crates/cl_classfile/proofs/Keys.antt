@@ -11,8 +11,11 @@ use Rattle.cl_classfile.specs.Structure.{Member}
 use Rattle.cl_classfile.specs.Files.{text_at}
 use Rattle.cl_classfile.specs.Numbers.{IsNumber, IsFirst}
 use Rattle.cl_classfile.specs.Checking.{Key, key_of, same_key, same_member}
-use Rattle.cl_classfile.specs.Seen.{pair_cmp, has_pair, HasPairs}
-use Rattle.std.specs.Prelude.{bytes_eq}
+use Rattle.cl_classfile.specs.Seen.{pair_cmp, HasPairs}
+use Rattle.cl_classfile.specs.declared.index.Places.{Places}
+use Rattle.cl_classfile.specs.Indexes.{place_of, has_place, PutsPlace}
+use Rattle.std.proofs.lemmas.Bool.{eqb-true, eqb-false}
+use Rattle.std.specs.Prelude.{bytes_eq, is_some}
 use Rattle.std.specs.Option.{option_zip}
 
 -- ---- numbers and texts
@@ -80,8 +83,8 @@ abbrev any_with : List Entry → Key → List Member → Bool
 any_with pool key ms = list_any (λ e. same_key (key_of pool e) (Some key)) ms
 
 -- what the set has when a pair was put in
-put : (pool : List Entry) (of : List ℕ → Option ℕ) → IsFirst pool of → (pairs new : List (ℕ × ℕ)) (k : Key) (n d : ℕ) → of k.0 ≡ Some n → of k.1 ≡ Some d → (m : Member) (before : List Member) → key_of pool m ≡ Some k
-    → HasPairs pool of pairs before → ((q : ℕ × ℕ) → has_pair new q ≡ cond (is_eq (pair_cmp (n, d) q)) true (has_pair pairs q)) → HasPairs pool of new (before ++ m ∷ [])
+put : (pool : List Entry) (of : List ℕ → Option ℕ) → IsFirst pool of → (pairs new : ℕ × ℕ → Bool) (k : Key) (n d : ℕ) → of k.0 ≡ Some n → of k.1 ≡ Some d → (m : Member) (before : List Member) → key_of pool m ≡ Some k
+    → HasPairs pool of pairs before → ((q : ℕ × ℕ) → new q ≡ cond (is_eq (pair_cmp (n, d) q)) true (pairs q)) → HasPairs pool of new (before ++ m ∷ [])
 put pool of first pairs new k n d kn kd m before is has updates l x y lx ly =
     let here : same_key (key_of pool m) (Some l) ≡ is_eq (pair_cmp (n, d) (x, y)) = ap (λ (o : Option Key). same_key o (Some l)) is ∙ tied pool of first k l n d x y kn kd lx ly in
     let all : any_with pool l (before ++ m ∷ []) ≡ any_with pool l before || (is_eq (pair_cmp (n, d) (x, y)) || false) =
@@ -89,13 +92,13 @@ put pool of first pairs new k n d kn kd m before is has updates l x y lx ly =
     updates (x, y) ∙ ap (cond (is_eq (pair_cmp (n, d) (x, y))) true) (has l x y lx ly) ∙ choice (is_eq (pair_cmp (n, d) (x, y))) (any_with pool l before) ∙ sym all
 
 -- what is known once a member was looked at
-abbrev pub IsSeen : List Entry → (List ℕ → Option ℕ) → Bool → List (ℕ × ℕ) → Member → List Member → Type 0
+abbrev pub IsSeen : List Entry → (List ℕ → Option ℕ) → Bool → (ℕ × ℕ → Bool) → Member → List Member → Type 0
 IsSeen pool of added new m before = (added ≡ not (list_any (λ e. same_member pool e m) before)) × HasPairs pool of new (before ++ m ∷ [])
 
 -- a member with a key is new where the set lacks its pair
-pub with_key : (pool : List Entry) (of : List ℕ → Option ℕ) → IsFirst pool of → (pairs new : List (ℕ × ℕ)) (n d : ℕ) (added : Bool) (m : Member) (before : List Member)
+pub with_key : (pool : List Entry) (of : List ℕ → Option ℕ) → IsFirst pool of → (pairs new : ℕ × ℕ → Bool) (n d : ℕ) (added : Bool) (m : Member) (before : List Member)
     → IsNumber of (text_at pool m.name_index) n → IsNumber of (text_at pool m.descriptor_index) d → (n ≡ 0 → ⊥) → (d ≡ 0 → ⊥) → HasPairs pool of pairs before
-    → added ≡ not (has_pair pairs (n, d)) → ((q : ℕ × ℕ) → has_pair new q ≡ cond (is_eq (pair_cmp (n, d) q)) true (has_pair pairs q)) → IsSeen pool of added new m before
+    → added ≡ not (pairs (n, d)) → ((q : ℕ × ℕ) → new q ≡ cond (is_eq (pair_cmp (n, d) q)) true (pairs q)) → IsSeen pool of added new m before
 with_key pool of first pairs new n d added m before is_n is_d some_n some_d has e updates =
     let name = some_text of (text_at pool m.name_index) n is_n some_n in
     let descriptor = some_text of (text_at pool m.descriptor_index) d is_d some_d in
@@ -109,25 +112,51 @@ or_false : (b : Bool) → b || (false || false) ≡ b
 or_false true = refl
 or_false false = refl
 
-passed : (pool : List Entry) (of : List ℕ → Option ℕ) (pairs : List (ℕ × ℕ)) (m : Member) (before : List Member) → key_of pool m ≡ None → HasPairs pool of pairs before → IsSeen pool of true pairs m before
-passed pool of pairs m before is has = (
+-- nothing changes for texts where the pair is that of none
+other_pair : (p q : ℕ × ℕ) → is_eq (pair_cmp p q) ≡ false → (x y : Bool) → x ≡ cond (is_eq (pair_cmp p q)) true y → x ≡ y
+other_pair p q none x y e = e ∙ ap (λ (b : Bool). cond b true y) none
+
+passed : (pool : List Entry) (of : List ℕ → Option ℕ) (pairs new : ℕ × ℕ → Bool) (p : ℕ × ℕ) (m : Member) (before : List Member) → key_of pool m ≡ None
+    → ((l : Key) (x y : ℕ) → of l.0 ≡ Some x → of l.1 ≡ Some y → is_eq (pair_cmp p (x, y)) ≡ false) → HasPairs pool of pairs before
+    → ((q : ℕ × ℕ) → new q ≡ cond (is_eq (pair_cmp p q)) true (pairs q)) → IsSeen pool of true new m before
+passed pool of pairs new p m before is none has updates = (
   ap not (sym (none_like pool before)) ∙ ap (λ (o : Option Key). not (list_any (λ e. same_key (key_of pool e) o) before)) (sym is),
   λ l x y lx ly.
       let all : any_with pool l (before ++ m ∷ []) ≡ any_with pool l before || (false || false) =
       list_any-append (λ e. same_key (key_of pool e) (Some l)) before (m ∷ []) ∙ ap (λ (o : Option Key). any_with pool l before || (same_key o (Some l) || false)) is in
-      has l x y lx ly ∙ sym (all ∙ or_false (any_with pool l before)),
+      other_pair p (x, y) (none l x y lx ly) (new (x, y)) (pairs (x, y)) (updates (x, y)) ∙ has l x y lx ly ∙ sym (all ∙ or_false (any_with pool l before)),
 )
 
--- a member without a key is new, and changes nothing
-pub without_name : (pool : List Entry) (of : List ℕ → Option ℕ) → IsFirst pool of → (pairs : List (ℕ × ℕ)) (n : ℕ) (m : Member) (before : List Member)
-    → IsNumber of (text_at pool m.name_index) n → n ≡ 0 → HasPairs pool of pairs before → IsSeen pool of true pairs m before
-without_name pool of first pairs n m before is_n none has =
-    passed pool of pairs m before (ap (λ (o : Option (List ℕ)). option_zip o (text_at pool m.descriptor_index)) (no_text pool of first (text_at pool m.name_index) n is_n none)) has
+-- no text has the number 0
+no_zero : (pool : List Entry) (of : List ℕ → Option ℕ) → IsFirst pool of → (t : List ℕ) (n x : ℕ) → n ≡ 0 → of t ≡ Some x → (b : Bool) → (n == x) ≡ b → b ≡ false
+no_zero pool of first t n x zero_is e false f = refl
+no_zero pool of first t n x zero_is e true f = absurd (
+    let one : n ≡ x = eqb-true n x f in
+    let there : text_at pool 0 ≡ Some t = ap (text_at pool) (sym (sym one ∙ zero_is)) ∙ first t x e in
+    let none : text_at pool 0 ≡ None = refl in cc)
 
-pub without_descriptor : (pool : List Entry) (of : List ℕ → Option ℕ) → IsFirst pool of → (pairs : List (ℕ × ℕ)) (d : ℕ) (m : Member) (before : List Member)
-    → IsNumber of (text_at pool m.descriptor_index) d → d ≡ 0 → HasPairs pool of pairs before → IsSeen pool of true pairs m before
-without_descriptor pool of first pairs d m before is_d none has =
-    passed pool of pairs m before (no_key (text_at pool m.name_index) (text_at pool m.descriptor_index) (no_text pool of first (text_at pool m.descriptor_index) d is_d none)) has
+other_name : (n d x y : ℕ) → (n == x) ≡ false → is_eq (pair_cmp (n, d) (x, y)) ≡ false
+other_name n d x y e = sym (both_tied (n == x) (d == y) (nat_cmp n x) (nat_cmp d y) (unsigned_ties n x) (unsigned_ties d y)) ∙ ap (λ (b : Bool). b && (d == y)) e
+
+last_false : (b c : Bool) → c ≡ false → (b && c) ≡ false
+last_false true c e = e
+last_false false c e = refl
+
+other_descriptor : (n d x y : ℕ) → (d == y) ≡ false → is_eq (pair_cmp (n, d) (x, y)) ≡ false
+other_descriptor n d x y e = sym (both_tied (n == x) (d == y) (nat_cmp n x) (nat_cmp d y) (unsigned_ties n x) (unsigned_ties d y)) ∙ last_false (n == x) (d == y) e
+
+-- a member without a key is new, and changes nothing
+pub without_name : (pool : List Entry) (of : List ℕ → Option ℕ) → IsFirst pool of → (pairs new : ℕ × ℕ → Bool) (n d : ℕ) (m : Member) (before : List Member)
+    → IsNumber of (text_at pool m.name_index) n → n ≡ 0 → HasPairs pool of pairs before → ((q : ℕ × ℕ) → new q ≡ cond (is_eq (pair_cmp (n, d) q)) true (pairs q)) → IsSeen pool of true new m before
+without_name pool of first pairs new n d m before is_n none has =
+    passed pool of pairs new (n, d) m before (ap (λ (o : Option (List ℕ)). option_zip o (text_at pool m.descriptor_index)) (no_text pool of first (text_at pool m.name_index) n is_n none))
+    (λ l x y lx ly. other_name n d x y (no_zero pool of first l.0 n x none lx (n == x) refl)) has
+
+pub without_descriptor : (pool : List Entry) (of : List ℕ → Option ℕ) → IsFirst pool of → (pairs new : ℕ × ℕ → Bool) (n d : ℕ) (m : Member) (before : List Member)
+    → IsNumber of (text_at pool m.descriptor_index) d → d ≡ 0 → HasPairs pool of pairs before → ((q : ℕ × ℕ) → new q ≡ cond (is_eq (pair_cmp (n, d) q)) true (pairs q)) → IsSeen pool of true new m before
+without_descriptor pool of first pairs new n d m before is_d none has =
+    passed pool of pairs new (n, d) m before (no_key (text_at pool m.name_index) (text_at pool m.descriptor_index) (no_text pool of first (text_at pool m.descriptor_index) d is_d none))
+    (λ l x y lx ly. other_descriptor n d x y (no_zero pool of first l.1 d y none ly (d == y) refl)) has
 
 -- the test of the loop, the other way round
 pub old : (new among : Bool) → new ≡ not among → new ≡ false → among ≡ true
@@ -138,5 +167,23 @@ pub fresh : (new among : Bool) → new ≡ not among → new ≡ true → among 
 fresh new false e f = refl
 fresh new true e f = absurd (let g : true ≡ false = sym f ∙ e in cc)
 
-pub starts : (pool : List Entry) (of : List ℕ → Option ℕ) (pairs : List (ℕ × ℕ)) → pairs ≡ [] → HasPairs pool of pairs []
-starts pool of pairs e l n d ln ld = ap (λ (ps : List (ℕ × ℕ)). has_pair ps (n, d)) e
+pub starts : (pool : List Entry) (of : List ℕ → Option ℕ) (ps : Places) → ps.map.entries ≡ [] → HasPairs pool of (has_place ps) []
+starts pool of ps e l n d ln ld = rw e refl
+
+-- what is placed when one more is
+pub placed : (old new : Places) (pair : ℕ × ℕ) (i : ℕ) → PutsPlace old new pair i → (q : ℕ × ℕ) → has_place new q ≡ cond (is_eq (pair_cmp pair q)) true (has_place old q)
+placed old new pair i puts q = ap is_some (puts q) ∙ choose (is_eq (pair_cmp pair q))
+  where
+    choose : (b : Bool) → is_some (cond b (Some i) (place_of old q)) ≡ cond b true (has_place old q)
+    choose true = refl
+    choose false = refl
+
+-- what is known once a member was placed, of whatever numbers
+pub is_seen : (pool : List Entry) (of : List ℕ → Option ℕ) → IsFirst pool of → (pairs new : ℕ × ℕ → Bool) (n d : ℕ) (first : Bool) (m : Member) (before : List Member)
+    → IsNumber of (text_at pool m.name_index) n → IsNumber of (text_at pool m.descriptor_index) d → HasPairs pool of pairs before
+    → first ≡ not (pairs (n, d)) → ((q : ℕ × ℕ) → new q ≡ cond (is_eq (pair_cmp (n, d) q)) true (pairs q))
+    → (a b : Bool) → (n == 0) ≡ a → (d == 0) ≡ b → IsSeen pool of ((a || b) || first) new m before
+is_seen pool of known pairs new n d first m before is_n is_d has e updates true b f g = without_name pool of known pairs new n d m before is_n (eqb-true n 0 f) has updates
+is_seen pool of known pairs new n d first m before is_n is_d has e updates false true f g = without_descriptor pool of known pairs new n d m before is_d (eqb-true d 0 g) has updates
+is_seen pool of known pairs new n d first m before is_n is_d has e updates false false f g =
+    with_key pool of known pairs new n d first m before is_n is_d (eqb-false n 0 f) (eqb-false d 0 g) has e updates

@@ -2,12 +2,14 @@ pub mod Loop
 pub mod Entries
 pub mod Codec
 pub mod Judging
+pub mod Described
 pub mod Fitting
 pub mod Slots
 pub mod Sharing
 pub mod MemberRows
 pub mod Keys
 pub mod Numbering
+pub mod Mentioning
 pub mod Indexes
 pub mod Classes
 pub mod References

@@ -132,9 +132,9 @@ module _ {A B : Type 0} (now : A → Member) (g : Member → B) (pool : List Ent
   abbrev IsFound : Type 0
   IsFound = option_map (λ m. g (now m)) r ≡ option_map g (find (has_texts pool name descriptor) ms)
 
-  pub by_index : (ns : Numbers) (ps : Places) → Lead pool ns ps ms → AreNew pool [] ms → option_map now r ≡ led_to ns ps shown name descriptor → IsFound
-  by_index ns ps lead new e =
-      map_after now g r _ (e ∙ ap (λ (it : List Member). led_to ns ps it name descriptor) same ∙ leads pool ns ps ms lead new name descriptor)
+  pub by_index : (from : List Entry) → from ≡ pool → (ns : Numbers) (ps : Places) → Lead pool ns ps ms → AreNew pool [] ms → option_map now r ≡ led_to from ns ps shown name descriptor → IsFound
+  by_index from pools ns ps lead new e =
+      map_after now g r _ (e ∙ ap (λ (es : List Entry). led_to es ns ps shown name descriptor) pools ∙ ap (λ (it : List Member). led_to pool ns ps it name descriptor) same ∙ leads pool ns ps ms lead new name descriptor)
 
   pub by_look : (from : List Entry) → from ≡ pool → option_map now r ≡ find (has_texts from name descriptor) shown → IsFound
   by_look from pools e =

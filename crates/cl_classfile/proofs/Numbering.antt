@@ -1,80 +1,58 @@
 -- The numbers of texts, as they are asked for one after the other.
-use Rattle.std.proofs.Common.{◌≡◌, ℕ, zero, suc, ◌+◌, ◌<◌, Bool, true, false, cond, List, [], ◌∷◌, ◌++◌, length, take, get_or, Option, Some, None, refl, sym, ap, subst, ◌∙◌, arith, inl, inr}
-use Rattle.std.specs.Prelude.{set, slice_get, unwrap_or, bytes_eq}
+use Rattle.std.proofs.Common.{◌≡◌, ℕ, zero, suc, ◌+◌, ◌<◌, Bool, true, false, cond, List, [], ◌∷◌, ◌++◌, length, take, get_or, Option, Some, None, refl, sym, ap, subst, ◌∙◌, ◌==◌, arith, inl, inr}
+use Rattle.std.specs.Prelude.{set, slice_get, unwrap_or, bytes_eq, bit_and}
 use Rattle.std.specs.List.{AllByRecursion}
 use Rattle.std.specs.Ordering.{is_eq}
 use Rattle.std.specs.Cmp.Lexicographic.{same_text, texts_ties}
-use Rattle.std.proofs.lemmas.Bool.{cases_eq, cases_lt}
+use Rattle.std.proofs.lemmas.Bool.{cases_eq, cases_lt, eqb-true, eq-eqb, false≢true}
 use Rattle.std.proofs.lemmas.List.{length-set}
 use Rattle.std.specs.BTreeMap.{get}
-use Rattle.std.specs.Map.{lookup}
-use Rattle.cl_classfile.proofs.MemberRows.{front}
+use Rattle.cl_classfile.proofs.MemberRows.{front, reflexive}
 use Rattle.cl_classfile.specs.declared.entry.Entry.{Entry}
 use Rattle.cl_classfile.specs.declared.numbers.Numbers.{Numbers}
 use Rattle.cl_classfile.specs.Structure.{Member}
 use Rattle.cl_classfile.specs.Pool.{at}
 use Rattle.cl_classfile.specs.Files.{text_of, text_at}
-use Rattle.cl_classfile.specs.Numbers.{text_cmp, number_of, number_at, with_number, IsNumber, IsNoted, IsFirst, AreNumbers, Grows, Notes, IsMemberNoted, NotesAll}
+use Rattle.cl_classfile.specs.Lookups.{is_this}
+use Rattle.cl_classfile.specs.Numbers.{text_cmp, rank_of, slot_at, first_or, number_of, number_at, with_number, IsNumber, IsNoted, IsFirst, AreNumbers, Grows, Puts, Takes, Notes, IsMemberNoted, NotesAll}
 
 abbrev pub Of : Type 0
 Of = List ℕ → Option ℕ
 
 -- ---- one more text
 
--- the numbers when a text was put in
-abbrev pub Puts : Of → Of → List ℕ → ℕ → Type 0
-Puts old new t n = (u : List ℕ) → new u ≡ cond (bytes_eq t u) (Some n) (old u)
-
-put_first : (pool : List Entry) (old new : Of) (t : List ℕ) (n : ℕ) → Puts old new t n → text_at pool n ≡ Some t → IsFirst pool old → IsFirst pool new
+put_first : (pool : List Entry) (old new : Numbers) (t : List ℕ) (n : ℕ) → Puts pool old new t n → text_at pool n ≡ Some t → IsFirst pool (number_of pool old) → IsFirst pool (number_of pool new)
 put_first pool old new t n puts is first u m e = choose (bytes_eq t u) refl (sym (puts u) ∙ e)
   where
-    choose : (b : Bool) → bytes_eq t u ≡ b → cond b (Some n) (old u) ≡ Some m → text_at pool m ≡ Some u
+    choose : (b : Bool) → bytes_eq t u ≡ b → cond b (Some n) (number_of pool old u) ≡ Some m → text_at pool m ≡ Some u
     choose true same is_m = let same_number : n ≡ m = cc in ap (text_at pool) (sym same_number) ∙ is ∙ ap Some (same_text t u (sym same))
     choose false other is_m = first u m is_m
 
-pub put_grows : (old new : Of) (t : List ℕ) (n : ℕ) → Puts old new t n → old t ≡ None → (u : List ℕ) (m : ℕ) → old u ≡ Some m → new u ≡ Some m
-put_grows old new t n puts none u m e = puts u ∙ choose (bytes_eq t u) refl
+pub put_grows : (pool : List Entry) (old new : Numbers) (t : List ℕ) (n : ℕ) → Puts pool old new t n → number_of pool old t ≡ None → Grows pool old new
+put_grows pool old new t n puts none u m e = puts u ∙ choose (bytes_eq t u) refl
   where
-    choose : (b : Bool) → bytes_eq t u ≡ b → cond b (Some n) (old u) ≡ Some m
-    choose true same = absurd (let t_is : old t ≡ Some m = ap old (same_text t u (sym same)) ∙ e in cc)
+    choose : (b : Bool) → bytes_eq t u ≡ b → cond b (Some n) (number_of pool old u) ≡ Some m
+    choose true same = absurd (let t_is : number_of pool old t ≡ Some m = ap (number_of pool old) (same_text t u (sym same)) ∙ e in cc)
     choose false other = e
 
-pub more : (old new : Numbers) (t : List ℕ) (n : ℕ) → ((q : List ℕ) → get text_cmp new.met q ≡ cond (is_eq (text_cmp t q)) (Some n) (get text_cmp old.met q)) → Puts (number_of old) (number_of new) t n
-more old new t n updates u = updates u ∙ ap (λ (b : Bool). cond b (Some n) (number_of old u)) (sym (texts_ties t u))
+pub put_has : (pool : List Entry) (old new : Numbers) (t : List ℕ) (n : ℕ) → Puts pool old new t n → number_of pool new t ≡ Some n
+put_has pool old new t n puts = puts t ∙ ap (λ (b : Bool). cond b (Some n) (number_of pool old t)) (reflexive t)
 
 grows_number : (old new : Of) → ((u : List ℕ) (m : ℕ) → old u ≡ Some m → new u ≡ Some m) → (o : Option (List ℕ)) (n : ℕ) → IsNumber old o n → IsNumber new o n
 grows_number old new grows None n h = h
 grows_number old new grows (Some t) n h = grows t n h
 
 -- a text that had no number has one
-pub put_number : (pool : List Entry) (old new : Numbers) (t : List ℕ) (n : ℕ) → new.noted.items ≡ old.noted.items → Puts (number_of old) (number_of new) t n → number_of old t ≡ None → text_at pool n ≡ Some t → AreNumbers pool old → AreNumbers pool new
+pub put_number : (pool : List Entry) (old new : Numbers) (t : List ℕ) (n : ℕ) → new.noted.items ≡ old.noted.items → Puts pool old new t n → number_of pool old t ≡ None → text_at pool n ≡ Some t → AreNumbers pool old → AreNumbers pool new
 put_number pool old new t n same puts none is a = record {
-  first = put_first pool (number_of old) (number_of new) t n puts is a.first;
+  first = put_first pool old new t n puts is a.first;
   known = λ i some.
-      subst (λ (ns : List ℕ). IsNumber (number_of new) (text_at pool i) (number_at ns i)) (sym same)
-      (grows_number (number_of old) (number_of new) (put_grows (number_of old) (number_of new) t n puts none) (text_at pool i) (number_at old.noted.items i) (a.known i (λ z. some (ap (λ (ns : List ℕ). number_at ns i) same ∙ z))));
+      subst (λ (ns : List ℕ). IsNumber (number_of pool new) (text_at pool i) (number_at ns i)) (sym same)
+      (grows_number (number_of pool old) (number_of pool new) (put_grows pool old new t n puts none) (text_at pool i) (number_at old.noted.items i) (a.known i (λ z. some (ap (λ (ns : List ℕ). number_at ns i) same ∙ z))));
   all = ap length same ∙ a.all;
 }
 
--- a text that had a number has it again
-pub put_back : (old mid new : Of) (t : List ℕ) (i n : ℕ) → Puts old mid t i → Puts mid new t n → old t ≡ Some n → (u : List ℕ) → new u ≡ old u
-put_back old mid new t i n first again had u = again u ∙ choose (bytes_eq t u) refl
-  where
-    choose : (b : Bool) → bytes_eq t u ≡ b → cond b (Some n) (mid u) ≡ old u
-    choose true same = sym had ∙ ap old (same_text t u (sym same))
-    choose false other = first u ∙ rw other refl
-
--- what has the same numbers
-pub same_numbers : (pool : List Entry) (old new : Numbers) → new.noted.items ≡ old.noted.items → ((u : List ℕ) → number_of new u ≡ number_of old u) → AreNumbers pool old → AreNumbers pool new
-same_numbers pool old new same each a = record {
-  first = λ u m e. a.first u m (sym (each u) ∙ e);
-  known = λ i some.
-      subst (λ (ns : List ℕ). IsNumber (number_of new) (text_at pool i) (number_at ns i)) (sym same)
-      (grows_number (number_of old) (number_of new) (λ u m e. each u ∙ e) (text_at pool i) (number_at old.noted.items i) (a.known i (λ z. some (ap (λ (ns : List ℕ). number_at ns i) same ∙ z))));
-  all = ap length same ∙ a.all;
-}
-
--- ---- notes
+-- ---- lists
 
 set_same : (l : List ℕ) (i n : ℕ) → i < length l → slice_get (set l i n) i ≡ Some n
 set_same [] i n lt = absurd (omega (arith, lt))
@@ -97,6 +75,58 @@ past_end : {X : Type 0} (l : List X) (i : ℕ) → (i < length l → ⊥) → sl
 past_end [] i past = refl
 past_end (x ∷ l) zero past = absurd (past (omega arith))
 past_end (x ∷ l) (suc i) past = past_end l i (λ lt. past (omega (arith, lt)))
+
+-- ---- the slots and the map
+
+ranked_case : (pool : List Entry) (u : List ℕ) (n was : ℕ) (other : Option ℕ) (same level : Bool) → first_or pool u n other ≡ cond same (Some n) other → (same ≡ true → level ≡ true) → (level ≡ true → was ≡ 0)
+    → first_or pool u (cond level n was) other ≡ cond same (Some n) (first_or pool u was other)
+ranked_case pool u n was other true true stands tied gone = stands
+ranked_case pool u n was other true false stands tied gone = absurd (false≢true (tied refl))
+ranked_case pool u n was other false true stands tied gone = stands ∙ sym (ap (λ (o : ℕ). first_or pool u o other) (gone refl))
+ranked_case pool u n was other false false stands tied gone = refl
+
+slot_put : (slots : List ℕ) (i j n : ℕ) → i < length slots → (b : Bool) → (i == j) ≡ b → slot_at (set slots i n) j ≡ cond b n (slot_at slots j)
+slot_put slots i j n lt true e = let one : i ≡ j = eqb-true i j e in subst (λ (k : ℕ). slot_at (set slots i n) k ≡ n) one (ap (λ (o : Option ℕ). unwrap_or o 0) (set_same slots i n lt))
+slot_put slots i j n lt false e = ap (λ (o : Option ℕ). unwrap_or o 0) (set_other slots i j n (λ same. false≢true (sym e ∙ eq-eqb i j (sym same))))
+
+-- the first text of its slot
+pub put_slot : (pool : List Entry) (old new : Numbers) (t : List ℕ) (rank n : ℕ) → rank ≡ rank_of t → text_at pool n ≡ Some t → Takes old.slots.items new.slots.items (bit_and rank old.mask) n
+    → new.others ≡ old.others → new.mask ≡ old.mask → Puts pool old new t n
+put_slot pool old new t rank n rank_is is takes same mask u =
+    let i = bit_and rank old.mask in
+    let j = bit_and (rank_of u) old.mask in
+    let was = slot_at old.slots.items j in
+    let other = get text_cmp old.others u in
+    let stands : first_or pool u n other ≡ cond (bytes_eq t u) (Some n) other = ap (λ (o : Option (List ℕ)). cond (is_this u o) (Some n) other) is in
+    ap (λ m. first_or pool u (slot_at new.slots.items (bit_and (rank_of u) new.mask)) (get text_cmp m u)) same
+    ∙ ap (λ (k : ℕ). first_or pool u (slot_at new.slots.items (bit_and (rank_of u) k)) other) mask
+    ∙ ap (λ (slots : List ℕ). first_or pool u (slot_at slots j) other) takes.put
+    ∙ ap (λ (m : ℕ). first_or pool u m other) (slot_put old.slots.items i j n takes.within (i == j) refl)
+    ∙ ranked_case pool u n was other (bytes_eq t u) (i == j) stands
+    (λ e. eq-eqb i j (ap (λ (r : ℕ). bit_and r old.mask) (rank_is ∙ ap rank_of (same_text t u (sym e)))))
+    (λ e. ap (slot_at old.slots.items) (sym (eqb-true i j e)) ∙ takes.free)
+
+other_case : (pool : List Entry) (u : List ℕ) (n was : ℕ) (other : Option ℕ) (same : Bool) → (same ≡ true → first_or pool u was (Some n) ≡ Some n) → first_or pool u was (cond same (Some n) other) ≡ cond same (Some n) (first_or pool u was other)
+other_case pool u n was other true h = h refl
+other_case pool u n was other false h = refl
+
+-- where a text has no number, another takes the place of none
+missed : (there : Bool) (m n : ℕ) (other : Option ℕ) → cond there (Some m) other ≡ None → cond there (Some m) (Some n) ≡ Some n
+missed true m n other e = absurd (let some : Some m ≡ None = e in cc)
+missed false m n other e = refl
+
+-- a text whose slot another has
+pub put_other : (pool : List Entry) (old new : Numbers) (t key : List ℕ) (n : ℕ) → key ≡ t → number_of pool old t ≡ None → new.slots ≡ old.slots → new.mask ≡ old.mask
+    → ((q : List ℕ) → get text_cmp new.others q ≡ cond (is_eq (text_cmp key q)) (Some n) (get text_cmp old.others q)) → Puts pool old new t n
+put_other pool old new t key n key_is none same mask updates u =
+    let was = slot_at old.slots.items (bit_and (rank_of u) old.mask) in
+    let other = get text_cmp old.others u in
+    ap (λ m. first_or pool u (slot_at m.items (bit_and (rank_of u) new.mask)) (get text_cmp new.others u)) same
+    ∙ ap (λ (k : ℕ). first_or pool u (slot_at old.slots.items (bit_and (rank_of u) k)) (get text_cmp new.others u)) mask
+    ∙ ap (first_or pool u was) (updates u ∙ ap (λ (b : Bool). cond b (Some n) other) (sym (texts_ties key u) ∙ ap (λ (k : List ℕ). bytes_eq k u) key_is))
+    ∙ other_case pool u n was other (bytes_eq t u) (λ e. missed (is_this u (text_at pool was)) was n other (ap (number_of pool old) (sym (same_text t u (sym e))) ∙ none))
+
+-- ---- notes
 
 -- what is noted at an index once its number was put there
 put_there : (pool : List Entry) (of : Of) (noted : List ℕ) (i n : ℕ) → length noted ≡ length pool → IsNumber of (text_at pool i) n → IsNumber of (text_at pool i) (number_at (with_number noted i n) i)
@@ -121,19 +151,23 @@ put_length noted zero n = refl
 put_length noted (suc i) n = length-set noted i n
 
 -- the text at an index was asked for
-pub noted : (pool : List Entry) (old mid new : Numbers) (i n : ℕ) → AreNumbers pool mid → Grows old mid → mid.noted.items ≡ old.noted.items → IsNumber (number_of mid) (text_at pool i) n → new.met ≡ mid.met
+pub noted : (pool : List Entry) (old mid new : Numbers) (i n : ℕ) → AreNumbers pool mid → Grows pool old mid → mid.noted.items ≡ old.noted.items → IsNumber (number_of pool mid) (text_at pool i) n → new.slots ≡ mid.slots → new.mask ≡ mid.mask → new.others ≡ mid.others
     → new.noted.items ≡ with_number mid.noted.items i n → Notes pool old new i
-noted pool old mid new i n a grows same is met put =
-    let kept_of : (u : List ℕ) (m : ℕ) → number_of mid u ≡ Some m → number_of new u ≡ Some m = λ u m e. ap (λ m. get text_cmp m u) met ∙ e in
-    let of_new : (u : List ℕ) (m : ℕ) → number_of new u ≡ Some m → number_of mid u ≡ Some m = λ u m e. ap (λ m. get text_cmp m u) (sym met) ∙ e in
+noted pool old mid new i n a grows same is slots mask others put =
+    let as_before : (u : List ℕ) → number_of pool new u ≡ number_of pool mid u = λ u.
+    ap (λ m. first_or pool u (slot_at m.items (bit_and (rank_of u) new.mask)) (get text_cmp new.others u)) slots
+    ∙ ap (λ (k : ℕ). first_or pool u (slot_at mid.slots.items (bit_and (rank_of u) k)) (get text_cmp new.others u)) mask
+    ∙ ap (λ m. first_or pool u (slot_at mid.slots.items (bit_and (rank_of u) mid.mask)) (get text_cmp m u)) others in
+    let kept_of : (u : List ℕ) (m : ℕ) → number_of pool mid u ≡ Some m → number_of pool new u ≡ Some m = λ u m e. as_before u ∙ e in
+    let of_new : (u : List ℕ) (m : ℕ) → number_of pool new u ≡ Some m → number_of pool mid u ≡ Some m = λ u m e. sym (as_before u) ∙ e in
     let there : IsNoted pool new i =
-    subst (λ (ns : List ℕ). IsNumber (number_of new) (text_at pool i) (number_at ns i)) (sym put)
-    (put_there pool (number_of new) mid.noted.items i n a.all (grows_number (number_of mid) (number_of new) kept_of (text_at pool i) n is)) in
+    subst (λ (ns : List ℕ). IsNumber (number_of pool new) (text_at pool i) (number_at ns i)) (sym put)
+    (put_there pool (number_of pool new) mid.noted.items i n a.all (grows_number (number_of pool mid) (number_of pool new) kept_of (text_at pool i) n is)) in
     let elsewhere : (j : ℕ) → (j ≡ i → ⊥) → number_at new.noted.items j ≡ number_at mid.noted.items j = λ j other. ap (λ (ns : List ℕ). number_at ns j) put ∙ put_elsewhere mid.noted.items i j n other in
     let at_other : (j : ℕ) → (j ≡ i → ⊥) → IsNoted pool mid j → IsNoted pool new j = λ j other h.
-    subst (λ (k : ℕ). IsNumber (number_of new) (text_at pool j) k) (sym (elsewhere j other)) (grows_number (number_of mid) (number_of new) kept_of (text_at pool j) (number_at mid.noted.items j) h) in
+    subst (λ (k : ℕ). IsNumber (number_of pool new) (text_at pool j) k) (sym (elsewhere j other)) (grows_number (number_of pool mid) (number_of pool new) kept_of (text_at pool j) (number_at mid.noted.items j) h) in
     let in_mid : (j : ℕ) → IsNoted pool old j → IsNoted pool mid j = λ j h.
-    subst (λ (ns : List ℕ). IsNumber (number_of mid) (text_at pool j) (number_at ns j)) (sym same) (grows_number (number_of old) (number_of mid) grows (text_at pool j) (number_at old.noted.items j) h) in
+    subst (λ (ns : List ℕ). IsNumber (number_of pool mid) (text_at pool j) (number_at ns j)) (sym same) (grows_number (number_of pool old) (number_of pool mid) grows (text_at pool j) (number_at old.noted.items j) h) in
     record {
       numbers = record {
         first = λ text m e. a.first text m (of_new text m e);
@@ -172,9 +206,11 @@ one_more pool old so_far named new ms i m lt is a name descriptor =
     }
 
 -- of no text there is a number
-pub nothing : (pool : List Entry) (ns : Numbers) → ns.met.entries ≡ [] → ((i : ℕ) → number_at ns.noted.items i ≡ 0) → length ns.noted.items ≡ length pool → AreNumbers pool ns
-nothing pool ns none zeros all = record {
-  first = λ text n e. absurd (let no : number_of ns text ≡ None = ap (lookup (λ q. is_eq (text_cmp text q))) none in cc);
+pub nothing : (pool : List Entry) (ns : Numbers) → ((i : ℕ) → slot_at ns.slots.items i ≡ 0) → ns.others.entries ≡ [] → ((i : ℕ) → number_at ns.noted.items i ≡ 0) → length ns.noted.items ≡ length pool → AreNumbers pool ns
+nothing pool ns free others zeros all = record {
+  first = λ text n e. absurd (
+      let other : get text_cmp ns.others text ≡ None = rw others refl in
+      let no : number_of pool ns text ≡ None = ap (λ (m : ℕ). first_or pool text m (get text_cmp ns.others text)) (free (bit_and (rank_of text) ns.mask)) ∙ other in cc);
   known = λ i some. absurd (some (zeros i));
   all = all;
 }

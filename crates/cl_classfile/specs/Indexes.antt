@@ -9,10 +9,14 @@ use Rattle.std.specs.Prelude.{
   Option,
   Some,
   IsSome,
+  Bool,
+  is_some,
   MatchOption,
   option_and_then,
   slice_get,
+  if◌then◌else◌,
 }
+use Rattle.std.specs.Ordering.{is_eq}
 use Rattle.std.specs.BTreeMap.{get}
 use Rattle.cl_classfile.specs.declared.entry.Entry.{Entry}
 use Rattle.cl_classfile.specs.declared.numbers.Numbers.{Numbers}
@@ -32,16 +36,26 @@ pair_of ns m =
 abbrev pub place_of : Places → ℕ × ℕ → Option ℕ
 place_of ps pair = get pair_cmp ps.map pair
 
+-- a member of these numbers stands somewhere
+abbrev pub has_place : Places → ℕ × ℕ → Bool
+has_place ps pair = is_some (place_of ps pair)
+
 -- the member that stands where one of these numbers does
 abbrev pub member_at : Places → List Member → ℕ → ℕ → Option Member
 member_at ps ms name descriptor = option_and_then (slice_get ms) (place_of ps (name, descriptor))
 
 -- the member that a name and a descriptor lead to by their numbers
-abbrev pub led_to : Numbers → Places → List Member → List ℕ → List ℕ → Option Member
-led_to ns ps ms name descriptor =
+abbrev pub led_to : List Entry → Numbers → Places → List Member → List ℕ → List ℕ → Option Member
+led_to pool ns ps ms name descriptor =
     option_and_then
-    (λ n. option_and_then (λ d. member_at ps ms n d) (number_of ns descriptor))
-    (number_of ns name)
+    (λ n. option_and_then (λ d. member_at ps ms n d) (number_of pool ns descriptor))
+    (number_of pool ns name)
+
+-- the places with that of one more member
+abbrev pub PutsPlace : Places → Places → ℕ × ℕ → ℕ → Type 0
+PutsPlace old new pair i =
+    (q : ℕ × ℕ)
+    → place_of new q ≡ (if is_eq (pair_cmp pair q) then Some i else place_of old q)
 
 -- a member of these numbers stands there
 pub record StandsAt (ns : Numbers) (ms : List Member) (pair : ℕ × ℕ) (i : ℕ) : Type 0 where

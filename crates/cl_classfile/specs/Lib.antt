@@ -10,6 +10,7 @@ pub mod Checking
 pub mod Numbers
 pub mod Seen
 pub mod Indexes
+pub mod Mentions
 pub mod Raw
 pub mod Reading
 pub mod References

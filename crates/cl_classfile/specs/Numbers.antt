@@ -1,6 +1,8 @@
 -- Numbers of texts, the same for equal ones.
-use Rattle.std.specs.Prelude.{◌≡◌, ℕ, zero, suc, List, length, Option, Some, None, unwrap_or, set}
-use Rattle.std.specs.List.{AllByRecursion}
+use Rattle.std.specs.Prelude.{◌≡◌, ◌<◌, ℕ, zero, suc, List, length, Option, Some, None, unwrap_or, set, bytes_eq, bit_and, slice_get, if◌then◌else◌}
+use Rattle.std.specs.List.{AllByRecursion, fold}
+use Rattle.std.specs.Hash.FoldHasher as hasher
+use Rattle.cl_names.specs.Digest.{fed_name}
 use Rattle.std.specs.BTreeMap.{get}
 use Rattle.std.specs.Ordering.{nat_cmp}
 use Rattle.std.specs.declared.cmp.Ordering.{Ordering}
@@ -10,14 +12,32 @@ use Rattle.cl_classfile.specs.declared.numbers.Numbers.{Numbers}
 use Rattle.cl_classfile.specs.Pool.{at}
 use Rattle.cl_classfile.specs.Structure.{Member}
 use Rattle.cl_classfile.specs.Files.{text_at}
+use Rattle.cl_classfile.specs.Lookups.{is_this}
 
 -- by the bytes
 abbrev pub text_cmp : List ℕ → List ℕ → Ordering
 text_cmp a b = slice_cmp nat_cmp a b
 
+-- what stands for a text where texts are looked for: own choice, no answer depends on it
+unfoldable pub rank_of : List ℕ → ℕ
+rank_of text = hasher.finish (fold hasher.write hasher.initial (fed_name text))
+
+-- the number that stands in a slot, or 0
+abbrev pub slot_at : List ℕ → ℕ → ℕ
+slot_at slots i = unwrap_or (slice_get slots i) 0
+
+-- the number that stands in its slot, where it is this text's, or else another
+abbrev pub first_or : List Entry → List ℕ → ℕ → Option ℕ → Option ℕ
+first_or pool text n other = if is_this text (text_at pool n) then Some n else other
+
+-- the number of a text of this rank, if it was met
+abbrev pub found : List Entry → Numbers → ℕ → List ℕ → Option ℕ
+found pool ns rank text =
+    first_or pool text (slot_at ns.slots.items (bit_and rank ns.mask)) (get text_cmp ns.others text)
+
 -- the number of a text, if it was met
-abbrev pub number_of : Numbers → List ℕ → Option ℕ
-number_of ns text = get text_cmp ns.met text
+abbrev pub number_of : List Entry → Numbers → List ℕ → Option ℕ
+number_of pool ns text = found pool ns (rank_of text) text
 
 -- the number that is noted at an index, or 0
 abbrev pub number_at : List ℕ → ℕ → ℕ
@@ -35,7 +55,7 @@ IsNumber of (Some text) n = of text ≡ Some n
 
 -- the number of the text at an index is noted
 abbrev pub IsNoted : List Entry → Numbers → ℕ → Type 0
-IsNoted pool ns i = IsNumber (number_of ns) (text_at pool i) (number_at ns.noted.items i)
+IsNoted pool ns i = IsNumber (number_of pool ns) (text_at pool i) (number_at ns.noted.items i)
 
 -- a number is an index at which its text stands
 abbrev pub IsFirst : List Entry → (List ℕ → Option ℕ) → Type 0
@@ -43,13 +63,26 @@ IsFirst pool of = (text : List ℕ) (n : ℕ) → of text ≡ Some n → text_at
 
 -- numbers are such, and what is noted is the number of the text there
 pub record AreNumbers (pool : List Entry) (ns : Numbers) : Type 0 where
-  pub first : IsFirst pool (number_of ns)
+  pub first : IsFirst pool (number_of pool ns)
   pub known : (i : ℕ) → (number_at ns.noted.items i ≡ 0 → ⊥) → IsNoted pool ns i
   pub all : length ns.noted.items ≡ length pool
 
 -- a text that has a number keeps it
-abbrev pub Grows : Numbers → Numbers → Type 0
-Grows old new = (text : List ℕ) (n : ℕ) → number_of old text ≡ Some n → number_of new text ≡ Some n
+abbrev pub Grows : List Entry → Numbers → Numbers → Type 0
+Grows pool old new =
+    (text : List ℕ) (n : ℕ) → number_of pool old text ≡ Some n → number_of pool new text ≡ Some n
+
+-- the text has this number, and no other's changed
+abbrev pub Puts : List Entry → Numbers → Numbers → List ℕ → ℕ → Type 0
+Puts pool old new text n =
+    (u : List ℕ)
+    → number_of pool new u ≡ (if bytes_eq text u then Some n else number_of pool old u)
+
+-- a slot that was free has this number, and no other's changed
+pub record Takes (old new : List ℕ) (i n : ℕ) : Type 0 where
+  pub within : i < length old
+  pub free : slot_at old i ≡ 0
+  pub put : new ≡ set old i n
 
 -- the text at an index was asked for, and no other's number changed
 pub record Notes (pool : List Entry) (old new : Numbers) (i : ℕ) : Type 0 where

@@ -1,5 +1,5 @@
 -- What is read, without where it lies in memory.
-use Rattle.std.specs.Prelude.{◌≡◌, ℕ, ◌+◌, ◌≤◌, List, [], length, map}
+use Rattle.std.specs.Prelude.{◌≡◌, ℕ, ◌+◌, ◌≤◌, nat_le, if◌then◌else◌, List, [], length, map}
 use Rattle.std.specs.List.{flat_map}
 use Rattle.cl_names.specs.Text.{IsModifiedUtf8}
 use Rattle.cl_names.specs.Name.{part_of}
@@ -25,6 +25,7 @@ use Rattle.cl_classfile.specs.declared.raw.RawEntry.{RawEntry}
 use Rattle.cl_classfile.specs.declared.raw.RawEntry.TheVariants as raw
 use Rattle.cl_classfile.specs.declared.reading.RawFile.{RawFile}
 use Rattle.cl_classfile.specs.Structure.{Structure}
+use Rattle.cl_names.specs.declared.digest.TheConstants.{MOST_SHARED_BYTES}
 use Rattle.cl_names.specs.declared.kind.TheConstants.{MOST_TEXT_BYTES}
 
 -- an entry without where its text lies (4.4)
@@ -67,14 +68,14 @@ abbrev pub HoldsText : Entry → Type 0
 HoldsText (Utf8 text) = IsModifiedUtf8 text × (length text ≤ MOST_TEXT_BYTES)
 HoldsText _ = Unit {0}
 
--- the bytes of the text that an entry is, if it is one (4.4.7)
-abbrev pub text_in : Entry → List ℕ
-text_in (Utf8 text) = text
-text_in _ = []
+-- the bytes of the text that an entry is, if it is one that is short enough to stand among others (4.4.7)
+abbrev pub shared_in : Entry → List ℕ
+shared_in (Utf8 text) = if nat_le (length text) MOST_SHARED_BYTES then text else []
+shared_in _ = []
 
--- the texts of the entries, one behind the other
-abbrev pub texts_in : List Entry → List ℕ
-texts_in es = flat_map text_in es
+-- these texts of the entries, one behind the other
+abbrev pub all_shared_in : List Entry → List ℕ
+all_shared_in es = flat_map shared_in es
 
 -- the text stands in these bytes from a place on
 pub record IsPart (text : List ℕ) (start : ℕ) (bytes : List ℕ) : Type 0 where

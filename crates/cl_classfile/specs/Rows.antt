@@ -18,6 +18,8 @@ use Rattle.std.specs.Prelude.{
   unwrap_or,
   if◌then◌else◌,
   bytes_eq,
+  slice_index,
+  ◌≡◌,
 }
 use Rattle.cl_names.specs.Text.{is_text}
 use Rattle.cl_names.specs.Kind.{is_class_name, is_unqualified_name, is_method_name, init, clinit}
@@ -95,6 +97,10 @@ traits_of text = record {
   form = form_of text;
   units = units_of text;
 }
+
+-- a ; stands somewhere in it (4.3.2)
+abbrev pub HasSemicolon : List ℕ → Type 0
+HasSemicolon text = (i : ℕ) × (slice_index text i ≡ 0x3b)
 
 -- of what is no text nothing is true (4.4)
 abbrev pub nothing : Traits

@@ -3,6 +3,7 @@ ghost use Rattle.std.specs.Option.{option_map};
 ghost use Rattle.std.specs.List.{list_all};
 ghost use Rattle.cl_classfile.specs.Structure.{object};
 ghost use Rattle.cl_classfile.specs.Files.{text_at, type_name, is_array_name, class_name};
+ghost use Rattle.cl_classfile.specs.Lookups.{is_this};
 ghost use Rattle.cl_classfile.specs.Flags.{has, interface};
 ghost use Rattle.cl_names.specs.Steps.{Finds};
 ghost use Rattle.cl_classfile.specs.Checking.{may_stand_above, keeps_super, keeps_names, keeps_interfaces, checked_class};
@@ -22,6 +23,16 @@ pub fn text_at(pool: &[Entry], index: u16) -> Option<&Name>
     match item_at(pool, index) {
         Some(Entry::Utf8(text)) => Some(text),
         _ => None,
+    }
+}
+
+/// Whether the entry at an index is this text. Of texts of another length no byte is looked at.
+pub fn is_text(pool: &[Entry], index: u16, text: &Name) -> bool
+    ensures { result ≡ is_this text.now (text_at pool.now index) }
+{
+    match text_at(pool, index) {
+        Some(found) => found == text,
+        None => false,
     }
 }
 

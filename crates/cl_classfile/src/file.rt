@@ -1,4 +1,4 @@
-ghost use Rattle.std.specs.Prelude.{◌≡◌, ◌↔◌, ℕ, List, is_some, IfOk, IfErr, IfSome, Ok, IsErrOf, slice_get};
+ghost use Rattle.std.specs.Prelude.{◌≡◌, ◌≤◌, ◌↔◌, ℕ, List, is_some, IfOk, IfErr, IfSome, Ok, IsErrOf, slice_get};
 ghost use Rattle.std.specs.Option.{option_map, option_and_then};
 ghost use Rattle.cl_classfile.specs.declared.fault.Fault.{Fault};
 ghost use Rattle.cl_classfile.specs.declared.fault.Fault.TheVariants as faults;
@@ -12,6 +12,7 @@ ghost use Rattle.cl_classfile.specs.Raw.{plain_file, HoldsText};
 ghost use Rattle.cl_classfile.specs.View.{plain_parts};
 ghost use Rattle.cl_classfile.specs.Refusals.{GivesFile};
 ghost use Rattle.cl_classfile.specs.Indexes.{IsIndexOf};
+ghost use Rattle.cl_classfile.specs.Mentions.{AreMentionsOf};
 ghost use Rattle.cl_names.specs.Steps.{Finds};
 ghost use Rattle.cl_classfile.specs.Checking.{Gives, checked_attributes, checked_tables, kept_file, parts_of};
 ghost use Rattle.cl_classfile.specs.Reading.{header_at, read_of};
@@ -25,6 +26,7 @@ use crate::index::{Index, are_few, index_of};
 use crate::limits::MOST_ENTRIES;
 use crate::member::{Member, attributes_fit};
 use crate::members::{Kind, check_few, check_members};
+use crate::mentions::{Mentions, mentions_of};
 use crate::numbers::numbers_of;
 use crate::parts::{Parts, Refused};
 use crate::raw::{RawEntry, borrowed_entries, owned_entries};
@@ -43,6 +45,8 @@ pub struct ClassFile {
     parts: Parts,
     /// Where fields and methods stand, unless they are few.
     index: Option<Index>,
+    /// Which interfaces one text names.
+    mentions: Mentions,
 }
 
 impl Model for ClassFile {
@@ -52,10 +56,11 @@ impl Model for ClassFile {
 
     ghost use Rattle.cl_classfile.specs.View.{structure};
     ghost use Rattle.cl_classfile.specs.Indexes.{IsIndexOf};
+    ghost use Rattle.cl_classfile.specs.Mentions.{AreMentionsOf};
 
     ghost view = { structure };
 
-    ghost invariant = { λ f. IsClassFile (structure f) × IsIndexOf f.index (structure f) };
+    ghost invariant = { λ f. IsClassFile (structure f) × IsIndexOf f.index (structure f) × AreMentionsOf (structure f) f.mentions };
 }
 
 impl ClassFile {
@@ -79,7 +84,7 @@ impl ClassFile {
         ensures back { IfErr result (λ r. r.parts ≡ parts) }
     {
         match check_parts(alloc, &parts) {
-            Ok(index) => Ok(class_file(parts, index)),
+            Ok((index, mentions)) => Ok(class_file(parts, index, mentions)),
             Err(error) => Err(Refused { parts, error }),
         }
     }
@@ -186,6 +191,17 @@ impl ClassFile {
         interface_name(&self.parts, place)
     }
 
+    /// The place of a direct superinterface of the same name as the one at a place, which comes first or is that one: of the
+    /// interfaces that one text of the pool names the first, where the class names more than a few. So who looks through
+    /// the interfaces need not compare a long name as often as it is named. Constant time.
+    pub fn first_of_name(&self, place: usize) -> usize
+        ensures before { result ≤ place }
+        ensures same { slice_get (file_of self.now).interfaces result
+            ≡ slice_get (file_of self.now).interfaces place }
+    {
+        self.mentions.first(place)
+    }
+
     /// What the entry at an index refers to, and nothing where it is neither a class or an array nor a member of one
     /// (JVMS SE 8, 4.4.1, 4.4.2).
     pub fn reference(&self, index: u16) -> Option<Reference<'_>>
@@ -209,12 +225,17 @@ fn interface_name(parts: &Parts, place: usize) -> Option<&Name>
     class_name(parts.pool.as_slice(), *index)
 }
 
-fn class_file(parts: Parts, index: Option<Index>) -> ClassFile
+fn class_file(parts: Parts, index: Option<Index>, mentions: Mentions) -> ClassFile
     requires file { IsClassFile (plain_parts parts) }
     requires index { IsIndexOf index (plain_parts parts) }
+    requires mentions { AreMentionsOf (plain_parts parts) mentions }
     ensures { result ≡ plain_parts parts }
 {
-    ClassFile { parts, index }
+    ClassFile {
+        parts,
+        index,
+        mentions,
+    }
 }
 
 /// Whether the attributes fit their widths.
@@ -247,10 +268,10 @@ fn check_tables(alloc: Global, traits: &[Traits], parts: &Parts) -> Result<Optio
         return Ok(None);
     }
     let numbers = numbers_of(alloc, pool, fields, methods)?;
-    check_members(alloc, Kind::Field, traits, &numbers, of_interface, fields)?;
-    check_members(alloc, Kind::Method, traits, &numbers, of_interface, methods)?;
+    let fields = check_members(alloc, Kind::Field, traits, &numbers, of_interface, fields)?;
+    let methods = check_members(alloc, Kind::Method, traits, &numbers, of_interface, methods)?;
     check_attributes(parts.attributes.as_slice())?;
-    Ok(index_of(alloc, numbers, fields, methods)?)
+    Ok(Some(index_of(numbers, fields, methods)))
 }
 
 /// Marks the text by which a class is named.
@@ -305,14 +326,16 @@ fn kept_file(alloc: Global, file: RawFile<'_>) -> Result<ClassFile, ReadError>
     check_entries(traits.as_slice(), file.pool.as_slice())?;
     let parts = owned_parts(alloc, file)?;
     let index = check_tables(alloc, traits.as_slice(), &parts)?;
-    Ok(class_file(parts, index))
+    let mentions = mentions_of(alloc, parts.pool.as_slice(), parts.interfaces.as_slice())?;
+    Ok(class_file(parts, index, mentions))
 }
 
-/// Whether the parts are those of a class file, with the index of its members.
+/// Whether the parts are those of a class file, with the index of its members and what one text names of its interfaces.
 #[tactic(auto, unfolding(crate::specs::Checking::parts_of, crate::specs::Checking::checked_pool, crate::specs::Checking::kept_file))]
-fn check_parts(alloc: Global, parts: &Parts) -> Result<Option<Index>, ReadError>
+fn check_parts(alloc: Global, parts: &Parts) -> Result<(Option<Index>, Mentions), ReadError>
     ensures parts { Gives (λ _. plain_parts parts.now) result (parts_of (plain_parts parts.now)) }
-    ensures index { IfOk result (λ i. IsIndexOf i (plain_parts parts.now)) }
+    ensures index { IfOk result (λ x. IsIndexOf x.0 (plain_parts parts.now)) }
+    ensures mentions { IfOk result (λ x. AreMentionsOf (plain_parts parts.now) x.1) }
 {
     if parts.pool.len() > MOST_ENTRIES {
         return Err(ReadError::Fault(Fault::BadPool(0)));
@@ -321,7 +344,9 @@ fn check_parts(alloc: Global, parts: &Parts) -> Result<Option<Index>, ReadError>
     check_slots(pool.as_slice())?;
     let traits = all_traits(alloc, pool.as_slice())?;
     check_entries(traits.as_slice(), pool.as_slice())?;
-    check_tables(alloc, traits.as_slice(), parts)
+    let index = check_tables(alloc, traits.as_slice(), parts)?;
+    let mentions = mentions_of(alloc, parts.pool.as_slice(), parts.interfaces.as_slice())?;
+    Ok((index, mentions))
 }
 
 #[tactic(auto, unfolding(crate::specs::Reading::read_of))]

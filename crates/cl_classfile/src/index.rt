@@ -1,11 +1,13 @@
 //! Where the members of a class stand, by their names and descriptors: made once for a class of many members, as it is read.
 
-ghost use Rattle.std.specs.Prelude.{◌≡◌, ℕ, List, true, IfOk};
+ghost use Rattle.std.specs.Prelude.{◌≡◌, ℕ, List, [], true, not, IfOk};
+ghost use Rattle.cl_classfile.specs.Structure.{Member};
 ghost use Rattle.std.specs.Option.{option_map};
 ghost use Rattle.cl_classfile.specs.declared.entry.Entry.{Entry};
 ghost use Rattle.cl_classfile.specs.Numbers.{AreNoted};
-ghost use Rattle.cl_classfile.specs.Indexes.{AreFew, IsIndexed, StandThere, led_to, member_at};
+ghost use Rattle.cl_classfile.specs.Indexes.{AreFew, Leads, StandThere, PutsPlace, has_place, led_to, member_at};
 
+use crate::entry::Entry;
 use crate::member::Member;
 use crate::numbers::Numbers;
 use cl_names::Name;
@@ -36,44 +38,37 @@ pub fn are_few(fields: &[Member], methods: &[Member]) -> bool
     fields.len() <= FEW && methods.len() <= FEW
 }
 
-/// The index of these members, which have these numbers, where they are many.
-pub fn index_of(
-    alloc: Global,
-    numbers: Numbers,
-    fields: &[Member],
-    methods: &[Member],
-) -> Result<Option<Index>, AllocError>
-    ensures { (pool : List Entry) → AreNoted pool numbers fields.now
-        → AreNoted pool numbers methods.now
-        → IfOk result (IsIndexed pool fields.now methods.now) }
+/// The index of members that have these numbers and stand at these places.
+pub fn index_of(numbers: Numbers, fields: Places, methods: Places) -> Index
+    ensures { (pool : List Entry) (fs ms : List Member) → AreNoted pool numbers fs
+        → AreNoted pool numbers ms → StandThere numbers fields fs → StandThere numbers methods ms
+        → Leads pool result fs ms }
 {
-    if are_few(fields, methods) {
-        return Ok(None);
-    }
-    let fields = places_of(alloc, &numbers, fields)?;
-    let methods = places_of(alloc, &numbers, methods)?;
-    Ok(Some(Index {
+    Index {
         numbers,
         fields,
         methods,
-    }))
-}
-
-/// Where each of these members stands.
-fn places_of(alloc: Global, numbers: &Numbers, members: &[Member]) -> Result<Places, AllocError>
-    ensures { IfOk result (λ ps. StandThere numbers.now ps members.now) }
-{
-    let mut map = BTreeMap::new(alloc);
-    for i in 0..members.len() {
-        let member = &members[i];
-        let name = numbers.at(member.name_index());
-        let descriptor = numbers.at(member.descriptor_index());
-        map.insert((name, descriptor), i)?;
     }
-    Ok(Places { map })
 }
 
 impl Places {
+    /// Of no members.
+    pub fn new(alloc: Global) -> Places
+        ensures { result.map.entries ≡ [] }
+    {
+        Places {
+            map: BTreeMap::new(alloc),
+        }
+    }
+
+    /// Puts the place of a member of these numbers. Answers whether there was none.
+    pub fn put(&mut self, name: u16, descriptor: u16, place: usize) -> Result<bool, AllocError>
+        ensures { IfOk result (λ first. (first ≡ not (has_place self.old (name, descriptor)))
+            × PutsPlace self.old self.new (name, descriptor) place) }
+    {
+        Ok(self.map.insert((name, descriptor), place)?.is_none())
+    }
+
     /// The member of these numbers.
     fn member<'a>(&self, members: &'a [Member], name: u16, descriptor: u16) -> Option<&'a Member>
         ensures { option_map (λ m. m.now) result ≡ member_at self.now members.now name descriptor }
@@ -85,6 +80,7 @@ impl Places {
 
 /// The member of this name and this descriptor among these, which stand at these places by the numbers of their texts.
 pub fn led_to<'a>(
+    pool: &[Entry],
     numbers: &Numbers,
     places: &Places,
     members: &'a [Member],
@@ -92,9 +88,9 @@ pub fn led_to<'a>(
     descriptor: &Name,
 ) -> Option<&'a Member>
     ensures { option_map (λ m. m.now) result
-        ≡ led_to numbers.now places.now members.now name.now descriptor.now }
+        ≡ led_to pool.now numbers.now places.now members.now name.now descriptor.now }
 {
-    let name = numbers.number_of(name)?;
-    let descriptor = numbers.number_of(descriptor)?;
+    let name = numbers.number_of(pool, name)?;
+    let descriptor = numbers.number_of(pool, descriptor)?;
     places.member(members, name, descriptor)
 }

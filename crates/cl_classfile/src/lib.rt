@@ -14,6 +14,7 @@ mod limits;
 mod lookup;
 mod member;
 mod members;
+mod mentions;
 mod numbers;
 mod parts;
 mod pool;

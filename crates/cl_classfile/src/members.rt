@@ -1,18 +1,20 @@
 //! The tables of fields and methods (JVMS SE 8, 4.5, 4.6).
 
-ghost use Rattle.std.specs.Prelude.{◌≡◌, List, [], ◌∷◌, ◌++◌, not, IfOk};
+ghost use Rattle.std.specs.Prelude.{◌≡◌, ◌+◌, List, [], ◌∷◌, ◌++◌, not, Some, slice_get, IfOk};
 ghost use Rattle.std.specs.List.{list_any};
 ghost use Rattle.cl_classfile.specs.Members.{Member};
 ghost use Rattle.cl_names.specs.Steps.{Finds};
 ghost use Rattle.cl_classfile.specs.Checking.{Gives, keeps_field, has_room, keeps_method_flags, keeps_method, keeps_member, same_member, checked_list};
 ghost use Rattle.cl_classfile.specs.Numbers.{AreNumbers, AreNoted, IsMemberNoted, number_of};
 ghost use Rattle.cl_classfile.specs.Seen.{HasPairs};
+ghost use Rattle.cl_classfile.specs.Indexes.{has_place, StandTo, StandThere};
 ghost use Rattle.cl_classfile.specs.declared.entry.Entry.{Entry};
 
 use crate::checking::text_at;
 use crate::entry::Entry;
 use crate::fault::{Fault, ReadError};
 use crate::flags::{is_field_flags, is_init_flags, is_method_flags, is_static};
+use crate::index::Places;
 use crate::limits::MOST_COUNTED;
 use crate::member::Member;
 use crate::numbers::Numbers;
@@ -20,7 +22,6 @@ use crate::rows::traits_at;
 use crate::traits::{Special, Traits, is_field};
 use cl_descriptors::MOST_UNITS;
 use std::alloc::{AllocError, Global};
-use std::collections::BTreeSet;
 
 /// Which members of a class.
 #[derive(Clone, Copy)]
@@ -132,27 +133,31 @@ pub fn check_few(
     Ok(())
 }
 
-/// Whether none of those seen has the name and the descriptor of this member, which is seen from now on.
+/// Whether no member that was placed has the name and the descriptor of this one, which is placed from now on.
 fn is_new(
-    seen: &mut BTreeSet<(u16, u16), Global>,
+    places: &mut Places,
     numbers: &Numbers,
     member: &Member,
+    place: usize,
 ) -> Result<bool, AllocError>
-    ensures { (pool : List Entry) (before : List Member) → AreNumbers pool numbers.now
+    ensures seen { (pool : List Entry) (before : List Member) → AreNumbers pool numbers.now
         → IsMemberNoted pool numbers.now member.now
-        → HasPairs pool (number_of numbers.now) seen.old.keys before
+        → HasPairs pool (number_of pool numbers.now) (has_place places.old) before
         → IfOk result (λ new. (new ≡ not (list_any (λ e. same_member pool e member.now) before))
-        × HasPairs pool (number_of numbers.now) seen.new.keys (before ++ member.now ∷ [])) }
+        × HasPairs pool (number_of pool numbers.now) (has_place places.new)
+        (before ++ member.now ∷ [])) }
+    ensures placed { (members : List Member) → slice_get members place ≡ Some member.now
+        → StandTo numbers.now places.old members place
+        → IfOk result (λ _. StandTo numbers.now places.new members (place + 1)) }
 {
     let name = numbers.at(member.name_index());
     let descriptor = numbers.at(member.descriptor_index());
-    if name == 0 || descriptor == 0 {
-        return Ok(true);
-    }
-    Ok(seen.insert((name, descriptor))?)
+    let first = places.put(name, descriptor, place)?;
+    Ok((name == 0) | (descriptor == 0) | first)
 }
 
-/// Whether a count can say how many members there are, each keeps its table, and agrees with none before it.
+/// Where each of the members stands, if a count can say how many there are, each keeps its table, and agrees with none before
+/// it.
 #[tactic(auto, unfolding(crate::specs::Checking::checked_list))]
 pub fn check_members(
     alloc: Global,
@@ -161,23 +166,24 @@ pub fn check_members(
     numbers: &Numbers,
     of_interface: bool,
     members: &[Member],
-) -> Result<(), ReadError>
+) -> Result<Places, ReadError>
     // In a pool of whose texts these are the numbers.
-    ensures { (pool : List Entry) → AreNoted pool numbers.now members.now
-        → Gives (λ u. u) result (checked_list kind traits.now of_interface pool members.now) }
+    ensures checked { (pool : List Entry) → AreNoted pool numbers.now members.now
+        → Gives (λ _. tt) result (checked_list kind traits.now of_interface pool members.now) }
+    ensures placed { IfOk result (λ ps. StandThere numbers.now ps members.now) }
 {
     if members.len() > MOST_COUNTED {
         return Err(ReadError::Fault(Fault::BadMember));
     }
-    let mut seen = BTreeSet::new(alloc);
+    let mut places = Places::new(alloc);
     for i in 0..members.len() {
         let member = &members[i];
         if !keeps_member(kind, traits, of_interface, member) {
             return Err(ReadError::Fault(Fault::BadMember));
         }
-        if !is_new(&mut seen, numbers, member)? {
+        if !is_new(&mut places, numbers, member, i)? {
             return Err(ReadError::Fault(Fault::Duplicate));
         }
     }
-    Ok(())
+    Ok(places)
 }

@@ -1,25 +1,53 @@
-//! Numbers of texts, the same for equal ones: each text that members name is compared with others once, however many members
-//! name it and however long it is.
+//! Numbers of texts, the same for equal ones: each text that members name is looked for once, however many members name it and
+//! however long it is.
 
-ghost use Rattle.std.specs.Prelude.{◌≡◌, IfOk};
+ghost use Rattle.std.specs.Prelude.{◌≡◌, List, true, false, Some, None, IfOk, bit_and};
+ghost use Rattle.cl_classfile.specs.declared.entry.Entry.{Entry};
 ghost use Rattle.cl_classfile.specs.Files.{text_at};
-ghost use Rattle.cl_classfile.specs.Numbers.{IsNumber, AreNumbers, AreNoted, Notes, Grows, NotesAll, number_of, number_at, with_number};
+ghost use Rattle.cl_classfile.specs.Numbers.{IsNumber, AreNumbers, AreNoted, Notes, Grows, NotesAll, Puts, Takes, rank_of, slot_at, found, number_of, number_at, with_number};
 
-use crate::checking::text_at;
+use crate::checking::{is_text, text_at};
 use crate::entry::Entry;
 use crate::indices::item_at;
 use crate::member::Member;
 use cl_names::Name;
 use std::alloc::{AllocError, Global};
 use std::collections::BTreeMap;
+use std::hash::{FoldHasher, Hash, Hasher};
 
-/// The numbers of texts.
+/// The numbers of texts: of each text that was met, the first index of it that was asked for.
 #[derive(Debug, Drop)]
 pub struct Numbers {
-    /// Of each text that was met, the first index of it that was asked for: its number.
-    met: BTreeMap<Name, u16, Global>,
+    /// The number of the first text that was met of those that share a slot, or 0: few do.
+    slots: Vec<u16>,
+    /// Which bits of a rank tell the slot.
+    mask: usize,
+    /// The numbers of the texts whose slot another had before them. Who picks texts can make all of them share one, so this
+    /// map is in order.
+    others: BTreeMap<Name, u16, Global>,
     /// Of each index of the pool the number of the text there, or 0 where it was not asked for.
     noted: Vec<u16>,
+}
+
+/// The rank of a text, which equal texts have alike. Of a long one no byte is looked at (`Name` keeps a digest).
+#[tactic(auto, unfolding(crate::specs::Numbers::rank_of))]
+fn rank_of(text: &Name) -> usize
+    ensures { result ≡ rank_of text.now }
+{
+    let mut hasher = FoldHasher::default();
+    text.hash(&mut hasher);
+    hasher.finish() as usize
+}
+
+/// The mask of some eight slots for each of so many members, and of at least 128.
+fn mask_of(members: usize) -> usize {
+    let mut mask = 127usize;
+    for _ in 0..12 {
+        if mask / 8 < members {
+            mask = mask.wrapping_mul(2) | 1;
+        }
+    }
+    mask
 }
 
 /// The numbers of the texts that the members name.
@@ -32,8 +60,11 @@ pub fn numbers_of(
     ensures fields { IfOk result (λ ns. AreNoted pool.now ns fields.now) }
     ensures methods { IfOk result (λ ns. AreNoted pool.now ns methods.now) }
 {
+    let mask = mask_of(fields.len().saturating_add(methods.len()));
     let mut numbers = Numbers {
-        met: BTreeMap::new(alloc),
+        slots: vec![in alloc; 0u16; mask.saturating_add(1)]?,
+        mask,
+        others: BTreeMap::new(alloc),
         noted: vec![in alloc; 0u16; pool.len()]?,
     };
     numbers.note_all(alloc, pool, fields)?;
@@ -52,11 +83,30 @@ impl Numbers {
         }
     }
 
-    /// The number of a text, if a member that was asked for names it.
-    pub fn number_of(&self, text: &Name) -> Option<u16>
-        ensures { result ≡ number_of self.now text.now }
+    /// The number of a text, if a member that was asked for names it, in the pool that was asked. Bytes are looked at where a
+    /// text of the same slot was met.
+    pub fn number_of(&self, pool: &[Entry], text: &Name) -> Option<u16>
+        ensures { result ≡ number_of pool.now self.now text.now }
     {
-        self.met.get(text).copied()
+        self.found(pool, rank_of(text), text)
+    }
+
+    /// The number of the text of this rank.
+    fn found(&self, pool: &[Entry], rank: usize, text: &Name) -> Option<u16>
+        ensures { result ≡ found pool.now self.now rank text.now }
+    {
+        let number = self.slot(rank);
+        if is_text(pool, number, text) {
+            return Some(number);
+        }
+        self.others.get(text).copied()
+    }
+
+    /// The number that the slot of this rank has, or 0.
+    fn slot(&self, rank: usize) -> u16
+        ensures { result ≡ slot_at self.now.slots.items (bit_and rank self.now.mask) }
+    {
+        self.slots.get(rank & self.mask).copied().unwrap_or(0)
     }
 
     /// Asks for the texts of these members.
@@ -91,27 +141,68 @@ impl Numbers {
     /// The number of the text at an index, or 0 where it is none.
     fn number(&mut self, alloc: Global, pool: &[Entry], index: u16) -> Result<u16, AllocError>
         requires { AreNumbers pool.now self.old }
-        ensures is { IfOk result (λ n. IsNumber (number_of self.new) (text_at pool.now index) n) }
+        ensures is { IfOk result
+            (λ n. IsNumber (number_of pool.now self.new) (text_at pool.now index) n) }
         ensures numbers { IfOk result (λ _. AreNumbers pool.now self.new) }
-        ensures grows { IfOk result (λ _. Grows self.old self.new) }
+        ensures grows { IfOk result (λ _. Grows pool.now self.old self.new) }
         ensures noted { self.new.noted.items ≡ self.old.noted.items }
     {
         let Some(text) = text_at(pool, index) else {
             return Ok(0);
         };
-        match self.met.insert(text.try_clone(alloc)?, index)? {
-            None => Ok(index),
-            Some(number) => {
-                // (a pool seldom has a text twice: who looked first would search twice for nearly all)
-                self.met.insert(text.try_clone(alloc)?, number)?;
-                Ok(number)
-            }
+        let rank = rank_of(text);
+        if let Some(number) = self.found(pool, rank, text) {
+            return Ok(number);
         }
+        self.meet(alloc, rank, text, index)?;
+        Ok(index)
+    }
+
+    /// Gives a text that has none this number.
+    fn meet(
+        &mut self,
+        alloc: Global,
+        rank: usize,
+        text: &Name,
+        number: u16,
+    ) -> Result<(), AllocError>
+        requires { rank ≡ rank_of text.now }
+        ensures met { (pool : List Entry) → text_at pool number ≡ Some text.now
+            → number_of pool self.old text.now ≡ None
+            → IfOk result (λ _. Puts pool self.old self.new text.now number) }
+        ensures noted { self.new.noted.items ≡ self.old.noted.items }
+    {
+        if self.take_slot(rank & self.mask, number) {
+            return Ok(());
+        }
+        self.others.insert(text.try_clone(alloc)?, number)?;
+        Ok(())
+    }
+
+    /// Puts a number into a slot, if it is free.
+    fn take_slot(&mut self, place: usize, number: u16) -> bool
+        ensures took { result ≡ true
+            → Takes self.old.slots.items self.new.slots.items place number }
+        ensures left { result ≡ false → self.new.slots ≡ self.old.slots }
+        ensures mask { self.new.mask ≡ self.old.mask }
+        ensures others { self.new.others ≡ self.old.others }
+        ensures noted { self.new.noted ≡ self.old.noted }
+    {
+        if place >= self.slots.len() {
+            return false;
+        }
+        if self.slots[place] != 0 {
+            return false;
+        }
+        self.slots[place] = number;
+        true
     }
 
     fn put(&mut self, index: u16, number: u16)
         ensures noted { self.new.noted.items ≡ with_number self.old.noted.items index number }
-        ensures met { self.new.met ≡ self.old.met }
+        ensures slots { self.new.slots ≡ self.old.slots }
+        ensures mask { self.new.mask ≡ self.old.mask }
+        ensures others { self.new.others ≡ self.old.others }
     {
         if index == 0 {
             return;

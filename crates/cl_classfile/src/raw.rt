@@ -1,14 +1,15 @@
 //! Entries of the pool as they stand in the bytes.
 
-ghost use Rattle.std.specs.Prelude.{◌≡◌, IfOk};
+ghost use Rattle.std.specs.Prelude.{◌≡◌, ◌≤◌, length, IfOk};
 ghost use Rattle.cl_classfile.specs.Pool.{is_wide};
 ghost use Rattle.std.specs.List.{AllByRecursion};
 ghost use Rattle.std.specs.Arc.{arc_slice_items};
-ghost use Rattle.cl_classfile.specs.Raw.{plain_entry, plain_entries, HoldsText, IsPart, text_in, texts_in};
+ghost use Rattle.cl_names.specs.declared.digest.TheConstants.{MOST_SHARED_BYTES};
+ghost use Rattle.cl_classfile.specs.Raw.{plain_entry, plain_entries, HoldsText, IsPart, all_shared_in, shared_in};
 ghost use Rattle.cl_classfile.specs.declared.entry.Entry.TheVariants as entries;
 
 use crate::entry::Entry;
-use cl_names::Name;
+use cl_names::{MOST_SHARED_BYTES, Name};
 use std::alloc::{AllocError, Global};
 use std::sync::ArcSlice;
 
@@ -42,38 +43,44 @@ pub fn is_wide(entry: RawEntry<'_>) -> bool
     }
 }
 
-/// The bytes of the text that an entry is, if it is one.
-fn text_in(entry: RawEntry<'_>) -> &[u8]
-    ensures { result.now ≡ text_in (plain_entry entry.entry) }
+/// The bytes of the text that an entry is, if it is one that is short enough to stand among the shared ones.
+fn shared_in(entry: RawEntry<'_>) -> &[u8]
+    ensures { result.now ≡ shared_in (plain_entry entry.entry) }
 {
     match entry {
-        RawEntry::Utf8(text) => text,
+        RawEntry::Utf8(text) => {
+            if text.len() <= MOST_SHARED_BYTES {
+                text
+            } else {
+                b"".as_slice()
+            }
+        }
         _ => b"".as_slice(),
     }
 }
 
-/// How many bytes the texts of the entries have, or so many as there can be.
-fn texts_len(pool: &[RawEntry<'_>]) -> usize {
+/// How many bytes these texts of the entries have, or so many as there can be.
+fn shared_len(pool: &[RawEntry<'_>]) -> usize {
     let mut len = 0usize;
     for entry in pool {
-        len = len.saturating_add(text_in(*entry).len());
+        len = len.saturating_add(shared_in(*entry).len());
     }
     len
 }
 
-/// The texts of the entries, one behind the other.
-fn texts_of(alloc: Global, pool: &[RawEntry<'_>]) -> Result<Vec<u8>, AllocError>
-    ensures { IfOk result (λ v. v.items ≡ texts_in (plain_entries pool.now)) }
+/// These texts of the entries, one behind the other.
+fn shared_of(alloc: Global, pool: &[RawEntry<'_>]) -> Result<Vec<u8>, AllocError>
+    ensures { IfOk result (λ v. v.items ≡ all_shared_in (plain_entries pool.now)) }
 {
-    let mut texts = Vec::with_capacity(alloc, texts_len(pool))?;
+    let mut texts = Vec::with_capacity(alloc, shared_len(pool))?;
     for entry in pool {
-        texts.extend_from_slice(text_in(*entry))?;
+        texts.extend_from_slice(shared_in(*entry))?;
     }
     Ok(texts)
 }
 
-/// The name of a text, which was looked at before and stands among the shared ones from `start` on: a part of these, or
-/// with bytes of its own.
+/// The name of a text, which was looked at before and stands among the shared ones from `start` on, unless it is long: a part
+/// of these, or with bytes of its own.
 fn name_of(
     alloc: Global,
     shared: &ArcSlice<u8>,
@@ -82,10 +89,11 @@ fn name_of(
     text: &[u8],
 ) -> Result<Name, AllocError>
     requires text { HoldsText (entries.Utf8 text.now) }
-    requires place { IsPart text.now start (arc_slice_items shared.now) }
+    requires place { length text.now ≤ MOST_SHARED_BYTES
+        → IsPart text.now start (arc_slice_items shared.now) }
     ensures { IfOk result (λ name. name ≡ text.now) }
 {
-    if is_apart {
+    if is_apart || text.len() > MOST_SHARED_BYTES {
         Name::of_text(alloc, text)
     } else {
         Name::of_part(alloc, shared, start, text.len())
@@ -101,7 +109,7 @@ fn owned_entry(
     entry: RawEntry<'_>,
 ) -> Result<Entry, AllocError>
     requires text { HoldsText (plain_entry entry) }
-    requires place { IsPart (text_in (plain_entry entry)) start (arc_slice_items shared.now) }
+    requires place { IsPart (shared_in (plain_entry entry)) start (arc_slice_items shared.now) }
     ensures { IfOk result (λ e. e ≡ plain_entry entry.entry) }
 {
     Ok(match entry {
@@ -147,8 +155,8 @@ fn owned_entry(
     })
 }
 
-/// The entries of their own. Their texts share one allocation, but for those at the places that are marked: these have
-/// bytes of their own, since copies of them may outlive the file.
+/// The entries of their own. Their texts share one allocation, but for long ones and those at the places that are marked: these
+/// have bytes of their own, since copies of them may outlive the file.
 pub fn owned_entries(
     alloc: Global,
     pool: &[RawEntry<'_>],
@@ -157,13 +165,13 @@ pub fn owned_entries(
     requires { AllByRecursion HoldsText (plain_entries pool.now) }
     ensures { IfOk result (λ v. v.items ≡ plain_entries pool.now) }
 {
-    let shared = ArcSlice::from_vec(texts_of(alloc, pool)?)?;
+    let shared = ArcSlice::from_vec(shared_of(alloc, pool)?)?;
     let mut entries = Vec::with_capacity(alloc, pool.len())?;
     let mut start = 0;
     for (i, entry) in pool.iter().enumerate() {
         let is_apart = apart.get(i).copied().unwrap_or(false);
         entries.push(owned_entry(alloc, &shared, start, is_apart, *entry)?)?;
-        start += text_in(*entry).len();
+        start += shared_in(*entry).len();
     }
     Ok(entries)
 }

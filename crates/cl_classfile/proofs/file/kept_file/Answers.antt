@@ -8,6 +8,7 @@ use Rattle.cl_classfile.specs.Rows.{entry_traits}
 use Rattle.cl_classfile.specs.Checking.{checked_entries, checked_tables}
 use Rattle.cl_classfile.proofs.Entries.{texts_held}
 use Rattle.cl_classfile.proofs.Exact.{is_class_file}
+use Rattle.cl_classfile.proofs.Mentioning.{mentions_alike}
 use Rattle.cl_classfile.proofs.file.kept_file.Goals as goal
 
 abbrev traits_of : List RawEntry → List Traits
@@ -33,3 +34,6 @@ owned_parts-requires c =
     let rows : checked_entries f.pool 1 f.pool ≡ Ok c.in_ok-check_entries.field-0 =
     ap (λ (rs : List RawEntry). checked_entries (plain_entries rs) 1 (plain_entries rs)) (sym c.as_slice-3.ensures.value) ∙ c.in_ok-check_entries.ensures in
     texts_held f.pool 1 f.pool c.in_ok-check_entries.field-0 rows
+
+pub class_file-requires-clause-mentions : goal.class_file-requires-clause-mentions
+class_file-requires-clause-mentions c = mentions_alike _ _ _ _ _ c.as_slice-5.ensures.value c.as_slice-6.ensures.value c.in_ok-mentions.ensures

@@ -15,6 +15,6 @@ pub loop-i-preserved : goal.loop-i-preserved
 loop-i-preserved c = record {
   made = one_made c.loop-i.entries.items c.push.new.self.items c.args.pool.now c.loop-i.i _ c.in_ok-owned_entry.field-0 c.loop-i-test.true c.in_ok-push.ensures.items c.in_ok-owned_entry.ensures c.loop-i.invariant.made;
   left =
-      subst (λ (text : List ℕ). AreFrom (c.loop-i.start + length text) (arc_slice_items c.in_ok-shared.shared) c.args.pool.now (c.loop-i.i + 1)) (sym c.text_in.ensures)
+      subst (λ (text : List ℕ). AreFrom (c.loop-i.start + length text) (arc_slice_items c.in_ok-shared.shared) c.args.pool.now (c.loop-i.i + 1)) (sym c.shared_in.ensures)
       (goes_on c.loop-i.start (arc_slice_items c.in_ok-shared.shared) c.args.pool.now c.loop-i.i _ c.loop-i-test.true c.loop-i.invariant.left);
 }

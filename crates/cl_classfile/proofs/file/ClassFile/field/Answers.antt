@@ -10,11 +10,11 @@ returns-in-Some c =
     let sound = c.in-Some.ensures.sound in
     let index = c.in-Some.it.now in
     let led : Leads f.pool index f.fields f.methods = c.in-Some.ensures.index in
-    by_index (λ m. m.now) (linked_field f) f.pool f.fields c.fields.result.now c.fields.ensures c.args.name.now c.args.descriptor.now c.led_to.result index.numbers index.fields led.fields sound.kept.fields.new c.led_to.ensures
+    by_index (λ m. m.now) (linked_field f) f.pool f.fields c.fields-fields.result.now c.fields-fields.ensures c.args.name.now c.args.descriptor.now c.led_to.result c.pool-pool.result.now c.pool-pool.ensures.entries index.numbers index.fields led.fields sound.kept.fields.new c.led_to.ensures
     ∙ field_is f sound c.args.name.now c.args.descriptor.now
 
 pub returns-in-None : goal.returns-in-None
 returns-in-None c =
     let f = c.args.self.now in
-    by_look (λ m. m.now) (linked_field f) f.pool f.fields c.fields-in-None.result.now c.fields-in-None.ensures c.args.name.now c.args.descriptor.now c.find.result c.pool.result.now c.pool.ensures.entries c.find.ensures
-    ∙ field_is f c.pool.ensures.sound c.args.name.now c.args.descriptor.now
+    by_look (λ m. m.now) (linked_field f) f.pool f.fields c.fields-fields.result.now c.fields-fields.ensures c.args.name.now c.args.descriptor.now c.find.result c.pool-pool.result.now c.pool-pool.ensures.entries c.find.ensures
+    ∙ field_is f c.pool-pool.ensures.sound c.args.name.now c.args.descriptor.now

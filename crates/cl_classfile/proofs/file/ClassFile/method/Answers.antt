@@ -10,11 +10,11 @@ returns-in-Some c =
     let sound = c.in-Some.ensures.sound in
     let index = c.in-Some.it.now in
     let led : Leads f.pool index f.fields f.methods = c.in-Some.ensures.index in
-    by_index (λ m. m.now) (linked_method f) f.pool f.methods c.methods.result.now c.methods.ensures c.args.name.now c.args.descriptor.now c.led_to.result index.numbers index.methods led.methods sound.kept.methods.new c.led_to.ensures
+    by_index (λ m. m.now) (linked_method f) f.pool f.methods c.methods-methods.result.now c.methods-methods.ensures c.args.name.now c.args.descriptor.now c.led_to.result c.pool-pool.result.now c.pool-pool.ensures.entries index.numbers index.methods led.methods sound.kept.methods.new c.led_to.ensures
     ∙ method_is f sound c.args.name.now c.args.descriptor.now
 
 pub returns-in-None : goal.returns-in-None
 returns-in-None c =
     let f = c.args.self.now in
-    by_look (λ m. m.now) (linked_method f) f.pool f.methods c.methods-in-None.result.now c.methods-in-None.ensures c.args.name.now c.args.descriptor.now c.find.result c.pool.result.now c.pool.ensures.entries c.find.ensures
-    ∙ method_is f c.pool.ensures.sound c.args.name.now c.args.descriptor.now
+    by_look (λ m. m.now) (linked_method f) f.pool f.methods c.methods-methods.result.now c.methods-methods.ensures c.args.name.now c.args.descriptor.now c.find.result c.pool-pool.result.now c.pool-pool.ensures.entries c.find.ensures
+    ∙ method_is f c.pool-pool.ensures.sound c.args.name.now c.args.descriptor.now

@@ -1,12 +1,16 @@
 -- Classes that join others.
-use Rattle.std.proofs.Common.{◌≡◌, ◌∙◌, ◌+◌, ◌<◌, ◌≤◌, ℕ, zero, suc, arith, Bool, true, false, ◌||◌, cond, List, [], ◌∷◌, ◌++◌, Option, get_or, length, map, take, refl, sym, ap, subst}
+use Rattle.std.proofs.Common.{◌≡◌, ◌∙◌, ◌+◌, ◌<◌, ◌≤◌, ℕ, zero, suc, arith, Bool, true, false, ◌||◌, cond, List, [], ◌∷◌, ◌++◌, Option, None, Some, get_or, length, map, take, refl, sym, ap, subst}
 use Rattle.std.specs.Prelude.{option_to_list, slice_get}
+use Rattle.std.proofs.lemmas.Bool.{or_right}
 use Rattle.std.proofs.lemmas.Grind.{take_at_read}
 use Rattle.std.proofs.lemmas.List.{map_push, take_all}
+use Rattle.std.proofs.lemmas.Option.{same_Some}
+use Rattle.cl_model.proofs.Ancestors.{among_first}
+use Rattle.cl_model.proofs.Complete.{is_class}
 use Rattle.cl_model.specs.declared.class.Class.{Class}
 use Rattle.cl_model.specs.Classes.{Above, is_among, same_class}
 use Rattle.cl_hierarchy.specs.Frames.{accepted_of}
-use Rattle.cl_hierarchy.specs.Several.{Joins}
+use Rattle.cl_hierarchy.specs.Several.{Gains}
 use Rattle.cl_hierarchy.proofs.Ancestry.{same_turned}
 use Rattle.cl_hierarchy.proofs.Tours.{among_both}
 
@@ -17,7 +21,7 @@ cond_or false true = refl
 cond_or false false = refl
 
 -- one class more
-pub joins_one : (old new : List Class) (c : Class) → ((x : Class) → is_among new x ≡ cond (same_class c x) true (is_among old x)) → Joins old (c ∷ []) new
+pub joins_one : (old new : List Class) (c : Class) → ((x : Class) → is_among new x ≡ cond (same_class c x) true (is_among old x)) → Gains old (c ∷ []) new
 joins_one old new c told x = told x ∙ ap (λ (b : Bool). cond b true (is_among old x)) (same_turned c x) ∙ cond_or (is_among old x) (same_class x c)
 
 pub none_more : (b : Bool) → b ≡ (b || false)
@@ -25,7 +29,7 @@ none_more true = refl
 none_more false = refl
 
 -- none more
-pub joins_none : (cs : List Class) → Joins cs [] cs
+pub joins_none : (cs : List Class) → Gains cs [] cs
 joins_none cs x = none_more (is_among cs x)
 
 pub or_assoc : (a b c : Bool) → ((a || b) || c) ≡ (a || (b || c))
@@ -33,19 +37,19 @@ or_assoc true b c = refl
 or_assoc false b c = refl
 
 -- some and then others
-pub joins_both : (first some middle others last : List Class) → Joins first some middle → Joins middle others last → Joins first (some ++ others) last
+pub joins_both : (first some middle others last : List Class) → Gains first some middle → Gains middle others last → Gains first (some ++ others) last
 joins_both first some middle others last f g x =
     g x ∙ ap (λ (b : Bool). b || is_among others x) (f x)
     ∙ or_assoc (is_among first x) (is_among some x) (is_among others x)
     ∙ ap (λ (b : Bool). is_among first x || b) (sym (among_both some others x))
 
 -- the class of one row more
-pub joins_row : {A : Type 0} (f : A → Class) (rs : List A) (i : ℕ) (r : A) (first middle last : List Class) (c : Class) → i < length rs → r ≡ get_or rs i r → c ≡ f r → Joins first (map f (take i rs)) middle → Joins middle (c ∷ []) last
-    → Joins first (map f (take (i + 1) rs)) last
+pub joins_row : {A : Type 0} (f : A → Class) (rs : List A) (i : ℕ) (r : A) (first middle last : List Class) (c : Class) → i < length rs → r ≡ get_or rs i r → c ≡ f r → Gains first (map f (take i rs)) middle → Gains middle (c ∷ []) last
+    → Gains first (map f (take (i + 1) rs)) last
 joins_row {A} f rs i r first middle last c less is same before one =
     let more : map f (take i rs) ++ c ∷ [] ≡ map f (take (i + 1) rs) =
     ap (λ (d : Class). map f (take i rs) ++ d ∷ []) same ∙ sym (map_push f (take i rs) r) ∙ ap (λ (x : A). map f (take i rs ++ x ∷ [])) is ∙ ap (λ (xs : List A). map f xs) (sym ((take_at_read rs i r less).1)) in
-    subst (λ (cs : List Class). Joins first cs last) more (joins_both first (map f (take i rs)) middle (c ∷ []) last before one)
+    subst (λ (cs : List Class). Gains first cs last) more (joins_both first (map f (take i rs)) middle (c ∷ []) last before one)
 
 -- one more of those at places, if one stands there
 take_if : {A : Type 0} (xs : List A) (i : ℕ) → take (suc i) xs ≡ take i xs ++ option_to_list (slice_get xs i)
@@ -55,16 +59,45 @@ take_if (x ∷ []) zero = refl
 take_if (x ∷ (y ∷ xs)) zero = refl
 take_if {A} (x ∷ xs) (suc i) = ap (λ (ys : List A). x ∷ ys) (take_if xs i)
 
-pub joins_next : (cs : List Class) (i : ℕ) (o : Option Class) (first middle last : List Class) → o ≡ slice_get cs i → Joins first (take i cs) middle → Joins middle (option_to_list o) last → Joins first (take (i + 1) cs) last
+pub joins_next : (cs : List Class) (i : ℕ) (o : Option Class) (first middle last : List Class) → o ≡ slice_get cs i → Gains first (take i cs) middle → Gains middle (option_to_list o) last → Gains first (take (i + 1) cs) last
 joins_next cs i o first middle last at before one =
     let next : i + 1 ≡ suc i = omega arith in
     let more : take i cs ++ option_to_list o ≡ take (i + 1) cs =
     ap (λ (x : Option Class). take i cs ++ option_to_list x) at ∙ sym (take_if cs i) ∙ ap (λ (n : ℕ). take n cs) (sym next) in
-    subst (λ (ds : List Class). Joins first ds last) more (joins_both first (take i cs) middle (option_to_list o) last before one)
+    subst (λ (ds : List Class). Gains first ds last) more (joins_both first (take i cs) middle (option_to_list o) last before one)
+
+-- one that stands before a place
+among_taken : (cs : List Class) (i k : ℕ) (c : Class) → i < k → slice_get cs i ≡ Some c → is_among (take k cs) c ≡ true
+among_taken [] zero k c lt e = absurd cc
+among_taken [] (suc i) k c lt e = absurd cc
+among_taken (d ∷ cs) i zero c lt e = absurd (omega (arith, lt))
+among_taken (d ∷ cs) zero (suc k) c lt e = subst (λ (x : Class). is_among (x ∷ take k cs) c ≡ true) (sym (same_Some d c e)) (among_first (take k cs) c)
+among_taken (d ∷ cs) (suc i) (suc k) c lt e = or_right (same_class c d) (is_among (take k cs) c) (among_taken cs i k c (omega (arith, lt)) e)
+
+-- where one is among those that joined others, it changes nothing
+joins_again : (first some last : List Class) (c : Class) → is_among some c ≡ true → Gains first some last → Gains last (c ∷ []) last
+joins_again first some last c e h = λ x. at x (same_class x c) refl
+  where
+    here : is_among last c ≡ true
+    here = h c ∙ or_right (is_among first c) (is_among some c) e
+
+    at : (x : Class) (b : Bool) → same_class x c ≡ b → is_among last x ≡ (is_among last x || (b || false))
+    at x false s = none_more (is_among last x)
+    at x true s =
+        let there : is_among last x ≡ true = subst (λ (y : Class). is_among last y ≡ true) (sym (is_class x c s)) here in
+        there ∙ sym (or_right (is_among last x) true refl)
+
+-- one that was named before changes nothing
+pub joins_repeat : (cs : List Class) (i k : ℕ) (first last : List Class) → i < k → slice_get cs i ≡ slice_get cs k → Gains first (take k cs) last → Gains first (take (k + 1) cs) last
+joins_repeat cs i k first last lt same h = joins_next cs k (slice_get cs k) first last last refl h (at (slice_get cs k) refl)
+  where
+    at : (o : Option Class) → slice_get cs k ≡ o → Gains last (option_to_list o) last
+    at None e = joins_none last
+    at (Some c) e = joins_again first (take k cs) last c (among_taken cs i k c lt (same ∙ e)) h
 
 -- all of them
-pub joins_all : (cs : List Class) (i : ℕ) (first last : List Class) → length cs ≤ i → Joins first (take i cs) last → Joins first cs last
-joins_all cs i first last le h = subst (λ (ds : List Class). Joins first ds last) (take_all i cs le) h
+pub joins_all : (cs : List Class) (i : ℕ) (first last : List Class) → length cs ≤ i → Gains first (take i cs) last → Gains first cs last
+joins_all cs i first last le h = subst (λ (ds : List Class). Gains first ds last) (take_all i cs le) h
 
 -- no more were accepted than there are places
 pub accepted_few : (names : List Above) (places : List ℕ) → length (accepted_of names places) ≤ length places

@@ -19,12 +19,16 @@ pub mod Paths
 pub mod PlaceTours
 pub mod Placed
 pub mod Placings
+pub mod NamedBefore
+pub mod Repeats
 pub mod RowIndex
 pub mod RowTables
+pub mod RowTours
 pub mod Rungs
 pub mod Scans
 pub mod SeveralOver
 pub mod Sharing
+pub mod Skipped
 pub mod Spelling
 pub mod Stages
 pub mod StemEnds

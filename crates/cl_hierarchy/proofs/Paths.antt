@@ -2,21 +2,19 @@
 use Rattle.std.proofs.Common.{◌≡◌, ◌∙◌, ◌<◌, ◌^◌, ℕ, false, List, [], ◌∷◌, ◌++◌, length, map, Option, Some, None, refl, sym, ap, subst, arith, length-append}
 use Rattle.std.specs.Prelude.{IsSome, IfSome}
 use Rattle.std.proofs.lemmas.List.{map_push}
-use Rattle.cl_classfile.specs.Files.{file_of}
-use Rattle.cl_classfile.specs.Structure.{Structure}
-use Rattle.cl_model.specs.declared.class.Class.{Class}
 use Rattle.cl_model.specs.Content.{Content}
-use Rattle.cl_model.specs.Classes.{class, Above, misfit}
-use Rattle.cl_model.specs.Frames.{Frame, wanted, asking, accepting, IsFrames, Judged}
+use Rattle.cl_model.specs.Classes.{class, Above}
+use Rattle.cl_model.specs.Frames.{Frame, wanted, asking, accepting, IsFrames}
 use Rattle.cl_model.proofs.Stacks.{frame_push, frame_pop, frame_accept, path_scanned}
 use Rattle.cl_config.specs.Views.{Configured}
 use Rattle.cl_delegation.specs.Worlds.{world_of}
-use Rattle.cl_hierarchy.specs.Drafts.{Drafted, IsSpelt, IsDraft}
+use Rattle.cl_hierarchy.specs.Drafts.{Drafted, IsDraft}
 use Rattle.cl_hierarchy.specs.Frames.{Framed, frame_of, with_place}
-use Rattle.cl_hierarchy.specs.Paths.{Pathed, frames_of, fresh, name_of, sought, at_loader, at_name, is_on, Stands, AllStand, KeepsRules, IsPath, with_frame, misfit_in}
+use Rattle.cl_hierarchy.specs.Paths.{Pathed, frames_of, fresh, name_of, sought, at_loader, at_name, is_on, Stands, AllStand, KeepsRules, IsPath, with_frame}
+use Rattle.cl_hierarchy.specs.Repeats.{FitsNext}
 use Rattle.cl_hierarchy.proofs.Ends.{all_push, all_pop, asking_push, sought_push}
 use Rattle.cl_hierarchy.proofs.Frames.{accepts_one}
-use Rattle.cl_hierarchy.proofs.Placed.{fresh_frame, spelt_judged}
+use Rattle.cl_hierarchy.proofs.Placed.{fresh_frame}
 
 -- ---- each stands for the one before
 
@@ -28,14 +26,14 @@ pub stand_pop : (c : Configured) (loader : ℕ) (name : List ℕ) (xs : List Fra
 stand_pop c loader name [] x all = (tt, all.0)
 stand_pop c loader name (y ∷ ys) x all = let r = stand_pop c y.draft.class.loader (name_of (wanted (frame_of y))) ys x all.1 in ((all.0, r.0), r.1)
 
-some_of : (o : Option Above) → IsSome o → (a : Above) × (o ≡ Some a)
+pub some_of : (o : Option Above) → IsSome o → (a : Above) × (o ≡ Some a)
 some_of None s = absurd cc
 some_of (Some a) s = (a, refl)
 
 -- ---- the frames of the rules
 
 -- what the rules say of the frames of a list
-abbrev Ruled : Configured → Content → ℕ → List ℕ → List Framed → ℕ → List ℕ → Type 0
+abbrev pub Ruled : Configured → Content → ℕ → List ℕ → List Framed → ℕ → List ℕ → Type 0
 Ruled c content loader name xs al an = IsFrames (world_of c content) [] loader name (map frame_of xs) al an
 
 -- frames with one more at the end lead to what that one wants
@@ -50,7 +48,7 @@ ruled_end c content loader name xs x a want r =
     (subst (λ (fs : List Frame). IsFrames w [] loader name fs x.draft.class.loader a.name) (sym (map_push frame_of xs x)) r))
 
 -- the same, of frames that end in one
-ruled_ends : (c : Configured) (content : Content) (loader : ℕ) (name : List ℕ) (xs : List Framed) (x : Framed) (al : ℕ) (an : List ℕ) → Ruled c content loader name (xs ++ x ∷ []) al an
+pub ruled_ends : (c : Configured) (content : Content) (loader : ℕ) (name : List ℕ) (xs : List Framed) (x : Framed) (al : ℕ) (an : List ℕ) → Ruled c content loader name (xs ++ x ∷ []) al an
     → IsFrames (world_of c content) [] loader name (map frame_of xs ++ frame_of x ∷ []) al an
 ruled_ends c content loader name xs x al an r = subst (λ (fs : List Frame). IsFrames (world_of c content) [] loader name fs al an) (map_push frame_of xs x) r
 
@@ -100,35 +98,25 @@ module _ (told : Option Content) (c : Configured) (loader : ℕ) (name : List �
 
   -- ---- the last goes on
 
-  -- a class that fits as the supertype that the last one wants
-  pub record Suits (t : Class) (f : Structure) : Type 0 where
-    pub spelt : IsSpelt told t f
-    pub named : t.name ≡ name_of (wanted (frame_of x))
-    pub fits : misfit_in x (wanted (frame_of x)) t (file_of f) ≡ None
-
-  rules_accept : (told : Option Content) (t : Class) (f : Structure) → IsSpelt told t f → t.name ≡ name_of (wanted (frame_of x)) → misfit_in x (wanted (frame_of x)) t (file_of f) ≡ None → IsSome (wanted (frame_of x))
-      → IsSome (wanted (frame_of (with_place x t.loader))) → KeepsRules told (along (xs ++ x ∷ [])) → KeepsRules told (along (xs ++ with_place x t.loader ∷ []))
-  rules_accept None t f spelt named fits waits more rules = tt
-  rules_accept (Some content) t f spelt named fits waits more rules =
+  rules_accept : (told : Option Content) (place : ℕ) → FitsNext told c x place → IsSome (wanted (frame_of x)) → IsSome (wanted (frame_of (with_place x place))) → KeepsRules told (along (xs ++ x ∷ [])) → KeepsRules told (along (xs ++ with_place x place ∷ []))
+  rules_accept None place fits waits more rules = tt
+  rules_accept (Some content) place fits waits more rules =
       let w = world_of c content in
-      let next = with_place x t.loader in
+      let next = with_place x place in
       let a = some_of (wanted (frame_of x)) waits in
       let b = some_of (wanted (frame_of next)) more in
-      let same : t.name ≡ a.0.name = named ∙ ap name_of a.1 in
-      let fit : misfit x.draft.class a.0.role t (file_of f) ≡ None = subst (λ (o : Option Above). misfit_in x o t (file_of f) ≡ None) a.1 fits in
-      let judged : Judged w x.draft.class a.0.role None (class a.0.name t.loader) =
-      subst (λ (n : List ℕ). Judged w x.draft.class a.0.role None (class n t.loader)) same (spelt_judged c content x.draft.class t a.0.role None f spelt fit) in
-      let framed : frame_of next ≡ accepting (frame_of x) (class a.0.name t.loader) = subst (λ (o : Option Above). IfSome o (λ a. frame_of next ≡ accepting (frame_of x) (class a.name t.loader))) a.1 (accepts_one x next t.loader refl (wanted (frame_of x)) refl) in
-      let went = frame_accept w [] loader _ name _ (map frame_of xs) (frame_of x) a.0 b.0 (class a.0.name t.loader) (ruled_ends c content loader name xs x _ _ rules) a.1 refl judged (subst (λ (y : Frame). wanted y ≡ Some b.0) framed b.1) in
+      let t = class a.0.name place in
+      let framed : frame_of next ≡ accepting (frame_of x) t = subst (λ (o : Option Above). IfSome o (λ a. frame_of next ≡ accepting (frame_of x) (class a.name place))) a.1 (accepts_one x next place refl (wanted (frame_of x)) refl) in
+      let went = frame_accept w [] loader _ name _ (map frame_of xs) (frame_of x) a.0 b.0 t (ruled_ends c content loader name xs x _ _ rules) a.1 refl (fits a.0 a.1) (subst (λ (y : Frame). wanted y ≡ Some b.0) framed b.1) in
       ruled_end c content loader name xs next b.0 b.1 (subst (λ (y : Frame). IsFrames w [] loader name (map frame_of xs ++ y ∷ []) x.draft.class.loader b.0.name) (sym framed) went)
 
-  pub path_accept : (t : Class) (f : Structure) → IsPath told (along (xs ++ x ∷ [])) → Suits t f → IsSome (wanted (frame_of (with_place x t.loader))) → IsPath told (along (xs ++ with_place x t.loader ∷ []))
-  path_accept t f path suits more =
+  pub path_accept : (place : ℕ) → IsPath told (along (xs ++ x ∷ [])) → FitsNext told c x place → IsSome (wanted (frame_of (with_place x place))) → IsPath told (along (xs ++ with_place x place ∷ []))
+  path_accept place path fits more =
       let s = stand_pop c loader name xs x path.stand in
       let d = all_pop (λ (x : Framed). IsDraft told x.draft) xs x path.drafts in
       record {
-        stand = stand_push c loader name xs (with_place x t.loader) s.0 (record { config = s.1.config; asked = s.1.asked; named = s.1.named; waits = more });
-        drafts = all_push (λ (x : Framed). IsDraft told x.draft) xs (with_place x t.loader) d.0 d.1;
-        rules = rules_accept told t f suits.spelt suits.named suits.fits s.1.waits more path.rules;
-        counted = let n = length-append xs (x ∷ []) in let m = length-append xs (with_place x t.loader ∷ []) in let less = path.counted in omega arith;
+        stand = stand_push c loader name xs (with_place x place) s.0 (record { config = s.1.config; asked = s.1.asked; named = s.1.named; waits = more });
+        drafts = all_push (λ (x : Framed). IsDraft told x.draft) xs (with_place x place) d.0 d.1;
+        rules = rules_accept told place fits s.1.waits more path.rules;
+        counted = let n = length-append xs (x ∷ []) in let m = length-append xs (with_place x place ∷ []) in let less = path.counted in omega arith;
       }

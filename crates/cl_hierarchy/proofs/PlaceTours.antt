@@ -17,17 +17,18 @@ use Rattle.cl_hierarchy.specs.declared.tour.Order.TheVariants as orders
 use Rattle.cl_hierarchy.specs.declared.tour.Task.{Task}
 use Rattle.cl_hierarchy.specs.declared.tour.Task.TheVariants as tasks
 use Rattle.cl_hierarchy.specs.Lineages.{IsRowIn}
-use Rattle.cl_hierarchy.specs.PlaceTours.{AreKnown, AreMarked, AreSuperinterfacesAt, AreTold, IsOpened, IsPlaced, IsPushed, IsTold, IsTour, Moves, Passes, Placed, Steps, classes_at, mark_at, marks_at, rows_at, toured_at}
+use Rattle.cl_hierarchy.specs.PlaceTours.{AreKnown, AreMarked, AreSkipped, AreSuperinterfacesAt, AreTold, GoesOn, IsDone, IsOpened, IsPlaced, IsPushed, IsTold, IsTour, Moves, Passes, Placed, Steps, classes_at, mark_at, marks_at, rows_at, toured_at}
 use Rattle.cl_hierarchy.specs.Rows.{Rowed}
-use Rattle.cl_hierarchy.specs.Supers.{AreAllSupers, HasRow, IsRowAt, place_in, row_at}
-use Rattle.cl_hierarchy.specs.Tours.{Marked, Toured, first_row, interface_row, opened, over_from, passing, step, steps_left, stops, telling, telling_all, told_at, upwards_of}
+use Rattle.cl_hierarchy.specs.Supers.{AreAllSupers, AreSupers, HasRow, IsRowAt, place_in, row_at}
+use Rattle.cl_hierarchy.specs.Tours.{Marked, Toured, first_row, interface_row, opened, over_from, passing, step, steps_left, stops, stops_left, telling, telling_all, told_at, upwards_of}
 use Rattle.cl_hierarchy.specs.Trees.{SupersBefore, kin_named, kin_under, kins, superclass_in}
 use Rattle.cl_hierarchy.proofs.Ancestry.{keeps, named_first, same_back}
 use Rattle.cl_hierarchy.proofs.Climbs.{placed_row}
 use Rattle.cl_hierarchy.proofs.Ends.{all_pop, all_push}
 use Rattle.cl_hierarchy.proofs.Rungs.{place_of, take_with}
 use Rattle.cl_hierarchy.proofs.Passing.{passed, passed_less, telling_all_left}
-use Rattle.cl_hierarchy.proofs.Stages.{IsStage, ended_by, first_stage, preserved_by, rows_before, smaller_by, steps_both, told_before}
+use Rattle.cl_hierarchy.proofs.Skipped.{IsSkipped, skipped_less, skipped_on}
+use Rattle.cl_hierarchy.proofs.Stages.{IsStage, ended_by, first_stage, one_more, preserved_by, rows_before, smaller_by, steps_both, told_before}
 use Rattle.cl_hierarchy.proofs.SuperTables.{supers_at}
 use Rattle.cl_hierarchy.proofs.Tours.{superinterfaces_told}
 
@@ -310,6 +311,38 @@ went_over table old a new p at next above o over_is some after one two_ = λ row
           ∙ ap (λ (y : Option Rowed). let z : Toured = record t { stack = t.stack ++ over_from r at y } in z) (sym x.2);
     }
 
+-- ---- superinterfaces are skipped
+
+-- a place is read
+pub over_read : (over : List (Option ℕ)) (k : ℕ) → get_or over k None ≡ place_in over k
+over_read [] zero = refl
+over_read [] (suc k) = refl
+over_read (o ∷ over) zero = refl
+over_read (o ∷ over) (suc k) = over_read over k
+
+-- one more is
+pub more_skipped : (over : List (Option ℕ)) (told left : List Bool) (from to next : ℕ) → next ≡ to + 1 → AreSkipped over told left from to → IsDone told left (place_in over to) → AreSkipped over told left from next
+more_skipped over told left from to next is h done = record {
+  onwards = let le = h.onwards in omega (arith, is, le);
+  each = λ k ge lt. elim (same_or k to) [
+    | inl e ↦ subst (λ (n : ℕ). IsDone told left (place_in over n)) (sym e) done
+    | inr other ↦ h.each k ge (less k (omega (arith, is, lt)) other)
+  ];
+}
+  where
+    split : (k : ℕ) → (k < to) ⊎ (to ≤ k)
+    split k = grind arith
+
+    less : (k : ℕ) → k ≤ to → (k ≡ to → ⊥) → k < to
+    less k le other = elim (split k) [ inl lt ↦ lt | inr ge ↦ absurd (other (let e : k ≡ to = omega (arith, le, ge) in e)) ]
+
+-- those of the class at a place are
+pub skipped_by : (table : List Supers) (p : ℕ) (over : List (Option ℕ)) (t : Placed) (from to : ℕ) (told left : List Bool) → told ≡ t.is_told → left ≡ t.is_left → ((s : Supers) → slice_get table p ≡ Some s → over ≡ s.over.items) → AreSkipped over told left from to
+    → (s : Supers) → slice_get table p ≡ Some s → AreSkipped s.over.items t.is_told t.is_left from to
+skipped_by table p over t from to told left is_told is_left over_is h = λ s e.
+    subst (λ (os : List (Option ℕ)). AreSkipped os t.is_told t.is_left from to) (over_is s e)
+    (subst (λ (bs : List Bool). AreSkipped over bs t.is_left from to) is_told (subst (λ (bs : List Bool). AreSkipped over told bs from to) is_left h))
+
 -- a class is left that was left before
 pub left_past : (table : List Supers) (old : Placed) (p : ℕ) (b : Bool) → IfSome (slice_get old.is_left p) (λ c. b ≡ c) → b ≡ true → Steps table old p tasks.Leave old
 left_past table old p b h e = λ rows left r ordered are at placed.
@@ -468,42 +501,105 @@ module _ (rows : List Rowed) (table : List Supers) (start : Rowed) (t rest new :
   before =
       subst (λ (ps : List ℕ). IsStage orders.Superinterfaces rows (goal rows start) (record { told = rows_at rows ps; seen = classes_at rows ps; left = h.left; stack = marks_at rows t.stack })) (sym told) h.stage
 
-  -- one step
-  stepped_on : Steps table rest next.place next.task new → IsTouring rows start new
-  stepped_on steps =
-      let gone : Toured = step orders.Superinterfaces rows (toured_at rows h.left rest) row next.task in
-      let went : IsTour rows gone new = steps rows h.left row ordered are spots.1.1 rest_placed in
-      record {
-        left = gone.left;
-        placed = went.placed;
-        stage =
-            preserved_by rows ordered orders.Superinterfaces (goal rows start) (rows_at rows rest.told) (classes_at rows rest.told) h.left (marks_at rows t.stack) (marks_at rows rest.stack) (record { row = row; task = next.task }) marks
-            (toured_at rows gone.left new) before went.toured;
-      }
+  abbrev old : Toured
+  old = toured_at rows h.left rest
 
-  stepped_less : Steps table rest next.place next.task new → steps_left (kins rows) (marks_at rows new.stack) < steps_left (kins rows) (marks_at rows t.stack)
-  stepped_less steps =
-      let gone : Toured = step orders.Superinterfaces rows (toured_at rows h.left rest) row next.task in
-      let went : IsTour rows gone new = steps rows h.left row ordered are spots.1.1 rest_placed in
-      smaller_by rows ordered orders.Superinterfaces (goal rows start) (rows_at rows rest.told) (classes_at rows rest.told) h.left (marks_at rows t.stack) (marks_at rows rest.stack) (record { row = row; task = next.task }) marks
-      (toured_at rows gone.left new) before went.toured
+  -- what the last thing was that is left to do
+  marks_of : (task : Task) → next.task ≡ task → marks_at rows t.stack ≡ old.stack ++ record { row = row; task = task } ∷ []
+  marks_of task is = marks ∙ ap (λ (k : Task). old.stack ++ record { row = row; task = k } ∷ []) is
+
+  -- the tour goes on, and is nearer to its end
+  abbrev IsNearer : Type 0
+  IsNearer = IsTouring rows start new × (steps_left (kins rows) (marks_at rows new.stack) < steps_left (kins rows) (marks_at rows t.stack))
+
+  -- one step, of this task
+  module _ (task : Task) (ms : List Marked) (marks_are : ms ≡ old.stack ++ record { row = row; task = task } ∷ []) (stage : IsStage orders.Superinterfaces rows (goal rows start) (record old { stack = ms })) (steps : Steps table rest next.place task new) where
+    abbrev reached : Toured
+    reached = step orders.Superinterfaces rows old row task
+
+    is_reached : IsTour rows reached new
+    is_reached = steps rows h.left row ordered are spots.1.1 rest_placed
+
+    stepped_on : IsTouring rows start new
+    stepped_on = record {
+      left = reached.left;
+      placed = is_reached.placed;
+      stage =
+          preserved_by rows ordered orders.Superinterfaces (goal rows start) old.told old.seen h.left ms old.stack (record { row = row; task = task }) marks_are
+          (toured_at rows reached.left new) stage is_reached.toured;
+    }
+
+    stepped_less : steps_left (kins rows) (marks_at rows new.stack) < steps_left (kins rows) ms
+    stepped_less =
+        smaller_by rows ordered orders.Superinterfaces (goal rows start) old.told old.seen h.left ms old.stack (record { row = row; task = task }) marks_are
+        (toured_at rows reached.left new) stage is_reached.toured
+
+  here : IsRowIn rows row
+  here = row_in rows next.place row ordered spots.1.1
+
+  -- superinterfaces are skipped
+  module _ (at to : ℕ) (task_is : next.task ≡ tasks.Over at) (skipped : (s : Supers) → slice_get table next.place ≡ Some s → AreSkipped s.over.items rest.is_told rest.is_left at to) (steps : Steps table rest next.place (tasks.Over to) new) where
+    supers : (s : Supers) × (slice_get table next.place ≡ Some s) × AreSupers rows row s
+    supers = supers_at rows rows table next.place row are spots.1.1
+
+    are_skipped : AreSkipped supers.0.over.items rest.is_told rest.is_left at to
+    are_skipped = skipped supers.0 supers.1
+
+    each : (k : ℕ) → at ≤ k → k < to → IsSkipped rows old row k
+    each k ge lt =
+        let done = are_skipped.each k ge lt in
+        let x = row_above rows (interface_row rows row k) (place_in supers.0.over.items k) done.0 (supers.2.over k) done.1 in
+        record {
+          row = x.0;
+          is_there = x.2;
+          is_told = sym (bit rows old.seen rest.is_told x.0 done.0 true x.1 rest_placed.is_told_is (so (slice_get rest.is_told done.0) done.2));
+          is_left = sym (bit rows h.left rest.is_left x.0 done.0 true x.1 rest_placed.is_left_is (so (slice_get rest.is_left done.0) done.3));
+        }
+      where
+        so : (o : Option Bool) → IfSome o (λ b. b ≡ true) → IfSome o (λ b. true ≡ b)
+        so None e = tt
+        so (Some b) e = sym e
+
+    abbrev last : Marked
+    last = record { row = row; task = tasks.Over at }
+
+    behind : IsStage orders.Superinterfaces rows (goal rows start) (record old { stack = old.stack ++ record { row = row; task = tasks.Over to } ∷ [] })
+    behind =
+        one_more rows orders.Superinterfaces (goal rows start) old (record { row = row; task = tasks.Over to }) here
+        (skipped_on rows ordered (goal rows start) row here old (stops_left orders.Superinterfaces (kins rows) old.stack) at to are_skipped.onwards each
+        (told_before rows ordered orders.Superinterfaces (goal rows start) old.told old.seen h.left (marks_at rows t.stack) old.stack last (marks_of (tasks.Over at) task_is) before))
+        (rows_before rows ordered orders.Superinterfaces (goal rows start) old.told old.seen h.left (marks_at rows t.stack) old.stack last (marks_of (tasks.Over at) task_is) before)
+
+    over_on : IsTouring rows start new
+    over_on = stepped_on (tasks.Over to) (old.stack ++ record { row = row; task = tasks.Over to } ∷ []) refl behind steps
+
+    over_less : steps_left (kins rows) (marks_at rows new.stack) < steps_left (kins rows) (marks_at rows t.stack)
+    over_less =
+        let less = stepped_less (tasks.Over to) (old.stack ++ record { row = row; task = tasks.Over to } ∷ []) refl behind steps in
+        let most = skipped_less rows ordered (goal rows start) row here old at to are_skipped.onwards each in
+        let is : steps_left (kins rows) (marks_at rows t.stack) ≡ steps_left (kins rows) (old.stack ++ last ∷ []) = ap (λ (ms : List Marked). steps_left (kins rows) ms) (marks_of (tasks.Over at) task_is) in
+        let one = steps_both (kins rows) old.stack (last ∷ []) in
+        let other = steps_both (kins rows) old.stack (record { row = row; task = tasks.Over to } ∷ []) in
+        omega arith
+
+  stepped : (task : Task) → next.task ≡ task → Steps table rest next.place task new → IsNearer
+  stepped task is steps = (stepped_on task (marks_at rows t.stack) (marks_of task is) before steps, stepped_less task (marks_at rows t.stack) (marks_of task is) before steps)
+
+  gone_on : (task : Task) → next.task ≡ task → GoesOn table rest next.place task new → IsNearer
+  gone_on (tasks.Come wanted) is steps = stepped (tasks.Come wanted) is steps
+  gone_on (tasks.Over at) is (to, skipped, steps) = (over_on at to is skipped steps, over_less at to is skipped steps)
+  gone_on tasks.Leave is steps = stepped tasks.Leave is steps
 
   -- a class is passed
   module _ (wanted : Bool) (over : List ℕ) (task_is : next.task ≡ tasks.Come wanted) (known : AreSuperinterfacesAt rows row over) (passes : Passes table rest next.place wanted over new) where
-    abbrev old : Toured
-    old = toured_at rows h.left rest
-
     abbrev gone : Toured
     gone = passing orders.Superinterfaces rows old row wanted (rows_at rows over)
 
     went : IsTour rows gone new
     went = passes rows h.left row ordered are known.within spots.1.1 rest_placed
 
-    came : marks_at rows t.stack ≡ marks_at rows rest.stack ++ record { row = row; task = tasks.Come wanted } ∷ []
-    came = marks ∙ ap (λ (k : Task). marks_at rows rest.stack ++ record { row = row; task = k } ∷ []) task_is
-
-    here : IsRowIn rows row
-    here = row_in rows next.place row ordered spots.1.1
+    came : marks_at rows t.stack ≡ old.stack ++ record { row = row; task = tasks.Come wanted } ∷ []
+    came = marks_of (tasks.Come wanted) task_is
 
     passed_on : IsTouring rows start new
     passed_on = record {
@@ -529,11 +625,11 @@ module _ (rows : List Rowed) (table : List Supers) (start : Rowed) (t rest new :
   known_row over known = known row spots.1.1
 
   pub toured_on : (known : Option OverAt) → AreKnown rows known → Moves table rest next known new → IsTouring rows start new
-  toured_on known are_known (inl steps) = stepped_on steps
+  toured_on known are_known (inl steps) = (gone_on next.task refl steps).0
   toured_on known are_known (inr (o, some, place, moved)) = passed_on moved.0 o.places.items moved.1 (known_row o.places.items (known_at rows known next.place o some place are_known)) moved.2
 
   pub toured_less : (known : Option OverAt) → AreKnown rows known → Moves table rest next known new → steps_left (kins rows) (marks_at rows new.stack) < steps_left (kins rows) (marks_at rows t.stack)
-  toured_less known are_known (inl steps) = stepped_less steps
+  toured_less known are_known (inl steps) = (gone_on next.task refl steps).1
   toured_less known are_known (inr (o, some, place, moved)) = passed_off moved.0 o.places.items moved.1 (known_row o.places.items (known_at rows known next.place o some place are_known)) moved.2
 
 -- nothing is left to do: what was told are the superinterfaces

@@ -21,7 +21,7 @@ use Rattle.cl_hierarchy.specs.Paths.{fresh}
 use Rattle.cl_hierarchy.proofs.Frames.{none_yet}
 
 -- the bytes of a class that is at home are read
-pub file_found : (w : World) (c : Class) (bytes : List ℕ) → IsAtHome w c → content_at w.content c.loader c.name ≡ Some bytes → classes.file_of w c ≡ named c (w.read bytes)
+pub file_found : (w : World) (c : Class) (bytes : List ℕ) → IsAtHome w c → content_at w.content c.loader c.name ≡ Some bytes → classes.read_class w c ≡ named c (w.read bytes)
 file_found w c bytes at stored =
     ap (λ (o : Option ℕ). read_found w c (if is_own c.loader o then content_at w.content c.loader c.name else None)) at
     ∙ ap (λ (b : Bool). read_found w c (if b then content_at w.content c.loader c.name else None)) (nat_eq_equiv.refl c.loader)

@@ -9,7 +9,7 @@ use Rattle.cl_model.specs.Lineages.{Forest, Kin, classes, once_after, preorder, 
 use Rattle.cl_model.proofs.Complete.{is_class}
 use Rattle.cl_hierarchy.specs.Lineages.{IsRowIn}
 use Rattle.cl_hierarchy.specs.Rows.{Rowed}
-use Rattle.cl_hierarchy.specs.Several.{Joins, superinterfaces_of_any}
+use Rattle.cl_hierarchy.specs.Several.{Gains, superinterfaces_of_any}
 use Rattle.cl_hierarchy.specs.Trees.{AllKnown, SupersBefore, forest, in_front, interfaces_in, kin_named, kin_under, kins, superclass_in}
 use Rattle.cl_hierarchy.proofs.Ancestry.{kins_push, row_kin, same_turned}
 use Rattle.cl_hierarchy.proofs.Climbs.{before_split, placed_row}
@@ -38,7 +38,7 @@ parted false true false x y = refl
 parted false false p x y = refl
 
 -- what joins the classes adds what one of these passes
-any_joined : (p : Class → Bool) (old more new cs : List Class) → Joins old more new → any_of p new cs ≡ (any_of p old cs || any_of p more cs)
+any_joined : (p : Class → Bool) (old more new cs : List Class) → Gains old more new → any_of p new cs ≡ (any_of p old cs || any_of p more cs)
 any_joined p old more new [] h = refl
 any_joined p old more new (c ∷ cs) h =
     ap (λ (b : Bool). (b && p c) || any_of p new cs) (h c)
@@ -211,7 +211,7 @@ pub record IsPassed (rows : List Rowed) (goal : Class → Bool) (front : List Ro
   pub told : (c : Class) → goal c ≡ (is_among found c || any_of (over (kins rows) c) left (classes (kins front)))
 
 -- at first all rows are
-pub first_pass : {A : Type 0} (v : A → Rowed) (rows : List Rowed) (xs : List A) (none found left : List Class) → SupersBefore [] rows → AllByRecursion (λ x. IsRowIn rows (v x)) xs → none ≡ [] → found ≡ [] → Joins none (map (λ x. (v x).class) xs) left
+pub first_pass : {A : Type 0} (v : A → Rowed) (rows : List Rowed) (xs : List A) (none found left : List Class) → SupersBefore [] rows → AllByRecursion (λ x. IsRowIn rows (v x)) xs → none ≡ [] → found ≡ [] → Gains none (map (λ x. (v x).class) xs) left
     → IsPassed rows (λ c. is_among (superinterfaces_of_any (map (λ x. kin_under (kins rows) (v x)) xs)) c) rows found left
 first_pass v rows xs none found left ordered all empty nothing joined = record {
   later = [];
@@ -220,7 +220,7 @@ first_pass v rows xs none found left ordered all empty nothing joined = record {
       over_any v rows xs c ordered all
       ∙ sym (any_in (over (kins rows) c) (map (λ x. (v x).class) xs) (classes (kins rows)) (rows_in v rows xs ordered all))
       ∙ ap (λ (b : Bool). b || any_of (over (kins rows) c) (map (λ x. (v x).class) xs) (classes (kins rows))) (sym (any_none (over (kins rows) c) (classes (kins rows))))
-      ∙ sym (any_joined (over (kins rows) c) [] (map (λ x. (v x).class) xs) left (classes (kins rows)) (subst (λ (cs : List Class). Joins cs (map (λ x. (v x).class) xs) left) empty joined))
+      ∙ sym (any_joined (over (kins rows) c) [] (map (λ x. (v x).class) xs) left (classes (kins rows)) (subst (λ (cs : List Class). Gains cs (map (λ x. (v x).class) xs) left) empty joined))
       ∙ ap (λ (cs : List Class). is_among cs c || any_of (over (kins rows) c) left (classes (kins rows))) (sym nothing);
 }
 
@@ -253,7 +253,7 @@ module _ (rows : List Rowed) (goal : Class → Bool) (front : List Rowed) (r : R
       both_in (classes (kins front)) (interfaces_in r) (superclass_in r) (all_in (kins front) (interfaces_in r) parts.1.0.interfaces) (all_in (kins front) (superclass_in r) parts.1.0.superclass)
 
   -- one whose class is left is looked at
-  pub pass_by : (found-now left-now : List Class) → is_among left r.class ≡ true → Joins found (interfaces_in r) found-now → Joins left (interfaces_in r ++ superclass_in r) left-now → IsPassed rows goal front found-now left-now
+  pub pass_by : (found-now left-now : List Class) → is_among left r.class ≡ true → Gains found (interfaces_in r) found-now → Gains left (interfaces_in r ++ superclass_in r) left-now → IsPassed rows goal front found-now left-now
   pass_by found-now left-now e f l = record {
     later = r ∷ h.later;
     split = split_at;
@@ -281,10 +281,10 @@ module _ {A : Type 0} (v : A → Rowed) (rows : List Rowed) (goal : Class → Bo
   pub on_in : among ≡ false → IsPassed rows goal (map v earlier) found left
   on_in f = pass_on rows goal (map v earlier) (v x) found left ordered with_last (test false f)
 
-  pub by_in : (r : Rowed) (found-now left-now : List Class) → among ≡ true → r ≡ v x → Joins found (interfaces_in r) found-now → Joins left (interfaces_in r ++ superclass_in r) left-now → IsPassed rows goal (map v earlier) found-now left-now
+  pub by_in : (r : Rowed) (found-now left-now : List Class) → among ≡ true → r ≡ v x → Gains found (interfaces_in r) found-now → Gains left (interfaces_in r ++ superclass_in r) left-now → IsPassed rows goal (map v earlier) found-now left-now
   by_in r found-now left-now f is over up =
-      pass_by rows goal (map v earlier) (v x) found left ordered with_last found-now left-now (test true f) (subst (λ (y : Rowed). Joins found (interfaces_in y) found-now) is over)
-      (subst (λ (y : Rowed). Joins left (interfaces_in y ++ superclass_in y) left-now) is up)
+      pass_by rows goal (map v earlier) (v x) found left ordered with_last found-now left-now (test true f) (subst (λ (y : Rowed). Gains found (interfaces_in y) found-now) is over)
+      (subst (λ (y : Rowed). Gains left (interfaces_in y ++ superclass_in y) left-now) is up)
 
 -- ---- the end
 

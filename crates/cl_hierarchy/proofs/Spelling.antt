@@ -11,7 +11,7 @@ use Rattle.cl_model.specs.Content.{Content, content_at}
 use Rattle.cl_model.specs.Classes.{HasFile, IsAtHome}
 use Rattle.cl_model.specs.Worlds.{seen}
 use Rattle.cl_model.proofs.Ending.{file_at_home}
-use Rattle.cl_model.proofs.Reached.{file_is_spelt}
+use Rattle.cl_model.proofs.Reached.{file_is_read}
 use Rattle.cl_config.specs.Views.{Configured}
 use Rattle.cl_delegation.specs.Worlds.{world_of}
 use Rattle.cl_hierarchy.specs.Drafts.{IsSpelt}
@@ -45,6 +45,6 @@ spelled c content t g all bytes stored read named =
 pub file_is_spelled : (c : Configured) (content : Content) (t : Class) (g : File) → IsOfBytes content
     → HasFile (world_of c content) t g ↔ (IsAtHome (world_of c content) t × ((f : Structure) × IsSpelt (Some content) t f × (file_of f ≡ g)))
 file_is_spelled c content t g all = (
-  λ h. let s = file_is_spelt (world_of c content) t g h in (file_at_home (world_of c content) t g h, spelled c content t g all s.0 s.1 s.2 s.3),
+  λ h. let s = file_is_read (world_of c content) t g h in (file_at_home (world_of c content) t g h, spelled c content t g all s.0 s.1 s.2 s.3),
   λ h. subst (λ (x : File). HasFile (world_of c content) t x) h.1.2 (spelt_file c content t h.1.0 h.0 h.1.1),
 )

@@ -2,7 +2,6 @@
 use Rattle.std.proofs.Common.{◌≡◌, ◌∙◌, ◌⊎◌, inl, inr, ℕ, suc, zero, ◌+◌, ◌*◌, ◌<◌, ◌≤◌, arith, Bool, true, false, if◌then◌else◌, List, [], ◌∷◌, ◌++◌, Option, Some, None, append_assoc, append-nil, drop, is_some, map, refl, sym, ap, subst}
 use Rattle.std.specs.Prelude.{slice_get, option_and_then, option_to_list}
 use Rattle.std.specs.List.{AllByRecursion}
-use Rattle.std.proofs.lemmas.List.{map_push}
 use Rattle.cl_classfile.specs.Files.{Name, file_of}
 use Rattle.cl_model.specs.declared.class.Class.{Class}
 use Rattle.cl_model.specs.Classes.{AsSuperclass, is_among}
@@ -18,7 +17,7 @@ use Rattle.cl_hierarchy.specs.Frames.{accepted_of}
 use Rattle.cl_hierarchy.specs.Lineages.{IsRowIn, row_of}
 use Rattle.cl_hierarchy.specs.Rows.{Rowed}
 use Rattle.cl_hierarchy.specs.Trees.{AllKnown, SupersBefore, forest, in_front, interfaces_in, kin_named, kin_under, kins, superclass_in}
-use Rattle.cl_hierarchy.specs.Tours.{Comes, Leaves, Marked, Stop, Toured, first_row, inner, interface_row, marked, marks, opened, opening, over_from, size, step, steps_left, steps_of, stops, stops_left, stops_of, telling, tells, tells_after, tells_before, told_at, up_first, upwards_of, wants_up, with_class, with_row}
+use Rattle.cl_hierarchy.specs.Tours.{Comes, Leaves, Marked, Stop, Toured, first_row, inner, interface_row, marks, opened, opening, over_from, size, step, steps_left, steps_of, stops, stops_left, stops_of, telling, tells, tells_after, tells_before, told_at, up_first, upwards_of, wants_up, with_class, with_row}
 use Rattle.cl_hierarchy.proofs.Ancestry.{no_row, row_kin}
 use Rattle.cl_hierarchy.proofs.Tours.{Goes, goes_first, goes_on, goes_past, goes_tell, told_both, with_has, with_one, within_join, classes_both, with_either, with_grows}
 use Rattle.cl_hierarchy.proofs.Ends.{all_push}
@@ -124,19 +123,19 @@ module _ (rows : List Rowed) (ordered : SupersBefore [] rows) (o : Order) (r : R
 -- ---- superinterfaces
 
 -- a class in front, if there is one
-abbrev fronted : List Kin → Option Rowed → Forest → Forest
+abbrev pub fronted : List Kin → Option Rowed → Forest → Forest
 fronted known None f = Bare
 fronted known (Some x) f = in_front (Some (kin_under known x)) f
 
-abbrev IsOneOf : List Rowed → Option Rowed → Type 0
+abbrev pub IsOneOf : List Rowed → Option Rowed → Type 0
 IsOneOf rows None = Unit {0}
 IsOneOf rows (Some x) = IsRowIn rows x
 
-record IsOver (rows : List Rowed) (cs : List Class) (k : ℕ) (x : Option Rowed) : Type 0 where
-  front : forest (kins rows) (drop k cs) ≡ fronted (kins rows) x (forest (kins rows) (drop (suc k) cs))
-  is_one : IsOneOf rows x
+pub record IsOver (rows : List Rowed) (cs : List Class) (k : ℕ) (x : Option Rowed) : Type 0 where
+  pub front : forest (kins rows) (drop k cs) ≡ fronted (kins rows) x (forest (kins rows) (drop (suc k) cs))
+  pub is_one : IsOneOf rows x
 
-over_here : (rows : List Rowed) → SupersBefore [] rows → (cs : List Class) (k : ℕ) → AllKnown (kins rows) cs → (x : Option Rowed) → option_and_then (row_of rows) (slice_get cs k) ≡ x → IsOver rows cs k x
+pub over_here : (rows : List Rowed) → SupersBefore [] rows → (cs : List Class) (k : ℕ) → AllKnown (kins rows) cs → (x : Option Rowed) → option_and_then (row_of rows) (slice_get cs k) ≡ x → IsOver rows cs k x
 over_here rows h [] zero all None e = record { front = refl; is_one = tt }
 over_here rows h [] (suc k) all None e = record { front = refl; is_one = tt }
 over_here rows h [] zero all (Some x) e = absurd cc
@@ -148,17 +147,17 @@ over_here rows h (c ∷ cs) (suc k) all x e = let more = over_here rows h cs k a
 plus_one : (n : ℕ) → n + 1 ≡ suc n
 plus_one n = omega arith
 
-stops_front : (o : Order) (k : Kin) (f : Forest) → stops o (in_front (Some k) f) true ≡ stops o (alone k) true ++ stops o f true
+pub stops_front : (o : Order) (k : Kin) (f : Forest) → stops o (in_front (Some k) f) true ≡ stops o (alone k) true ++ stops o f true
 stops_front o k f = ap (λ (x : List Stop). Comes k true ∷ x) (sym (append_assoc (inner o k) (Leaves k ∷ []) (stops o f true)))
 
 module _ (rows : List Rowed) (o : Order) (r : Rowed) (place : ℕ) where
-  over_stops : (x : Option Rowed) → IsOver rows (interfaces_in r) place x → stops_left o (kins rows) (over_from r place x) ≡ stops_of o (kins rows) r (tasks.Over place)
+  pub over_stops : (x : Option Rowed) → IsOver rows (interfaces_in r) place x → stops_left o (kins rows) (over_from r place x) ≡ stops_of o (kins rows) r (tasks.Over place)
   over_stops None h = sym (ap (λ (f : Forest). stops o f true) h.front)
   over_stops (Some x) h =
       ap (λ (n : ℕ). stops o (alone (kin_under (kins rows) x)) true ++ stops o (forest (kins rows) (drop n (interfaces_in r))) true) (plus_one place)
       ∙ sym (ap (λ (f : Forest). stops o f true) h.front ∙ stops_front o (kin_under (kins rows) x) (forest (kins rows) (drop (suc place) (interfaces_in r))))
 
-  over_steps : (x : Option Rowed) → IsOver rows (interfaces_in r) place x → steps_left (kins rows) (over_from r place x) < 4 * size (forest (kins rows) (drop place (interfaces_in r))) + 1
+  pub over_steps : (x : Option Rowed) → IsOver rows (interfaces_in r) place x → steps_left (kins rows) (over_from r place x) < 4 * size (forest (kins rows) (drop place (interfaces_in r))) + 1
   over_steps None h = omega arith
   over_steps (Some x) h =
       let e : size (forest (kins rows) (drop place (interfaces_in r))) ≡ 1 + size (kin_under (kins rows) x).superclass + size (kin_under (kins rows) x).interfaces + size (forest (kins rows) (drop (suc place) (interfaces_in r))) =
@@ -278,6 +277,15 @@ module _ (rows : List Rowed) (ordered : SupersBefore [] rows) (o : Order) (goal 
       leaving x (record { goes = i.goes; told_are = i.told_are; stack_is = subst (λ (ms : List Marked). AreRowsOf rows ms) (sym (telling_stack t b r)) a })
       (subst (λ (cs : List Class). Within cs x.seen) (sym (ap (λ (ks : List Kin). classes ks) (told_both o (inner o k) (Leaves k ∷ [])) ∙ classes_both (told_at o (inner o k)) (tells o (Leaves k) ++ []))) (all_told_of t b refl h.goes.ready.0))
 
+-- one thing more is left to do
+pub one_more : (rows : List Rowed) (o : Order) (goal : List Kin) (t : Toured) (m : Marked) → IsRowIn rows m.row → IsTold o rows goal t (stops_of o (kins rows) m.row m.task ++ stops_left o (kins rows) t.stack) → AreRowsOf rows t.stack
+    → IsStage o rows goal (record t { stack = t.stack ++ m ∷ [] })
+one_more rows o goal t m i h a = record {
+  goes = subst (λ (ss : List Stop). Goes o (kins rows) goal t.told t.seen t.left ss) (sym (left_both o (kins rows) t.stack (m ∷ []))) h.goes;
+  told_are = h.told_are;
+  stack_is = all_push (IsRowOf rows) t.stack m a i;
+}
+
 -- one step
 stepped : (rows : List Rowed) → SupersBefore [] rows → (o : Order) (goal : List Kin) (t : Toured) (r : Rowed) (k : Task) → IsRowIn rows r → IsTold o rows goal t (stops_of o (kins rows) r k ++ stops_left o (kins rows) t.stack) → AreRowsOf rows t.stack
     → IsStage o rows goal (step o rows t r k)
@@ -307,9 +315,8 @@ nearer rows ordered o t r tasks.Leave i = at (tells_after o)
     at true = omega arith
     at false = omega arith
 
--- ---- the same of lists of steps
+-- ---- the last of what is left is taken off
 
--- the last of what is left is taken off
 module _ (rows : List Rowed) (ordered : SupersBefore [] rows) (o : Order) (goal : List Kin) (told : List Rowed) (seen left : List Class) (stack rest : List Marked) (next : Marked) (popped : stack ≡ rest ++ next ∷ []) where
   abbrev before : Toured
   before = record { told = told; seen = seen; left = left; stack = rest }
@@ -340,16 +347,6 @@ module _ (rows : List Rowed) (ordered : SupersBefore [] rows) (o : Order) (goal 
       let b = steps_both (kins rows) rest (next ∷ []) in
       let is : steps_left (kins rows) new.stack ≡ steps_left (kins rows) (step o rows before next.row next.task).stack = ap (λ (t : Toured). steps_left (kins rows) t.stack) e in
       omega arith
-
-module _ {A : Type 0} (rows : List Rowed) (ordered : SupersBefore [] rows) (o : Order) (goal : List Kin) (told : List Rowed) (seen left : List Class) (stack rest : List (Step A)) (next : Step A) (popped : stack ≡ rest ++ next ∷ []) where
-  pushed : marks stack ≡ marks rest ++ marked next ∷ []
-  pushed = ap (λ (ss : List (Step A)). marks ss) popped ∙ map_push (λ (s : Step A). marked s) rest next
-
-  pub preserved : (new : Toured) → IsStage o rows goal (record { told = told; seen = seen; left = left; stack = marks stack }) → new ≡ step o rows (record { told = told; seen = seen; left = left; stack = marks rest }) next.row.value next.task → IsStage o rows goal new
-  preserved new h e = preserved_by rows ordered o goal told seen left (marks stack) (marks rest) (marked next) pushed new h e
-
-  pub smaller : (new : Toured) → IsStage o rows goal (record { told = told; seen = seen; left = left; stack = marks stack }) → new ≡ step o rows (record { told = told; seen = seen; left = left; stack = marks rest }) next.row.value next.task → steps_left (kins rows) new.stack < steps_left (kins rows) (marks stack)
-  smaller new h e = smaller_by rows ordered o goal told seen left (marks stack) (marks rest) (marked next) pushed new h e
 
 pub first_stage : (rows : List Rowed) (o : Order) (r : Rowed) (wanted : Bool) (told : List Rowed) (seen left : List Class) (stack : List Marked) → IsRowIn rows r → told ≡ [] → seen ≡ [] → left ≡ []
     → stack ≡ record { row = r; task = tasks.Come wanted } ∷ [] → IsStage o rows (once (told_at o (stops o (alone (kin_under (kins rows) r)) wanted))) (record { told = told; seen = seen; left = left; stack = stack })

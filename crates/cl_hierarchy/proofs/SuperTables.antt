@@ -7,7 +7,7 @@ use Rattle.cl_model.specs.declared.class.Class.{Class}
 use Rattle.cl_model.specs.Classes.{class, same_class}
 use Rattle.cl_hierarchy.specs.Lineages.{row_of}
 use Rattle.cl_hierarchy.specs.Rows.{Rowed}
-use Rattle.cl_hierarchy.specs.Supers.{AreAllSupers, ArePlaces, AreSupers, HasRow, IsRowAt, Puts, place_in, row_at}
+use Rattle.cl_hierarchy.specs.Supers.{AreAllSupers, AreFirstOver, ArePlaces, AreSupers, HasRow, IsRowAt, Puts, place_in, row_at}
 use Rattle.cl_hierarchy.specs.Tours.{interface_row}
 use Rattle.cl_hierarchy.specs.Trees.{interface_places}
 use Rattle.cl_hierarchy.specs.declared.supers.Supers.{Supers}
@@ -21,7 +21,7 @@ pub drop_all : {A : Type 0} (xs : List A) → drop (length xs) xs ≡ []
 drop_all [] = refl
 drop_all (x ∷ xs) = drop_all xs
 
-drop_at : {A : Type 0} (xs : List A) (n : ℕ) (x : A) → slice_get xs n ≡ Some x → drop n xs ≡ x ∷ drop (suc n) xs
+pub drop_at : {A : Type 0} (xs : List A) (n : ℕ) (x : A) → slice_get xs n ≡ Some x → drop n xs ≡ x ∷ drop (suc n) xs
 drop_at [] n x e = absurd cc
 drop_at (y ∷ []) zero x e = ap (λ z. z ∷ []) (same_Some y x e)
 drop_at (y ∷ (w ∷ xs)) zero x e = ap (λ z. z ∷ (w ∷ xs)) (same_Some y x e)
@@ -77,7 +77,7 @@ get_none (x ∷ xs) (suc k) le = get_none xs k (omega (arith, le))
 -- the first of the superinterfaces stand there
 abbrev pub AreOverTo : List (Class × ℕ) → Rowed → List (Option ℕ) → Type 0
 AreOverTo entries r over =
-    (rows : List Rowed) → ArePlaces rows 0 entries → (k : ℕ) → k < length over → IsRowAt rows (interface_row rows r k) (place_in over k)
+    (rows : List Rowed) → ArePlaces rows 0 entries → AreFirstOver rows r over
 
 pub over_all : (entries : List (Class × ℕ)) (r : Rowed) (over : List (Option ℕ)) (ps : List ℕ) → ps ≡ interface_places r → length ps ≤ length over → AreOverTo entries r over
     → (rows : List Rowed) → ArePlaces rows 0 entries → (k : ℕ) → IsRowAt rows (interface_row rows r k) (place_in over k)

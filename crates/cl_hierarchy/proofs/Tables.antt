@@ -16,12 +16,13 @@ use Rattle.cl_model.specs.Views.{error_of}
 use Rattle.cl_model.specs.declared.verdict.ErrorKind.{ErrorKind}
 use Rattle.cl_model.specs.Frames.{wanted, asking}
 use Rattle.cl_config.specs.Views.{Configured}
-use Rattle.cl_hierarchy.specs.Drafts.{Drafted, IsSpelt, IsDraft}
+use Rattle.cl_hierarchy.specs.Drafts.{Drafted, IsDraft}
 use Rattle.cl_hierarchy.specs.Frames.{Framed, frame_of, with_place}
 use Rattle.cl_hierarchy.specs.Kept.{first_name, frames_in, pathed, KeepsPath, last_wants, name_after, LastAccepts}
 use Rattle.cl_hierarchy.specs.Paths.{Pathed, fresh, name_of, at_loader, at_name, is_on, IsPath, with_frame, with_frames, misfit_in, misfit_under, Accepts, Completes}
+use Rattle.cl_hierarchy.specs.Repeats.{FitsLast}
 use Rattle.cl_hierarchy.proofs.Ends.{Ends, last_split, set_last, frames_push, last_wants_of, asking_push, sought_push, first_push, under_last}
-use Rattle.cl_hierarchy.proofs.Paths.{stand_pop, path_push, path_pop, path_accept, Suits}
+use Rattle.cl_hierarchy.proofs.Paths.{stand_pop, path_push, path_pop, path_accept}
 
 -- ---- a class under which a frame stands
 
@@ -163,7 +164,7 @@ said_of r role one other t u f k p q e h =
 pub accepts_so : (es new : List (Class × Framed)) (place loader : ℕ) (o next : Option (List ℕ)) → place ≡ loader → o ≡ next → LastAccepts es new place o → LastAccepts es new loader next
 accepts_so es new place loader o next p q a = subst (λ (n : Option (List ℕ)). LastAccepts es new loader n) q (subst (λ (l : ℕ). LastAccepts es new l o) p a)
 
-snoc_same : {A : Type 0} (xs ys : List A) (x y : A) → xs ++ x ∷ [] ≡ ys ++ y ∷ [] → (xs ≡ ys) × (x ≡ y)
+pub snoc_same : {A : Type 0} (xs ys : List A) (x y : A) → xs ++ x ∷ [] ≡ ys ++ y ∷ [] → (xs ≡ ys) × (x ≡ y)
 snoc_same [] [] x y e = (refl, cc)
 snoc_same [] (z ∷ zs) x y e = let n = ap length e in let m = length-append zs (y ∷ []) in absurd (omega arith)
 snoc_same (z ∷ zs) [] x y e = let n = ap length e in let m = length-append zs (x ∷ []) in absurd (omega arith)
@@ -206,33 +207,18 @@ module _ (told : Option Content) (c : Configured) (loader : ℕ) (at : List ℕ)
   pub waits_last : KeepsPath told c loader at es → frames_in es ≢ [] → IsSome (last_wants es)
   waits_last kept some = last_waits es kept some
 
-  -- what is asked of the class that is accepted
-  pub record Fits (t : Class) (f : Structure) : Type 0 where
-    pub spelt : IsSpelt told t f
-    pub named : t.name ≡ at_name (pathed c loader at es)
-    pub fits : misfit_under (frames_in es) t (file_of f) ≡ None
-
-  suits : (before : List (Class × Framed)) (k : Class) (x : Framed) (t : Class) (f : Structure) → es ≡ before ++ (k, x) ∷ [] → Fits t f → Suits told c loader (first_name (frames_in before) x.draft.class.name) (frames_in before) x t f
-  suits before k x t f e fit =
-      let p = ends_as c loader at es before k x e in
-      record {
-        spelt = fit.spelt;
-        named = fit.named ∙ ap at_name p ∙ sought_push _ (frames_in before) x;
-        fits = sym (under_last (frames_in before) x t (file_of f)) ∙ ap (λ (xs : List Framed). misfit_under xs t (file_of f)) (sym (frames_push before k x) ∙ ap frames_in (sym e)) ∙ fit.fits;
-      }
-
   -- the last frame goes on
-  pub held_accept : (next : List ℕ) (new : List (Class × Framed)) (t : Class) (f : Structure) → KeepsPath told c loader at es → Fits t f → LastAccepts es new t.loader (Some next)
-      → KeepsPath told c loader next new × Accepts (pathed c loader at es) (pathed c loader next new) t.loader
-  held_accept next new t f kept fit a =
+  pub held_accept : (next : List ℕ) (new : List (Class × Framed)) (place : ℕ) → KeepsPath told c loader at es → FitsLast told (pathed c loader at es) place → LastAccepts es new place (Some next)
+      → KeepsPath told c loader next new × Accepts (pathed c loader at es) (pathed c loader next new) place
+  held_accept next new place kept fits a =
       let x = a.last in
-      let y = with_place x t.loader in
+      let y = with_place x place in
       let xs = frames_in a.before in
       let name = first_name xs x.draft.class.name in
       let p = ends_as c loader at es a.before a.key x a.split in
       let q = ends_as c loader next new a.before a.key y a.now in
       let wants = next_of (wanted (frame_of y)) next a.wants in
-      let path = path_accept told c loader name xs x t f (subst (IsPath told) p kept.path) (suits a.before a.key x t f a.split fit) wants.0 in
+      let path = path_accept told c loader name xs x place (subst (IsPath told) p kept.path) (fits xs x (ap (λ (z : Pathed). z.frames) p)) wants.0 in
       let keys = keys_pop a.before a.key x (subst (λ (l : List (Class × Framed)). map (λ e. e.0) l ≡ map (λ e. e.1.draft.class) l) a.split kept.keys) in (
         record {
           path = subst (IsPath told) (sym q) path;
@@ -249,19 +235,19 @@ module _ (told : Option Content) (c : Configured) (loader : ℕ) (at : List ℕ)
       )
 
   -- the last frame ends
-  pub held_end : (new rest : List (Class × Framed)) (k : Class) (x : Framed) (t : Class) → KeepsPath told c loader at es → LastAccepts es new t.loader None → new ≡ rest ++ (k, x) ∷ []
-      → KeepsPath told c loader k.name rest × Completes (pathed c loader at es) (pathed c loader k.name rest) t.loader x
-  held_end new rest k x t kept a popped =
+  pub held_end : (new rest : List (Class × Framed)) (k : Class) (x : Framed) (place : ℕ) → KeepsPath told c loader at es → LastAccepts es new place None → new ≡ rest ++ (k, x) ∷ []
+      → KeepsPath told c loader k.name rest × Completes (pathed c loader at es) (pathed c loader k.name rest) place x
+  held_end new rest k x place kept a popped =
       let was = a.last in
       let xs = frames_in a.before in
       let name = first_name xs was.draft.class.name in
-      let last = snoc_same rest a.before (k, x) (a.key, with_place was t.loader) (sym popped ∙ a.now) in
+      let last = snoc_same rest a.before (k, x) (a.key, with_place was place) (sym popped ∙ a.now) in
       let p = ends_as c loader at es a.before a.key was a.split in
       let whole = subst (IsPath told) p kept.path in
       let stood = (stand_pop c loader name xs was whole.stand).1 in
       let keys = keys_pop a.before a.key was (subst (λ (l : List (Class × Framed)). map (λ e. e.0) l ≡ map (λ e. e.1.draft.class) l) a.split kept.keys) in
       let key : k ≡ was.draft.class = ap (λ (e : Class × Framed). e.0) last.1 ∙ keys.1 in
-      let whole_is : x ≡ with_place was t.loader = ap (λ (e : Class × Framed). e.1) last.1 in
+      let whole_is : x ≡ with_place was place = ap (λ (e : Class × Framed). e.1) last.1 in
       let below : pathed c loader k.name rest ≡ record { config = c; loader = loader; name = name; frames = xs } =
       same_path c loader _ _ _ _ (ap (λ (l : List (Class × Framed)). first_name (frames_in l) k.name) last.0 ∙ ap (λ (z : Class). first_name xs z.name) key) (ap frames_in last.0) in (
         record {
@@ -275,6 +261,6 @@ module _ (told : Option Content) (c : Configured) (loader : ℕ) (at : List ℕ)
           split = ap (λ (z : Pathed). z.frames) p;
           now = below ∙ ap (λ (z : Pathed). with_frames z xs) (sym p);
           whole_is = whole_is;
-          complete = ap (λ (y : Framed). wanted (frame_of y)) whole_is ∙ last_next (wanted (frame_of (with_place was t.loader))) a.wants;
+          complete = ap (λ (y : Framed). wanted (frame_of y)) whole_is ∙ last_next (wanted (frame_of (with_place was place))) a.wants;
         },
       )

@@ -1,11 +1,11 @@
 -- Lists of loading constraints, with what they were made from (JVMS SE 8, 5.3.4, 5.4.2, 5.4.3).
-use Rattle.std.specs.Prelude.{◌≡◌, ◌≤◌, ℕ, Contains, if◌then◌else◌, List, [], flat_map, length, map, nat_le, Some}
+use Rattle.std.specs.Prelude.{◌≡◌, ◌≤◌, ℕ, Contains, List, [], flat_map, length, map, Some}
 use Rattle.cl_model.specs.declared.need.Equality.{Equality}
 use Rattle.cl_model.specs.declared.need.Need.TheVariants as needs
 use Rattle.cl_model.specs.Lineages.{Kin, superclasses}
 use Rattle.cl_model.specs.Plans.{CitesClass, resolve_in}
 use Rattle.cl_model.specs.Preparation.{constraints_of}
-use Rattle.cl_model.specs.States.{AllMet, Equal, IsNext, Need, State, Verdict}
+use Rattle.cl_model.specs.States.{AllMet, IsNext, Need, State, Verdict}
 use Rattle.cl_model.specs.Views.{need_of}
 use Rattle.cl_model.specs.Works.{Made}
 use Rattle.cl_hierarchy.specs.Lineages.{Lined, kin_of}
@@ -17,11 +17,6 @@ use Rattle.cl_hierarchy.specs.declared.equalities.Origin.TheVariants as origins
 -- an equality as a need (5.3.4)
 abbrev pub equal_need : Equality → Need
 equal_need e = need_of (needs.Equal e)
-
--- that two loaders have the same class of a name, the lesser loader first (5.3.4)
-abbrev pub equal_between : List ℕ → ℕ → ℕ → Need
-equal_between name one other =
-    if nat_le one other then Equal name one other else Equal name other one
 
 -- equalities as needs, in order (5.3.4)
 abbrev pub needs_of : List Equality → List Need

@@ -13,6 +13,8 @@ pub mod OversAt
 pub mod Paths
 pub mod PlaceTours
 pub mod Places
+pub mod NamedBefore
+pub mod Repeats
 pub mod RowIndex
 pub mod RowTables
 pub mod Rows

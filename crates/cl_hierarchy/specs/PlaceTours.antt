@@ -1,5 +1,5 @@
 -- Tours through superinterfaces by the places of their rows (JVMS SE 8, 5.4.3.3).
-use Rattle.std.specs.Prelude.{◌≡◌, ◌⊎◌, ℕ, Bool, IfSome, List, [], ◌∷◌, ◌++◌, Option, Some, filter_map, map, option_map, slice_get}
+use Rattle.std.specs.Prelude.{◌≡◌, ◌<◌, ◌≤◌, ◌⊎◌, ℕ, Bool, true, IfSome, List, [], ◌∷◌, ◌++◌, Option, Some, filter_map, map, option_map, slice_get}
 use Rattle.std.specs.List.{AllByRecursion}
 use Rattle.cl_model.specs.declared.class.Class.{Class}
 use Rattle.cl_model.specs.Classes.{is_among}
@@ -10,7 +10,7 @@ use Rattle.cl_hierarchy.specs.declared.tour.Order.TheVariants as orders
 use Rattle.cl_hierarchy.specs.declared.tour.Task.{Task}
 use Rattle.cl_hierarchy.specs.declared.tour.Task.TheVariants as tasks
 use Rattle.cl_hierarchy.specs.Rows.{Rowed}
-use Rattle.cl_hierarchy.specs.Supers.{AreAllSupers, HasRow}
+use Rattle.cl_hierarchy.specs.Supers.{AreAllSupers, HasRow, place_in}
 use Rattle.cl_hierarchy.specs.Tours.{Marked, Toured, opened, passing, step, telling, telling_all}
 use Rattle.cl_hierarchy.specs.Trees.{SupersBefore, kin_under, kins}
 use Rattle.cl_hierarchy.specs.declared.supers.Supers.{Supers}
@@ -107,6 +107,29 @@ pub record AreSuperinterfacesAt (rows : List Rowed) (start : Rowed) (places : Li
       map (kin_under (kins rows)) (rows_at rows places)
       ≡ superinterfaces (kin_under (kins rows) start)
 
+-- ---- superinterfaces that were told and left
+
+-- a place is given, and where it has marks the class there was told and left
+abbrev pub IsDone : List Bool → List Bool → Option ℕ → Type 0
+IsDone told left place =
+    (p : ℕ) × (place ≡ Some p) × IfSome (slice_get told p) (λ b. b ≡ true)
+    × IfSome (slice_get left p) (λ b. b ≡ true)
+
+-- those at these places, from one number on and before another
+pub record AreSkipped (over : List (Option ℕ)) (told left : List Bool) (from to : ℕ) : Type 0 where
+  pub onwards : from ≤ to
+  pub each : (k : ℕ) → from ≤ k → k < to → IsDone told left (place_in over k)
+
+-- one step, which may skip superinterfaces that were told and left: to come to them would change
+-- nothing (5.4.3.3)
+abbrev pub GoesOn : List Supers → Placed → ℕ → Task → Placed → Type 0
+GoesOn table old place (tasks.Over at) new =
+    (next : ℕ)
+    × ((s : Supers) → slice_get table place ≡ Some s
+    → AreSkipped s.over.items old.is_told old.is_left at next)
+    × Steps table old place (tasks.Over next) new
+GoesOn table old place task new = Steps table old place task new
+
 -- ---- a class of which the superinterfaces are known
 
 -- the classes at these places are told, one after another
@@ -128,7 +151,7 @@ Passes table old place wanted over new =
 -- one step, or the class is passed of which these are known
 abbrev pub Moves : List Supers → Placed → Spot → Option OverAt → Placed → Type 0
 Moves table old next known new =
-    Steps table old next.place next.task new
+    GoesOn table old next.place next.task new
     ⊎ ((o : OverAt) × (known ≡ Some o) × (o.of ≡ next.place)
     × ((wanted : Bool) × (next.task ≡ tasks.Come wanted)
     × Passes table old next.place wanted o.places.items new))

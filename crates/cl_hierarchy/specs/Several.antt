@@ -9,5 +9,5 @@ abbrev pub superinterfaces_of_any : List Kin → List Class
 superinterfaces_of_any ks = flat_map (λ k. classes (superinterfaces k)) ks
 
 -- these classes joined others
-abbrev pub Joins : List Class → List Class → List Class → Type 0
-Joins old more new = (c : Class) → is_among new c ≡ (is_among old c || is_among more c)
+abbrev pub Gains : List Class → List Class → List Class → Type 0
+Gains old more new = (c : Class) → is_among new c ≡ (is_among old c || is_among more c)

@@ -1,5 +1,5 @@
 -- Where the direct supertypes of rows stand among these (JVMS SE 8, 5.3.5, steps 3 and 4).
-use Rattle.std.specs.Prelude.{◌≡◌, ℕ, if◌then◌else◌, List, Option, Some, drop, slice_get, option_and_then, IfSome}
+use Rattle.std.specs.Prelude.{◌≡◌, ◌<◌, ℕ, if◌then◌else◌, List, Option, Some, drop, length, slice_get, option_and_then, IfSome}
 use Rattle.std.specs.List.{AllZip}
 use Rattle.std.specs.Map.{lookup}
 use Rattle.cl_model.specs.declared.class.Class.{Class}
@@ -38,6 +38,11 @@ ArePlaces rows from entries =
 -- a place in a list, if there is one
 abbrev pub place_in : List (Option ℕ) → ℕ → Option ℕ
 place_in places k = option_and_then (λ (o : Option ℕ). o) (slice_get places k)
+
+-- the first of the superinterfaces of a class stand at these
+abbrev pub AreFirstOver : List Rowed → Rowed → List (Option ℕ) → Type 0
+AreFirstOver rows r over =
+    (k : ℕ) → k < length over → IsRowAt rows (interface_row rows r k) (place_in over k)
 
 -- where the superclass of a class and its superinterfaces stand (5.3.5, steps 3 and 4)
 pub record AreSupers (rows : List Rowed) (r : Rowed) (s : Supers) : Type 0 where

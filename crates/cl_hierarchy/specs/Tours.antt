@@ -1,6 +1,6 @@
 -- Tours through all that stands above a class, and what of one is left
 -- (JVMS SE 8, 5.3.5, 5.4.3.2, 5.4.3.3).
-use Rattle.std.specs.Prelude.{ℕ, ◌+◌, ◌*◌, Bool, true, false, if◌then◌else◌, List, [], ◌∷◌, ◌++◌, Option, Some, None, drop, flat_map, map, slice_get, option_and_then}
+use Rattle.std.specs.Prelude.{◌≡◌, ℕ, ◌+◌, ◌*◌, Bool, true, false, if◌then◌else◌, List, [], ◌∷◌, ◌++◌, Option, Some, None, drop, flat_map, map, slice_get, option_and_then}
 use Rattle.cl_model.specs.declared.class.Class.{Class}
 use Rattle.cl_model.specs.Classes.{is_among}
 use Rattle.cl_model.specs.Lineages.{Forest, Bare, Tree, Kin, alone}
@@ -10,6 +10,7 @@ use Rattle.cl_hierarchy.specs.declared.tour.Task.{Task}
 use Rattle.cl_hierarchy.specs.declared.tour.Task.TheVariants as tasks
 use Rattle.cl_hierarchy.specs.declared.tour.Step.{Step}
 use Rattle.cl_hierarchy.specs.declared.tour.Tour.{Tour}
+use Rattle.cl_hierarchy.specs.NamedBefore.{AreNamedBefore}
 use Rattle.cl_hierarchy.specs.Rows.{Rowed}
 use Rattle.cl_hierarchy.specs.Trees.{forest, interfaces_in, kin_under, superclass_in}
 use Rattle.cl_hierarchy.specs.Lineages.{row_of}
@@ -199,6 +200,13 @@ step o rows t r (tasks.Over place) =
     record t { stack = t.stack ++ over_from r place (interface_row rows r place) }
 step o rows t r tasks.Leave =
     let x = telling (tells_after o) t r in record x { left = with_class x.left r.class }
+
+-- the same, where it may pass superinterfaces that were named before: to come to them again would
+-- change nothing
+abbrev pub TakesStep : Order → List Rowed → Toured → Rowed → Task → Toured → Type 0
+TakesStep o rows old r (tasks.Over at) new =
+    (next : ℕ) × AreNamedBefore (interfaces_in r) at next × (new ≡ step o rows old r (tasks.Over next))
+TakesStep o rows old r task new = new ≡ step o rows old r task
 
 -- a class is told, where that is wanted, then these rows, which are of all that stands above it, and it
 -- is left

@@ -7,7 +7,7 @@ ghost use Rattle.cl_hierarchy.specs.Drafts.{ByGrammar, IsDraft, IsWrong, fault_a
 ghost use Rattle.cl_hierarchy.specs.DraftReads.{ReadAs};
 ghost use Rattle.cl_source.specs.Told.{IsTold};
 
-use crate::supertype::{Supertype, supertype_of, supertypes_of};
+use crate::supertype::{Supertype, first_of_name, supertype_of, supertypes_of};
 use cl_classfile::{ClassFile, Fault, ReadError};
 use cl_delegation::Home;
 use cl_model::{Class, Told};
@@ -195,6 +195,17 @@ impl<T: Told> Draft<T> {
         // brings that a `usize` counts the interfaces
         let _ = count_of(self.file.interfaces());
         supertype_of(&self.file, place)
+    }
+
+    /// The place of a direct supertype of the same name and role as the one at a place, which comes first or is that one: where
+    /// the file names an interface often, the place at which it does so first, unless it names only a few. So who looks for
+    /// each need not look for one again. Constant time.
+    pub fn first_of_name(&self, place: usize) -> usize
+        ensures before { result ≤ place }
+        ensures same { slice_get (supers (file_of self.now.file)) result
+            ≡ slice_get (supers (file_of self.now.file)) place }
+    {
+        first_of_name(&self.file, place)
     }
 
     /// How many direct supertypes it has.

@@ -1,8 +1,8 @@
 //! Lists of loading constraints (JVMS SE 8, 5.3.4, 5.4.2, 5.4.3).
 
 ghost use Rattle.std.specs.Prelude.{◌≡◌};
-ghost use Rattle.cl_model.specs.Preparation.{constraints_of};
-ghost use Rattle.cl_hierarchy.specs.Imposed.{AreEnough, AreOf, AreOfReference, OfPreparation, OfReference, equal_between, equal_need, known_by, needs_of, sprung};
+ghost use Rattle.cl_model.specs.Preparation.{constraints_of, equal_between};
+ghost use Rattle.cl_hierarchy.specs.Imposed.{AreEnough, AreOf, AreOfReference, OfPreparation, OfReference, equal_need, known_by, needs_of, sprung};
 ghost use Rattle.cl_hierarchy.specs.Lineages.{kin_of};
 
 use crate::class_at::ClassAt;

@@ -7,6 +7,7 @@ ghost use Rattle.cl_model.specs.Classes.{class, supers};
 ghost use Rattle.cl_model.specs.Frames.{NamedAs, accepting, wanted};
 ghost use Rattle.cl_hierarchy.specs.Frames.{frame_of, with_place};
 ghost use Rattle.cl_hierarchy.specs.Kept.{name_after};
+ghost use Rattle.cl_hierarchy.specs.Repeats.{Repeats};
 ghost use Rattle.cl_hierarchy.specs.Supertypes.{plain_supertype};
 
 use crate::draft::Draft;
@@ -77,6 +78,16 @@ impl<T: Told> Frame<T> {
         ensures { option_map plain_supertype result ≡ wanted (frame_of self.now) }
     {
         self.draft.supertype(self.places.len())
+    }
+
+    /// The loader that defined the class of the supertype that comes next, where the file names that one again and it was
+    /// accepted before. Constant time.
+    pub fn repeated(&self) -> Option<LoaderId>
+        ensures { IfSome result (Repeats self.now) }
+    {
+        let first = self.draft.first_of_name(self.places.len());
+        let place = self.places.as_slice().get(first)?;
+        Some(*place)
     }
 
     /// Accepts the supertype that comes next, of which this loader defined the class.

@@ -43,6 +43,6 @@ pub use lineages::Lineages;
 pub use making::{LineageFault, RowTable};
 pub use member::member_accessible;
 pub use over::Overs;
-pub use path::Path;
+pub use path::{Again, Path};
 pub use row::ClassRow;
 pub use supertype::{Role, Supertype};

@@ -1,6 +1,6 @@
 //! The classes that are being derived for one request.
 
-ghost use Rattle.std.specs.Prelude.{◌≡◌, ◌≢◌, ◌==◌, ◌<◌, ◌++◌, ◌∷◌, [], slice_get, None, OnOk, IfOk, IfErr, IsSome, MatchOption, false, length};
+ghost use Rattle.std.specs.Prelude.{◌≡◌, ◌≢◌, ◌==◌, ◌<◌, ◌++◌, ◌∷◌, [], slice_get, None, OnOk, IfOk, IfErr, IfSome, IsSome, MatchOption, false, length};
 ghost use Rattle.std.specs.Option.{option_map};
 ghost use Rattle.indexmap.specs.IndexMap.{get, spare};
 ghost use Rattle.cl_classfile.specs.Files.{file_of};
@@ -10,6 +10,7 @@ ghost use Rattle.cl_model.specs.Views.{error_of};
 ghost use Rattle.cl_hierarchy.specs.Frames.{frame_of};
 ghost use Rattle.cl_hierarchy.specs.Kept.{LastAccepts, last_wants};
 ghost use Rattle.cl_hierarchy.specs.Paths.{Accepts, Completes, IsPath, Stands, at_loader, at_name, fresh, name_of, is_on, misfit_under, sought_class, with_frame};
+ghost use Rattle.cl_hierarchy.specs.Repeats.{FitsLast, Goes, RepeatsLast};
 
 use crate::draft::Draft;
 use crate::fit::misfit;
@@ -23,6 +24,17 @@ use std::alloc::{AllocError, Global};
 use std::marker::Model;
 use std::mem;
 use std::sync::Arc;
+
+/// What became of a supertype that is looked for, which the last class may have accepted before.
+#[derive(Drop)]
+pub enum Again<T: Told> {
+    /// It was not; it is still looked for.
+    Other,
+    /// It is accepted again, and the class waits for the next.
+    Waits,
+    /// It is accepted again and was the last one: the whole frame of the class.
+    Whole(Frame<T>),
+}
 
 /// Frames by their classes.
 type Frames<T> = IndexMap<Class, Frame<T>, Seed>;
@@ -222,7 +234,43 @@ impl<T: Told> Path<T> {
             (λ x. Completes self.old self.new row.now.class.loader x)) }
         ensures unchanged { IfErr result (λ e. self.new ≡ self.old) }
     {
-        match accept_last(&mut self.frames, row.class().loader)? {
+        self.accept_as(row.class().loader)
+    }
+
+    /// The last class accepts the supertype that is looked for, where it accepted that one before: the file names it again. It
+    /// asks nobody again, since what a loader recorded stays so, and fits in the same role as before (JVMS SE 8, 5.3, 5.3.5).
+    pub fn accept_again(&mut self) -> Result<Again<T>, AllocError>
+        ensures goes { IfOk result (Goes self.old self.new) }
+        ensures path { IsPath T.told self.old }
+        ensures unchanged { IfErr result (λ e. self.new ≡ self.old) }
+    {
+        match self.repeated() {
+            None => Ok(Again::Other),
+            Some(place) => match self.accept_as(place)? {
+                None => Ok(Again::Waits),
+                Some(whole) => Ok(Again::Whole(whole)),
+            },
+        }
+    }
+
+    /// The loader that defined the class of the supertype that is looked for, where the last class accepted that one before.
+    fn repeated(&self) -> Option<LoaderId>
+        ensures repeats { IfSome result (RepeatsLast self.now) }
+        ensures path { IsPath T.told self.now }
+    {
+        let (_, frame) = self.frames.last()?;
+        frame.repeated()
+    }
+
+    /// The last class accepts the supertype that is looked for, of which this loader defined the class.
+    fn accept_as(&mut self, place: LoaderId) -> Result<Option<Frame<T>>, AllocError>
+        requires waits { self.old.frames ≢ [] }
+        requires fits { FitsLast T.told self.old place }
+        ensures accepted { IfOk result (λ o. MatchOption o (Accepts self.old self.new place)
+            (λ x. Completes self.old self.new place x)) }
+        ensures unchanged { IfErr result (λ e. self.new ≡ self.old) }
+    {
+        match accept_last(&mut self.frames, place)? {
             Some(next) => {
                 self.at = next;
                 Ok(None)

@@ -3,7 +3,7 @@
 
 ghost use Rattle.std.specs.Prelude.{◌≡◌, ◌<◌, ◌≤◌, ◌+◌, List, [], ◌++◌, Some, false, length, map, option_map, option_to_list, slice_get, true, IfOk, IfSome, OnOk};
 ghost use Rattle.cl_hierarchy.specs.OversAt.{sharing_in};
-ghost use Rattle.cl_hierarchy.specs.PlaceTours.{AreKnown, AreSuperinterfacesAt, AreTold, IsOpened, IsPushed, IsTold, Moves, Passes, Steps, rows_at};
+ghost use Rattle.cl_hierarchy.specs.PlaceTours.{AreKnown, AreSkipped, AreSuperinterfacesAt, AreTold, GoesOn, IsDone, IsOpened, IsPushed, IsTold, Moves, Passes, Steps, rows_at};
 ghost use Rattle.cl_hierarchy.specs.Rows.{Rowed};
 ghost use Rattle.cl_hierarchy.specs.Supers.{AreAllSupers, place_in};
 ghost use Rattle.cl_hierarchy.specs.Trees.{SupersBefore};
@@ -167,17 +167,20 @@ impl PlaceTour {
         self.open(table, place)
     }
 
-    /// Comes to a superinterface of the class at a place, and then goes on with the next.
+    /// Comes to the next superinterface of the class at a place, but for those that were told and left: to come to them would change
+    /// nothing. Then goes on behind it.
     fn go_over(&mut self, table: &[Supers], place: usize, at: usize) -> Result<(), AllocError>
-        ensures { OnOk result (Steps table.now self.old place (tasks.Over at) self.new) }
+        ensures { OnOk result (GoesOn table.now self.old place (tasks.Over at) self.new) }
     {
-        let Some(above) = over_at(table, place, at) else {
+        let over = all_over(table, place);
+        let next = first_undone(over, self.is_told.as_slice(), self.is_left.as_slice(), at);
+        let Some(above) = over_at(over, next) else {
             return Ok(());
         };
-        let Some(next) = at.checked_add(1) else {
+        let Some(behind) = next.checked_add(1) else {
             return Err(AllocError);
         };
-        self.push(place, Task::Over(next))?;
+        self.push(place, Task::Over(behind))?;
         self.push(above, Task::Come(true))
     }
 
@@ -193,7 +196,7 @@ impl PlaceTour {
 
     /// Takes one step.
     fn go(&mut self, table: &[Supers], next: Spot) -> Result<(), AllocError>
-        ensures { OnOk result (Steps table.now self.old next.place next.task self.new) }
+        ensures { OnOk result (GoesOn table.now self.old next.place next.task self.new) }
     {
         match next.task {
             Task::Come(wanted) => self.come(table, next.place, wanted),
@@ -268,12 +271,43 @@ pub(crate) fn up_at(table: &[Supers], place: usize) -> Option<usize>
     table.get(place)?.up
 }
 
-/// Where a superinterface of the class at a place stands, if it has so many.
-fn over_at(table: &[Supers], place: usize, at: usize) -> Option<usize>
-    ensures { (s : Supers) → slice_get table.now place ≡ Some s
-        → result ≡ place_in s.over.items at }
+/// Where the superinterfaces of the class at a place stand.
+fn all_over(table: &[Supers], place: usize) -> &[Option<usize>]
+    ensures { (s : Supers) → slice_get table.now place ≡ Some s → result.now ≡ s.over.items }
 {
-    *table.get(place)?.over.get(at)?
+    match table.get(place) {
+        None => &[],
+        Some(supers) => supers.over.as_slice(),
+    }
+}
+
+/// Where a superinterface of these stands, if there are so many.
+fn over_at(over: &[Option<usize>], at: usize) -> Option<usize>
+    ensures { result ≡ place_in over.now at }
+{
+    *over.get(at)?
+}
+
+/// Whether the class at a place was told and left, by these marks; not where there is none.
+fn is_done(is_told: &[bool], is_left: &[bool], place: Option<usize>) -> bool
+    ensures { result ≡ true → IsDone is_told.now is_left.now place }
+{
+    match place {
+        None => false,
+        Some(place) => is_marked(is_told, place) && is_marked(is_left, place),
+    }
+}
+
+/// A number from one on, up to which all these superinterfaces were told and left: that of the first which was not, or behind the
+/// last.
+fn first_undone(over: &[Option<usize>], is_told: &[bool], is_left: &[bool], at: usize) -> usize
+    ensures { AreSkipped over.now is_told.now is_left.now at result }
+{
+    let mut next = at;
+    while next < over.len() && is_done(is_told, is_left, over[next]) {
+        next += 1;
+    }
+    next
 }
 
 /// The places of the rows of all superinterfaces of the class at a place, each once at its first place, in time linear in its

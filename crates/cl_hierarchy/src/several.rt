@@ -5,7 +5,7 @@ ghost use Rattle.std.specs.List.{AllByRecursion};
 ghost use Rattle.cl_model.specs.Classes.{class, is_among};
 ghost use Rattle.cl_model.specs.declared.class.Class.{Class};
 ghost use Rattle.cl_hierarchy.specs.Lineages.{IsRowIn};
-ghost use Rattle.cl_hierarchy.specs.Several.{Joins, superinterfaces_of_any};
+ghost use Rattle.cl_hierarchy.specs.Several.{Gains, superinterfaces_of_any};
 ghost use Rattle.cl_hierarchy.specs.Trees.{SupersBefore, interfaces_in, kin_under, kins, superclass_in};
 
 use crate::row::ClassRow;
@@ -21,7 +21,7 @@ pub(crate) type Classes = IndexSet<Class, Seed>;
 
 /// One class more.
 fn put(classes: &mut Classes, class: Class) -> Result<(), AllocError>
-    ensures { OnOk result (Joins classes.old.keys (class ∷ []) classes.new.keys) }
+    ensures { OnOk result (Gains classes.old.keys (class ∷ []) classes.new.keys) }
 {
     classes.insert(class)?;
     Ok(())
@@ -29,7 +29,7 @@ fn put(classes: &mut Classes, class: Class) -> Result<(), AllocError>
 
 /// The same, if there is one.
 fn put_if(classes: &mut Classes, class: Option<Class>) -> Result<(), AllocError>
-    ensures { OnOk result (Joins classes.old.keys (option_to_list class) classes.new.keys) }
+    ensures { OnOk result (Gains classes.old.keys (option_to_list class) classes.new.keys) }
 {
     match class {
         None => Ok(()),
@@ -43,7 +43,7 @@ fn put_all<T: Told>(
     classes: &mut Classes,
     rows: &[Arc<ClassRow<T>>],
 ) -> Result<(), AllocError>
-    ensures { OnOk result (Joins classes.old.keys (map (λ r. r.value.class) rows.now)
+    ensures { OnOk result (Gains classes.old.keys (map (λ r. r.value.class) rows.now)
         classes.new.keys) }
 {
     for row in rows {
@@ -68,7 +68,7 @@ fn put_superclass<T: Told>(
     classes: &mut Classes,
     row: &ClassRow<T>,
 ) -> Result<(), AllocError>
-    ensures { OnOk result (Joins classes.old.keys (superclass_in row.now) classes.new.keys) }
+    ensures { OnOk result (Gains classes.old.keys (superclass_in row.now) classes.new.keys) }
 {
     match superclass_named(row) {
         None => Ok(()),
@@ -93,15 +93,18 @@ fn interface_at<T: Told>(
     }
 }
 
-/// All direct superinterfaces of a row's class (JVMS SE 8, 5.3.5, step 4).
+/// All direct superinterfaces of a row's class (JVMS SE 8, 5.3.5, step 4). One that was named before is passed.
 fn put_interfaces<T: Told>(
     alloc: Global,
     classes: &mut Classes,
     row: &ClassRow<T>,
 ) -> Result<(), AllocError>
-    ensures { OnOk result (Joins classes.old.keys (interfaces_in row.now) classes.new.keys) }
+    ensures { OnOk result (Gains classes.old.keys (interfaces_in row.now) classes.new.keys) }
 {
     for place in 0..row.interface_places().len() {
+        if row.first_like(place) < place {
+            continue;
+        }
         put_if(classes, interface_at(alloc, row, place)?)?;
     }
     Ok(())
@@ -116,8 +119,8 @@ fn look<T: Told>(
     left: &mut Classes,
     row: &ClassRow<T>,
 ) -> Result<(), AllocError>
-    ensures found { OnOk result (Joins found.old.keys (interfaces_in row.now) found.new.keys) }
-    ensures left { OnOk result (Joins left.old.keys (interfaces_in row.now ++ superclass_in row.now)
+    ensures found { OnOk result (Gains found.old.keys (interfaces_in row.now) found.new.keys) }
+    ensures left { OnOk result (Gains left.old.keys (interfaces_in row.now ++ superclass_in row.now)
         left.new.keys) }
 {
     put_interfaces(alloc, found, row)?;

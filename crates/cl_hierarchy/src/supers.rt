@@ -1,11 +1,11 @@
 //! Where the direct supertypes of the rows of a lineage stand among them, so that no name is looked for on a tour through these
 //! (JVMS SE 8, 5.3.5, steps 3 and 4).
 
-ghost use Rattle.std.specs.Prelude.{◌≡◌, List, map, IfOk, OnOk};
+ghost use Rattle.std.specs.Prelude.{◌≡◌, List, length, map, IfOk, OnOk};
 ghost use Rattle.cl_model.specs.Classes.{class};
 ghost use Rattle.cl_hierarchy.specs.Lineages.{row_of};
 ghost use Rattle.cl_hierarchy.specs.Rows.{Rowed};
-ghost use Rattle.cl_hierarchy.specs.Supers.{ArePlaces, AreAllSupers, AreSupers, IsRowAt, Puts};
+ghost use Rattle.cl_hierarchy.specs.Supers.{ArePlaces, AreAllSupers, AreFirstOver, AreSupers, IsRowAt, Puts};
 ghost use Rattle.cl_hierarchy.specs.Tours.{first_row, interface_row};
 ghost use Rattle.cl_hierarchy.specs.Trees.{superclass_in};
 
@@ -111,6 +111,26 @@ fn place_over<T: Told>(
     }
 }
 
+/// Where the row of the next superinterface of a row stands, if there is one, by where those of the superinterfaces before it stand.
+/// Of one that was named before it was found already.
+fn next_over<T: Told>(
+    alloc: Global,
+    places: &Places,
+    row: &ClassRow<T>,
+    over: &[Option<usize>],
+) -> Result<Option<usize>, AllocError>
+    ensures { IfOk result (λ o. (rows : List Rowed) → ArePlaces rows 0 places.now.entries
+        → AreFirstOver rows row.now over.now
+        → IsRowAt rows (interface_row rows row.now (length over.now)) o) }
+{
+    let at = over.len();
+    let first = row.first_like(at);
+    if first < at {
+        return Ok(over[first]);
+    }
+    place_over(alloc, places, row, at)
+}
+
 /// Where the direct supertypes of the class of a row stand.
 fn supers_of<T: Told>(
     alloc: Global,
@@ -123,8 +143,7 @@ fn supers_of<T: Told>(
     let up = place_up(alloc, places, row)?;
     let mut over = Vec::new(alloc);
     while over.len() < row.interface_places().len() {
-        let at = over.len();
-        over.push(place_over(alloc, places, row, at)?)?;
+        over.push(next_over(alloc, places, row, over.as_slice())?)?;
     }
     Ok(Supers { up, over })
 }

@@ -1,6 +1,6 @@
 //! The direct supertypes of a class file.
 
-ghost use Rattle.std.specs.Prelude.{◌≡◌, length, slice_get};
+ghost use Rattle.std.specs.Prelude.{◌≡◌, ◌≤◌, length, slice_get};
 ghost use Rattle.std.specs.Option.{option_map};
 ghost use Rattle.cl_classfile.specs.Files.{file_of};
 ghost use Rattle.cl_model.specs.Classes.{superinterfaces_of, supers};
@@ -48,6 +48,23 @@ fn superinterface_of(file: &ClassFile, place: usize) -> Option<Supertype<'_>>
         name,
         role: Role::Superinterface,
     })
+}
+
+/// The place of a direct supertype of the same name and role as the one at a place, which comes first or is that one.
+pub(crate) fn first_of_name(file: &ClassFile, place: usize) -> usize
+    ensures before { result ≤ place }
+    ensures same { slice_get (supers (file_of file.now)) result
+        ≡ slice_get (supers (file_of file.now)) place }
+{
+    match file.super_name() {
+        None => file.first_of_name(place),
+        Some(_) => {
+            if place == 0 {
+                return 0;
+            }
+            file.first_of_name(place - 1) + 1
+        }
+    }
 }
 
 /// How many direct supertypes a class file names.

@@ -7,11 +7,12 @@ ghost use Rattle.cl_model.specs.Classes.{class, is_among};
 ghost use Rattle.cl_model.specs.Lineages.{alone, once};
 ghost use Rattle.cl_hierarchy.specs.Lineages.{IsRowIn, row_of};
 ghost use Rattle.cl_hierarchy.specs.Rows.{Rowed};
-ghost use Rattle.cl_hierarchy.specs.Tours.{first_row, interface_row, marks, opened, opening, over_from, step, stops, telling, tells_after, tells_before, told_at, toured, up_first, upwards_of, wants_up, with_class, with_row};
+ghost use Rattle.cl_hierarchy.specs.Tours.{TakesStep, first_row, interface_row, marks, opened, opening, over_from, step, stops, telling, tells_after, tells_before, told_at, toured, up_first, upwards_of, wants_up, with_class, with_row};
 ghost use Rattle.cl_hierarchy.specs.declared.tour.Task.TheVariants as tasks;
 ghost use Rattle.cl_hierarchy.specs.Trees.{SupersBefore, kin_under, kins, superclass_in};
 
 use crate::row::ClassRow;
+use crate::several::Classes;
 use cl_model::{Class, LoaderId, Told};
 use cl_names::{Name, Seed};
 use indexmap::IndexSet;
@@ -107,8 +108,6 @@ impl<T: Told> Drop for Step<T> {
         let Step { row: _, task: _ } = self;
     }
 }
-
-type Classes = IndexSet<Class, Seed>;
 
 fn push<T: Told>(
     stack: &mut Vec<Step<T>>,
@@ -306,7 +305,7 @@ impl<T: Told> Tour<T> {
         Ok(())
     }
 
-    /// Takes one step.
+    /// Takes one step. A superinterface that was named before is passed.
     fn go<F: Finds<T>>(
         &mut self,
         alloc: Global,
@@ -314,12 +313,16 @@ impl<T: Told> Tour<T> {
         table: &F,
         next: &Step<T>,
     ) -> Result<(), AllocError>
-        ensures { OnOk result (toured self.new ≡ step order (F.rows table.now) (toured self.old)
-            next.now.row.value next.now.task) }
+        ensures { OnOk result (TakesStep order (F.rows table.now) (toured self.old)
+            next.now.row.value next.now.task (toured self.new)) }
     {
         match next.task {
             Task::Come(wanted) => self.come(alloc, order, table, &next.row, wanted),
-            Task::Over(place) => open_over(alloc, table, &mut self.stack, &next.row, place),
+            Task::Over(at) => {
+                // to come again to one that was named before would change nothing
+                let place = next.row.next_new(at);
+                open_over(alloc, table, &mut self.stack, &next.row, place)
+            }
             Task::Leave => self.leave(alloc, order, &next.row),
         }
     }

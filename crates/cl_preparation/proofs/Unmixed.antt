@@ -33,7 +33,7 @@ use Rattle.cl_hierarchy.specs.Trees.{interface_places, interfaces_in}
 use Rattle.cl_preparation.specs.declared.declarers.Declarers.{Declarers}
 use Rattle.cl_preparation.specs.declared.declarers.Declarers.TheVariants as declarers
 use Rattle.cl_preparation.specs.declared.declarers.MethodTexts.{MethodTexts}
-use Rattle.cl_preparation.specs.Declarers.{Has, IsNoted, IsRowNoted, IsTold, Joins, Keeps, NamesAre, is_known, is_mix, is_noted, is_plain, is_single, same_texts}
+use Rattle.cl_preparation.specs.Declarers.{AddsDeclarer, Has, IsNoted, IsRowNoted, IsTold, Keeps, NamesAre, is_known, is_mix, is_noted, is_plain, is_single, same_texts}
 use Rattle.cl_model.proofs.Derivations.{all_map}
 use Rattle.cl_preparation.specs.declared.survey.Survey.{Survey}
 use Rattle.cl_preparation.specs.Relatives.{bare}
@@ -52,7 +52,7 @@ texts_same t u e =
 pub texts_self : (t : MethodTexts) → same_texts t t ≡ true
 texts_self t = rw ((bytes_decides t.name t.name).1 refl) ((bytes_decides t.descriptor t.descriptor).1 refl)
 
-pub noted_more : {S : Type 0} (old new : IndexMap MethodTexts Declarers S) (t : MethodTexts) (d : Declarers) (named : Bool) (l : ℕ) → Joins (get same_texts old t) named l d
+pub noted_more : {S : Type 0} (old new : IndexMap MethodTexts Declarers S) (t : MethodTexts) (d : Declarers) (named : Bool) (l : ℕ) → AddsDeclarer (get same_texts old t) named l d
     → ((u : MethodTexts) → get same_texts new u ≡ cond (same_texts t u) (Some d) (get same_texts old u)) → Keeps old new × (is_noted new t named l ≡ true)
 noted_more {S} old new t d named l joins is = (
   λ u n a was. ap (λ (o : Option Declarers). is_known o n a) (is u) ∙ by u n a (same_texts t u) refl was,

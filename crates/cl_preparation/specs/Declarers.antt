@@ -45,7 +45,7 @@ abbrev pub is_known : Option Declarers → Bool → ℕ → Bool
 is_known known named l = option_map_or (λ d. admits d named l) known false
 
 -- these are those that were known with such a class
-pub record Joins (known : Option Declarers) (named : Bool) (l : ℕ) (d : Declarers) : Type 0 where
+pub record AddsDeclarer (known : Option Declarers) (named : Bool) (l : ℕ) (d : Declarers) : Type 0 where
   pub here : admits d named l ≡ true
   pub kept : (n : Bool) (a : ℕ) → is_known known n a ≡ true → admits d n a ≡ true
 

@@ -4,7 +4,7 @@ ghost use Rattle.std.specs.Prelude.{◌≡◌, ℕ, Some, false, true, IfOk, OnO
 ghost use Rattle.std.specs.List.{AllByRecursion};
 ghost use Rattle.cl_classfile.specs.Files.{method_of};
 ghost use Rattle.indexmap.specs.IndexMap.{get};
-ghost use Rattle.cl_preparation.specs.Declarers.{IsNoted, IsTold, Joins, Keeps, admits, is_mix, is_noted, is_plain, is_single, same_texts};
+ghost use Rattle.cl_preparation.specs.Declarers.{AddsDeclarer, IsNoted, IsTold, Keeps, admits, is_mix, is_noted, is_plain, is_single, same_texts};
 
 use crate::key::MethodKey;
 use crate::method::is_virtual;
@@ -109,7 +109,7 @@ impl Declarers {
 
     /// With one class more.
     fn with(&self, named: bool, loader: LoaderId) -> Declarers
-        ensures { Joins (Some self.now) named loader result }
+        ensures { AddsDeclarer (Some self.now) named loader result }
     {
         match self {
             Declarers::One(other) => {
@@ -188,7 +188,7 @@ pub(crate) fn is_no_mix(
 
 /// Who declares a method, with one class more.
 fn joined(declared: &Declared, texts: &MethodTexts, named: bool, loader: LoaderId) -> Declarers
-    ensures { Joins (get same_texts declared.now texts.now) named loader result }
+    ensures { AddsDeclarer (get same_texts declared.now texts.now) named loader result }
 {
     match declared.get(texts) {
         Some(known) => known.with(named, loader),

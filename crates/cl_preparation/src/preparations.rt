@@ -49,7 +49,7 @@ impl<T: Told> Model for Preparations<T> {
 }
 
 /// So many looks take longer than a survey of classes whose methods are no more.
-const MANY_LOOKS: usize = 1_000_000;
+const MANY_LOOKS: usize = 100_000;
 
 /// How many methods the classes above that of a lineage declare.
 fn count_methods<T: Told>(lineage: &Lineage<T>) -> usize {

@@ -57,6 +57,10 @@ fn put_named<T: Told>(alloc: Global, names: &mut Names, row: &ClassRow<T>) -> Re
     ensures { OnOk result (Has names.old names.new × NamesAre names.new row.now) }
 {
     for place in 0..row.file().interfaces().len() {
+        // (one that is named again is there)
+        if row.file().first_of_name(place) < place {
+            continue;
+        }
         match row.file().interface_name(place) {
             Some(name) => put(names, name.try_clone(alloc)?)?,
             None => {}

@@ -132,7 +132,7 @@ all_fit content x c n (a ∷ others) kept above fit =
     let r = recorded_row (Some content) x c.loader p a.name kept above.0.holds in
     let same : fit.0.place ≡ p = some_same fit.0.place p (sym fit.0.found ∙ above.0.found) in
     let fitting : Fitting w c a.role None (class a.name p) = subst (λ (q : ℕ). Fitting w c a.role None (class a.name q)) same fit.0.holds.1 in
-    let file : fitting.file ≡ file_of r.row.file = ok_same fitting.file (file_of r.row.file) (classes.file_of w (class a.name p)) fitting.has_file (row_file content x c.loader p a.name kept above.0.holds r) in
+    let file : fitting.file ≡ file_of r.row.file = ok_same fitting.file (file_of r.row.file) (classes.read_class w (class a.name p)) fitting.has_file (row_file content x c.loader p a.name kept above.0.holds r) in
     let fits : FitsAs c a r.row = ap (λ (t : Class). misfit c a.role t (file_of r.row.file)) r.is ∙ ap (λ (f : File). misfit c a.role (class a.name p) f) (sym file) ∙ fitting.judged in
     let more = all_fit content x c n others kept above.1 fit.1 in
     ((ap is_some above.0.holds, more.0), (if_some_row (FitsAs c a) (looked x c.loader a.name) r.row r.found fits, more.1))
@@ -140,14 +140,14 @@ all_fit content x c n (a ∷ others) kept above fit =
 -- the supertypes of a class that is good and has this file
 good_fits : (w : World) (n : ℕ) (c : Class) (f : File) → Good w n c → HasFile w c f → (m : ℕ) × AllByRecursion (FitsAt w c (Good w m)) (supers f)
 good_fits w zero c f good file = absurd good
-good_fits w (suc n) c f good file = (n, subst (λ (g : File). AllByRecursion (FitsAt w c (Good w n)) (supers g)) (ok_same good.0 f (classes.file_of w c) good.1 file) good.2)
+good_fits w (suc n) c f good file = (n, subst (λ (g : File). AllByRecursion (FitsAt w c (Good w n)) (supers g)) (ok_same good.0 f (classes.read_class w c) good.1 file) good.2)
 
 pub allowed_is_entered : AllowedIsEntered
 allowed_is_entered content x d kept draft config may =
     let w = world_of x.config content in
     let s = state_of x in
     let file : HasFile w d.class (file_of d.file) = spelt_file x.config content d.class d.file may.at_home draft.spelt in
-    let same : may.file ≡ file_of d.file = ok_same may.file (file_of d.file) (classes.file_of w d.class) may.has_file file in
+    let same : may.file ≡ file_of d.file = ok_same may.file (file_of d.file) (classes.read_class w d.class) may.has_file file in
     let good = good_fits w may.good.0 d.class (file_of d.file) may.good.1 file in
     let all = all_fit content x d.class good.0 (supers (file_of d.file)) kept (subst (λ (f : File). AllByRecursion (Stands w s d.class) (supers f)) same may.above) good.1 in (
       record { config = config; loader = loader_bound x.config content d.class.loader d.class.loader d.class.name may.at_home; above = all.0; fit = all.1 },

@@ -30,7 +30,7 @@ use Rattle.cl_hierarchy.proofs.MetAbove.{known_met, met_above}
 use Rattle.cl_findings.proofs.References.{through_made}
 use Rattle.cl_registry.specs.Allowed.{ImposedIsAllowed, MarkedIsAllowed, AllowedIsMarked}
 use Rattle.cl_findings.specs.Bases.{AreLineages}
-use Rattle.cl_registry.specs.Imposing.{ArePreparedAbove, HoldsFor, IsPreparedAbove, StandsFor}
+use Rattle.cl_registry.specs.Imposing.{ArePreparedAbove, HoldsFor, IsPreparedAbove, OriginStands}
 use Rattle.cl_registry.specs.Tables.{Shown, IsKept, state_of, steps}
 use Rattle.cl_registry.proofs.Allowed.{closed_of}
 
@@ -95,7 +95,7 @@ holds_by x l givens.Superclass h = all_left (IsPreparedAbove x l.own.class) (sup
 
 -- ---- equalities
 
-imposed_by : (content : Content) (x : Shown) (o : Sprung) (es : List Equality) (k : ℕ) (n : Equality) → IsKept (Some content) x → AreLineages (Some content) o → AreOf o (needs_of es) → StandsFor x o → AllMet (state_of x) (take k (needs_of es))
+imposed_by : (content : Content) (x : Shown) (o : Sprung) (es : List Equality) (k : ℕ) (n : Equality) → IsKept (Some content) x → AreLineages (Some content) o → AreOf o (needs_of es) → OriginStands x o → AllMet (state_of x) (take k (needs_of es))
     → slice_get es k ≡ Some n → (Met (state_of x) (equal_need n) → ⊥) → (Refused (state_of x) (equal_need n) → ⊥) → MayConstrain (setting_of x.config x.script content) (state_of x) n.name n.one n.other
 imposed_by content x (OfPreparation l given) es k n kept lined are stands earlier at unmet free = record {
   needs = constraints_of (kin_of l);

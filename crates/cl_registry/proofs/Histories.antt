@@ -43,8 +43,8 @@ pub state_more : (x y : Shown) (e : Step) → steps y ≡ steps x ++ e ∷ [] �
 state_more x y e is = ap (state_after start) is ∙ state_then start (steps x) (e ∷ [])
 
 -- tables stay trusted by a step that they allow
-pub trusted_more : (x y : Shown) (e : Step) → y.script ≡ x.script → steps y ≡ steps x ++ e ∷ [] → tables.IsTrusted (schedule_of x.script) x.script.rounds (steps x)
-    → Allows (schedule_of x.script) x.script.rounds (state_of x) e → tables.IsTrusted (schedule_of y.script) y.script.rounds (steps y)
+pub trusted_more : (x y : Shown) (e : Step) → y.script ≡ x.script → steps y ≡ steps x ++ e ∷ [] → tables.AreTrusted (schedule_of x.script) x.script.rounds (steps x)
+    → Allows (schedule_of x.script) x.script.rounds (state_of x) e → tables.AreTrusted (schedule_of y.script) y.script.rounds (steps y)
 trusted_more x y e same is trusted allows =
     rw (same, is) (trusted_goes_on (schedule_of x.script) x.script.rounds (steps x) e trusted allows)
 

@@ -28,7 +28,7 @@ use Rattle.cl_hierarchy.specs.Rows.{Rowed}
 use Rattle.cl_registry.specs.declared.registry.RegistryFault.{RegistryFault}
 use Rattle.cl_registry.specs.declared.registry.RegistryFault.TheVariants.{Memory, Stray, Violates, AlreadyPosted, NotYet}
 use Rattle.cl_findings.specs.Bases.{AreLineages, IsListed}
-use Rattle.cl_registry.specs.Imposing.{IsNextOf, MayConstrainAs, MayImpose, MayPrepareAs, StandsFor, with_constrain, with_prepare}
+use Rattle.cl_registry.specs.Imposing.{IsNextOf, MayConstrainAs, MayImpose, MayPrepareAs, OriginStands, with_constrain, with_prepare}
 use Rattle.cl_registry.specs.Kept.{Fields, IsRegistry}
 use Rattle.cl_registry.specs.Refusals.{AddRefusedFor, Blames, ImposeRefusedFor}
 use Rattle.cl_registry.specs.Tables.{Shown, state_of, IsKept}
@@ -44,7 +44,7 @@ within_rows : (x : Shown) (l : Lined) → l.config ≡ x.config → AllByRecursi
 within_rows x l config h = subst (λ (c : Configured). AllByRecursion (IsWithin c) (rows_in l)) config h
 
 -- the equalities of what stands in the tables name loaders that there are
-names_by : (told : Option Content) (x : Shown) (o : Sprung) (ns : List Need) → AreLineages told o → AreOf o ns → StandsFor x o → AllByRecursion (Names (λ l. l < length x.config.loaders)) ns
+names_by : (told : Option Content) (x : Shown) (o : Sprung) (ns : List Need) → AreLineages told o → AreOf o ns → OriginStands x o → AllByRecursion (Names (λ l. l < length x.config.loaders)) ns
 names_by told x (OfPreparation l given) ns is are stands =
     let P : ℕ → Type 0 = λ n. n < length x.config.loaders in
     all_among (Names P) (constraints_of (kin_of l)) ns are.among (constraints P (kin_of l) (lined P l (within_rows x l stands.0.config is.within)))

@@ -30,7 +30,7 @@ use Rattle.cl_hierarchy.specs.declared.equalities.Given.TheVariants as givens
 use Rattle.cl_findings.proofs.References.{opened}
 use Rattle.cl_registry.specs.Tables.{Shown, state_of, IsKept}
 use Rattle.cl_findings.specs.Bases.{AreLineages}
-use Rattle.cl_registry.specs.Imposing.{AreOfConfig, HoldsFor, HoldsIn, IsListOf, StandsFor}
+use Rattle.cl_registry.specs.Imposing.{AreOfConfig, HoldsFor, HoldsIn, IsListOf, OriginStands}
 use Rattle.cl_registry.specs.Allowed.{AllowedIsImposed}
 use Rattle.cl_registry.proofs.Allowed.{closed_of}
 use Rattle.cl_registry.proofs.Constrained.{home_prepared, lineage_at}
@@ -102,7 +102,7 @@ held content x l givens.Superclass kept lined config recorded h =
     (all_left (λ (a : Above). AtHome w l.own.class (Keeps (state_of x) l.own.class.loader) a.name) (superclass_of f) (superinterfaces_of f) stand)
 
 listed_stands : (content : Content) (x : Shown) (o : Sprung) (es : List Equality) (k : ℕ) (before : List Need) → IsKept (Some content) x → AreLineages (Some content) o → AreOf o (needs_of es) → AreOfConfig x.config o → k < length es
-    → IsListOf (world_of x.config content) (state_of x) o (before ++ needs_of es) → AllMet (state_of x) before → StandsFor x o
+    → IsListOf (world_of x.config content) (state_of x) o (before ++ needs_of es) → AllMet (state_of x) before → OriginStands x o
 listed_stands content x (OfPreparation l given) es k before kept lined are config within list met =
     (record { config = config; recorded = list.0 }, held content x l given kept lined config list.0 list.1)
 listed_stands content x (OfReference d c index) es k before kept lined are config within list met =

@@ -5,7 +5,7 @@ use Rattle.std.specs.List.{AllByRecursion}
 use Rattle.cl_classfile.specs.Files.{Name}
 use Rattle.cl_model.specs.Homes.{World, home}
 use Rattle.cl_model.specs.declared.class.Class.{Class}
-use Rattle.cl_model.specs.Classes.{class, is_among, Error, NoClassDef, Above, superclass_of, superinterfaces_of, file_of, misfit}
+use Rattle.cl_model.specs.Classes.{class, is_among, Error, NoClassDef, Above, superclass_of, superinterfaces_of, read_class, misfit}
 use Rattle.cl_model.specs.Lineages.{Kin}
 use Rattle.cl_model.specs.States.{Need, Entry}
 use Rattle.cl_model.specs.Works.{Work, Made, done, need, ask, or_fail, unless_wrong, of_result, ◌>>=◌}
@@ -59,7 +59,7 @@ above_only w d ih c (a ∷ others) =
 
 new_only : (w : World) (d : Class → Work Kin) → ((c : Class) → Only (d c)) → (c : Class) → Only (derive_new w d c)
 new_only w d ih c =
-    only_then (of_result (file_of w c)) (superclass_next w d c) (none_only _ refl) (λ f.
+    only_then (of_result (read_class w c)) (superclass_next w d c) (none_only _ refl) (λ f.
     only_then (loads_above w d c (superclass_of f)) (interfaces_next w d c f) (above_only w d ih c (superclass_of f)) (λ sup.
     only_then (loads_above w d c (superinterfaces_of f)) (finished c f sup) (above_only w d ih c (superinterfaces_of f)) (λ ints.
     only_then (need (Entry c.loader c.name c.loader ∷ [])) (λ (b : Unit {0}). done (record { class = c; file = f; superclass = sup; interfaces = ints })) (need_only (Entry c.loader c.name c.loader ∷ []) (tt, tt)) (λ b. none_only _ refl))))

@@ -241,7 +241,7 @@ kept_new {stands} told x f r h a s script width bare counts each first zero-used
       kept = record {
         trusted = record {
           script = script;
-          tables = subst (λ (es : List Step). tables.IsTrusted (schedule_of x.script) x.script.rounds es) (sym no-steps) tt;
+          tables = subst (λ (es : List Step). tables.AreTrusted (schedule_of x.script) x.script.rounds es) (sym no-steps) tt;
           posted = λ q. ap (list_any (nat_eq q)) no-posts ∙ sym (ap (λ (xs : List (Option rust.Answer)). is_some (given xs q)) a ∙ ap is_some (none_given f.left q));
           whole = whole ∙ sym s;
           earlier = λ q round asked less. absurd (omega arith);

@@ -35,6 +35,14 @@ pub places_more : (place : List ℕ → Option ℕ) (xs : List Above) (i r : ℕ
 places_more place xs i r old new h is was at =
     is ∙ ap (λ (ns : List ℕ). ns ++ r ∷ []) was ∙ ap (λ (n : ℕ). map (place_by place) (take i xs) ++ n ∷ []) at ∙ take_more place xs i h
 
+-- of a supertype that was named before
+pub place_again : (place : List ℕ → Option ℕ) (xs : List Above) (at first : ℕ) (r : ℕ) → slice_get (map (place_by place) (take at xs)) first ≡ Some r → r ≡ place_there place (slice_get xs first)
+place_again place [] zero first r h = absurd cc
+place_again place [] (suc at) first r h = absurd cc
+place_again place (x ∷ xs) zero first r h = absurd cc
+place_again place (x ∷ xs) (suc at) zero r h = cc
+place_again place (x ∷ xs) (suc at) (suc first) r h = place_again place xs at first r h
+
 pub each_has : (has_row : List ℕ → Bool) (xs : List Above) → ((k : ℕ) → k < length xs → is_there has_row (slice_get xs k) ≡ true) → EachHas has_row xs
 each_has has_row [] all = tt
 each_has has_row (x ∷ xs) all = (all 0 (omega arith), each_has has_row xs (λ k h. all (suc k) (omega arith)))

@@ -21,7 +21,7 @@ use Rattle.cl_model.specs.Content.{Content}
 use Rattle.std.proofs.lemmas.Option.{slice_get_read}
 use Rattle.cl_registry.proofs.Constrained.{marked_is_allowed}
 use Rattle.cl_findings.specs.Bases.{IsListed}
-use Rattle.cl_registry.specs.Imposing.{ArePreparedAbove, Constrains, HoldsFor, Imposes, IsNextOf, IsPreparedAbove, IsPreparedBy, IsReached, IsReady, IsReadyBy, IsStanding, MarksBy, MayImpose, MayPrepareAs, StandsFor, with_constrain}
+use Rattle.cl_registry.specs.Imposing.{ArePreparedAbove, Constrains, HoldsFor, Imposes, IsNextOf, IsPreparedAbove, IsPreparedBy, IsReached, IsReady, IsReadyBy, IsStanding, MarksBy, MayImpose, MayPrepareAs, OriginStands, with_constrain}
 use Rattle.cl_registry.specs.declared.registry.RegistryFault.TheVariants.{Memory}
 use Rattle.cl_registry.specs.Refusals.{MarkRefusedFor}
 use Rattle.cl_registry.specs.Tables.{Shown, IsKept, LacksRecord, records_of, state_of}
@@ -94,7 +94,7 @@ both_stand x d c true one h = (one, h)
 both_stand x d c false one h = λ two. h two.1
 
 -- an equality of a list may be imposed
-pub impose_by : (x : Shown) (e : Listed) (k : ℕ) (b : Bool) → StandsFor x e.origin → k < length e.needs → Decides b (AllMet (state_of x) (needs_of (take k e.needs))) → Decides b (MayImpose x e k)
+pub impose_by : (x : Shown) (e : Listed) (k : ℕ) (b : Bool) → OriginStands x e.origin → k < length e.needs → Decides b (AllMet (state_of x) (needs_of (take k e.needs))) → Decides b (MayImpose x e k)
 impose_by x e k true stands within h = record { stands = stands; within = within; earlier = subst (AllMet (state_of x)) (sym (needs_taken e.needs k)) h }
 impose_by x e k false stands within h = λ may. h (subst (AllMet (state_of x)) (needs_taken e.needs k) may.earlier)
 

@@ -47,13 +47,13 @@ HoldsFor x l givens.Nothing = Unit {0}
 HoldsFor x l givens.Superclass = ArePreparedAbove x l.own.class (superclass_of (file_of l.own.file))
 
 -- what a list was made from stands in the tables (5.4.2, 5.4.3)
-abbrev pub StandsFor : Shown → Sprung → Type 0
-StandsFor x (OfReference d c index) = IsStanding x d × IsReached x d c
-StandsFor x (OfPreparation l given) = IsStanding x l × HoldsFor x l given
+abbrev pub OriginStands : Shown → Sprung → Type 0
+OriginStands x (OfReference d c index) = IsStanding x d × IsReached x d c
+OriginStands x (OfPreparation l given) = IsStanding x l × HoldsFor x l given
 
 -- an equality of a list may be imposed: what the list was made from stands, and all equalities before it are met (5.3.4)
 pub record MayImpose (x : Shown) (e : Listed) (k : ℕ) : Type 0 where
-  pub stands : StandsFor x e.origin
+  pub stands : OriginStands x e.origin
   pub within : k < length e.needs
   pub earlier : AllMet (state_of x) (take k (needs_of e.needs))
 

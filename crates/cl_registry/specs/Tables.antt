@@ -98,7 +98,7 @@ settlements (events.Post q ∷ es) = settlements es
 -- history has, each has a place for one, and those of the rounds before are answered (5.3, 5.3.5)
 pub record IsTrusted (x : Shown) : Type 0 where
   pub script : IsScript x.script
-  pub tables : tables.IsTrusted (schedule_of x.script) x.script.rounds (steps x)
+  pub tables : tables.AreTrusted (schedule_of x.script) x.script.rounds (steps x)
   pub posted : (q : ℕ) → list_any (nat_eq q) (posts x.history) ≡ is_some (answer_at (answers_of x.answers) q)
   pub whole : length x.answers ≡ length x.script.requests
   pub earlier : (q round : ℕ) → slice_get x.script.rounds_of q ≡ Some round → round < round_of x → IsSome (answer_at (answers_of x.answers) q)

@@ -1,6 +1,6 @@
 //! The steps of a definition and of an initiation, on plain tables.
 
-ghost use Rattle.std.specs.Prelude.{◌≡◌, ◌≢◌, ◌<◌, ◌++◌, ◌∷◌, [], Some, None, IfErr, IfOk, IfSome, MatchOption, OnOk, OnErr, is_some, length, map, slice_get};
+ghost use Rattle.std.specs.Prelude.{◌≡◌, ◌≢◌, ◌<◌, ◌++◌, ◌∷◌, [], Some, None, IfErr, IfOk, IfSome, MatchOption, OnOk, OnErr, is_some, length, map, slice_get, take};
 ghost use Rattle.std.specs.Vec.{VecUnchanged};
 ghost use Rattle.std.specs.Option.{option_map};
 ghost use Rattle.cl_classfile.specs.Files.{file_of};
@@ -43,7 +43,8 @@ pub fn has_supers<T: Told>(tables: &Rows<T>, draft: &Draft<T>) -> bool
         (supers (file_of draft.now.file))) }
 {
     for at in 0..draft.supertypes() {
-        if !is_there(tables, draft, at) {
+        // (one that is named again was looked for)
+        if draft.first_of_name(at) == at && !is_there(tables, draft, at) {
             return false;
         }
     }
@@ -61,6 +62,32 @@ fn place_there<T: Told>(tables: &Rows<T>, draft: &Draft<T>, at: usize) -> Loader
     }
 }
 
+/// Which of these places stands here, if one does.
+fn place_in(places: &[LoaderId], at: usize) -> Option<LoaderId>
+    ensures { result ≡ slice_get places.now at }
+{
+    places.get(at).copied()
+}
+
+/// Which loader defined the direct supertype at a place, where these defined those before it: one that is named again is not
+/// looked for again.
+fn place_behind<T: Told>(
+    tables: &Rows<T>,
+    draft: &Draft<T>,
+    places: &[LoaderId],
+    at: usize,
+) -> LoaderId
+    requires { places.now ≡ map (place_by (placed_at tables.now.items draft.now.class.loader))
+        (take at (supers (file_of draft.now.file))) }
+    ensures { result ≡ place_there (placed_at tables.now.items draft.now.class.loader)
+        (slice_get (supers (file_of draft.now.file)) at) }
+{
+    match place_in(places, draft.first_of_name(at)) {
+        None => place_there(tables, draft, at),
+        Some(place) => place,
+    }
+}
+
 /// Which loaders defined the direct supertypes of a draft's class, in order.
 fn places_of<T: Told>(
     alloc: Global,
@@ -74,7 +101,7 @@ fn places_of<T: Told>(
     let count = draft.supertypes();
     let mut places = Vec::with_capacity(alloc, count)?;
     for at in 0..count {
-        places.push(place_there(tables, draft, at))?;
+        places.push(place_behind(tables, draft, places.as_slice(), at))?;
     }
     Ok(places)
 }

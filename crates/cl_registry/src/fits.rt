@@ -36,7 +36,8 @@ pub fn supertypes_fit<T: Told>(tables: &Rows<T>, draft: &Draft<T>) -> bool
         draft.now) }
 {
     for at in 0..draft.supertypes() {
-        if !supertype_fits(tables, draft, at) {
+        // (one that is named again was looked at)
+        if draft.first_of_name(at) == at && !supertype_fits(tables, draft, at) {
             return false;
         }
     }

@@ -12,7 +12,7 @@ ghost use Rattle.cl_model.specs.declared.event.Event.TheVariants as events;
 ghost use Rattle.cl_model.specs.declared.need.Need.TheVariants as needs;
 ghost use Rattle.cl_model.specs.States.{IsRecorded, Met, Refused};
 ghost use Rattle.cl_model.specs.Texts.{EqualityNames};
-ghost use Rattle.cl_registry.specs.Imposing.{ArePreparedAbove, HoldsFor, IsPreparedAbove, IsPreparedBy, IsReached, IsReady, IsStanding, IsUnmetIn, Marks, MayConstrainAs, MayImpose, MayMark, MayPrepareAs, StandsFor, with_constrain, with_prepare};
+ghost use Rattle.cl_registry.specs.Imposing.{ArePreparedAbove, HoldsFor, IsPreparedAbove, IsPreparedBy, IsReached, IsReady, IsStanding, IsUnmetIn, Marks, MayConstrainAs, MayImpose, MayMark, MayPrepareAs, OriginStands, with_constrain, with_prepare};
 ghost use Rattle.cl_registry.specs.Parts.{AddsEvent, HasRoom};
 ghost use Rattle.cl_registry.specs.declared.registry.RegistryFault.TheVariants.{Memory};
 ghost use Rattle.cl_registry.specs.Refusals.{AddRefusedFor, BlamesIn, ImposeSays, MarkRefusedFor, fault_of};
@@ -219,7 +219,7 @@ impl<T: Told> Registry<T> {
 
     /// Whether what a list was made from stands in the tables.
     fn has_origin(&self, origin: &Origin<T>) -> bool
-        ensures stands { Decides result (StandsFor self.now (sprung origin.now)) }
+        ensures stands { Decides result (OriginStands self.now (sprung origin.now)) }
         ensures kept { IsKept T.told self.now }
     {
         match origin {

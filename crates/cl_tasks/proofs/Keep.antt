@@ -105,7 +105,7 @@ more_accepted x c [] t (b ∷ others) a h e k = let same : a ≡ b = cc in (subs
 more_accepted x c (u ∷ us) t [] a h e k = absurd h
 more_accepted x c (u ∷ us) t (b ∷ others) a h e k = (h.0, more_accepted x c us t others a h.1 e k)
 
-accepting_has : (x : Shown) (f : Frame) (a : Above) (t : Class) → Has x f → wanted f ≡ Some a → HasAccepted x f.class t a → Has x (accepting f t)
+pub accepting_has : (x : Shown) (f : Frame) (a : Above) (t : Class) → Has x f → wanted f ≡ Some a → HasAccepted x f.class t a → Has x (accepting f t)
 accepting_has x f a t h want k = more_accepted x f.class f.accepted t (supers f.file) a h want k
 
 -- the last frame has accepted a row that was told and fits
@@ -124,7 +124,7 @@ takes x p before last row top h told fits =
       fits = sym (top.judged row.class (file_of row.file)) ∙ fits;
     }))
 
-framed_other : (P : Frame → Type 0) (xs : List Framed) (x y : Framed) → AllByRecursion P (map frame_of (xs ++ x ∷ [])) → P (frame_of y) → AllByRecursion P (map frame_of (xs ++ y ∷ []))
+pub framed_other : (P : Frame → Type 0) (xs : List Framed) (x y : Framed) → AllByRecursion P (map frame_of (xs ++ x ∷ [])) → P (frame_of y) → AllByRecursion P (map frame_of (xs ++ y ∷ []))
 framed_other P [] x y h k = (k, tt)
 framed_other P (z ∷ zs) x y h k = (h.0, framed_other P zs x y h.1 k)
 

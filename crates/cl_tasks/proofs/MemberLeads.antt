@@ -31,7 +31,7 @@ use Rattle.cl_findings.specs.Bases.{IsListed}
 use Rattle.cl_findings.specs.Findings.{Answered, Based, Rests, grounded, loader_of}
 use Rattle.cl_findings.specs.References.{AreAsked, IsOfFound, asked_basis, class_basis, config_of, fault_verdict, member_basis, reference_needs, sprung_needs}
 use Rattle.cl_findings.proofs.References.{asked_rests}
-use Rattle.cl_registry.specs.Imposing.{IsNextOf, IsReached, IsStanding, MayImpose, StandsFor}
+use Rattle.cl_registry.specs.Imposing.{IsNextOf, IsReached, IsStanding, MayImpose, OriginStands}
 use Rattle.cl_registry.specs.Tables.{NamesLoaders, Shown, state_of}
 use Rattle.cl_registry.proofs.Schedules.{some_at}
 use Rattle.cl_registry.specs.Settling.{IsSettledKind}
@@ -172,7 +172,7 @@ module _ {A : Type 0} (told : Option Content) (c : Configured) (m : Member A) (m
       let standing : IsStanding x m.found.d = record { config = member.own.config ∙ sym config; recorded = fine.own (loader_of m.entry.request) d.loader d.name h.0 } in
       let reached : IsReached x m.found.d m.found.c = record { config = member.reference.config ∙ member.own.config ∙ sym config; recorded = h.1.0; accessible = member.reference.accessible } in
       record {
-        stands = subst (λ (from : Sprung). StandsFor x from) (sym member.origin) (standing, reached);
+        stands = subst (λ (from : Sprung). OriginStands x from) (sym member.origin) (standing, reached);
         within = lt;
         earlier = member_imposed x m i h;
       }

@@ -223,7 +223,7 @@ leads_next told j row new n path fits step l =
 
 -- ---- a class that has all its supertypes
 
-draft_whole : (told : Option Content) (old new : Pathed) (place : ℕ) (x : Framed) → IsPath told old → Completes old new place x → IsDraft told x.draft
+pub draft_whole : (told : Option Content) (old new : Pathed) (place : ℕ) (x : Framed) → IsPath told old → Completes old new place x → IsDraft told x.draft
 draft_whole told old new place x path step =
     subst (λ (f : Framed). IsDraft told f.draft) (sym step.whole_is)
     (all_last (λ (f : Framed). IsDraft told f.draft) step.before step.last (subst (λ (xs : List Framed). AllByRecursion (λ (f : Framed). IsDraft told f.draft) xs) step.split path.drafts))

@@ -32,7 +32,7 @@ use Rattle.cl_findings.specs.Bases.{AreLineages, IsListed}
 use Rattle.cl_findings.specs.Findings.{Answered, BasisStands, IsWithin, grounded, loader_of}
 use Rattle.cl_findings.specs.References.{link_basis}
 use Rattle.cl_findings.proofs.References.{next_at, whole_taken}
-use Rattle.cl_registry.specs.Imposing.{ArePreparedAbove, IsNextOf, IsReady, IsReadyBy, IsStanding, MayImpose, MayMark, StandsFor}
+use Rattle.cl_registry.specs.Imposing.{ArePreparedAbove, IsNextOf, IsReady, IsReadyBy, IsStanding, MayImpose, MayMark, OriginStands}
 use Rattle.cl_registry.specs.Posting.{IsBacked}
 use Rattle.cl_registry.specs.Tables.{NamesLoaders, Shown, records_of, state_of}
 use Rattle.cl_registry.specs.Traced.{IsRowOf}
@@ -164,7 +164,7 @@ module _ {A : Type 0} (told : Option Content) (c : Configured) (k : Chain A) (e 
 
   may_impose : (x : Shown) (i : ℕ) → i < length e.needs → ListTold k e i x → MayImpose x e i
   may_impose x i lt h = record {
-    stands = subst (λ (from : Sprung). StandsFor x from) (sym known.place.prepares) (standing x i h, holds_by x known.place.at known.place.given (prepared_above x i h));
+    stands = subst (λ (from : Sprung). OriginStands x from) (sym known.place.prepares) (standing x i h, holds_by x known.place.at known.place.given (prepared_above x i h));
     within = lt;
     earlier = list_imposed x k e i h;
   }

@@ -11,7 +11,7 @@ use Rattle.cl_tasks.specs.Follows.{AreLeft, BackedWhere, CallsWithin, EndsRefuse
 use Rattle.cl_tasks.specs.Stages.{IsStage, linking_at, loading_at, resolving_at, task_at}
 use Rattle.cl_tasks.specs.Steps.{LeadsOn, Steps, task_room}
 use Rattle.cl_tasks.specs.Tasks.{Tasked, begun}
-use Rattle.cl_tasks.specs.Turns.{AnswersOwn, Asks, DerivesUnrecorded, Expects, IsReplyTo, ReadsUnrecorded, Serves}
+use Rattle.cl_tasks.specs.Turns.{AnswersOwn, Asks, DerivesUnrecorded, Expects, IsReplyTo, KeepsRequest, ReadsUnrecorded}
 use Rattle.cl_tasks.specs.Waits as waits
 use Rattle.cl_tasks.specs.declared.stage.Link.{Link}
 use Rattle.cl_tasks.specs.declared.stage.Link.TheVariants as links
@@ -110,7 +110,7 @@ config_is c (stages.Done q) = refl
 -- ---- the turn
 
 -- a request that is served, whatever else is known of its task
-serves_so : {A : Type 0} (c : Configured) (q : ℕ) (r : Request) (t new : Tasked) (n : Turn A) → t.request ≡ Some r → Serves (begun c q r) new n → Serves t new n
+serves_so : {A : Type 0} (c : Configured) (q : ℕ) (r : Request) (t new : Tasked) (n : Turn A) → t.request ≡ Some r → KeepsRequest (begun c q r) new n → KeepsRequest t new n
 serves_so c q r t new (turn.Settle f) is h = subst (λ (o : Option Request). (o ≡ Some f.request) × (new.request ≡ o)) (sym is) h
 serves_so c q r t new (turn.Post f) is h = subst (λ (o : Option Request). o ≡ Some f.request) (sym is) h
 serves_so c q r t new other is h = subst (λ (o : Option Request). new.request ≡ o) (sym is) h
@@ -121,7 +121,7 @@ pub record Turns {A : Type 0} (told : Option Content) (c : Configured) (old : Ta
   pub number : (task_at c n.stage).q ≡ old.q
   pub config : (task_at c n.stage).config ≡ old.config
   pub asks : Asks (task_at c n.stage) n.turn
-  pub serves : Serves old (task_at c n.stage) n.turn
+  pub serves : KeepsRequest old (task_at c n.stage) n.turn
   pub left : (task_at c n.stage).left < old.left
   pub calls : IfSome old.request (λ q. CallsWithin told old.config (λ x. TellsNow x old r) q (made_by old.waits) (task_at c n.stage).calls old.calls)
   pub more : AreLeft (task_at c n.stage).calls
@@ -146,7 +146,7 @@ turns_by {A = A} told c t r n config has steps =
       number = subst (λ (d : Configured). (task_at d n.stage).q ≡ t.q) config l.number;
       config = config_is c n.stage ∙ sym config;
       asks = subst (λ (d : Configured). Asks (task_at d n.stage) n.turn) config l.asks;
-      serves = subst (λ (d : Configured). Serves t (task_at d n.stage) n.turn) config (serves_so t.config t.q q t (task_at t.config n.stage) n.turn has.1 l.serves);
+      serves = subst (λ (d : Configured). KeepsRequest t (task_at d n.stage) n.turn) config (serves_so t.config t.q q t (task_at t.config n.stage) n.turn has.1 l.serves);
       left = subst (λ (d : Configured). (task_at d n.stage).left < t.left) config l.left;
       calls =
           subst (λ (o : Option Request). IfSome o (λ q. CallsWithin told t.config (λ x. TellsNow {A = A} x t r) q (made_by t.waits) (task_at c n.stage).calls t.calls)) (sym has.1)

@@ -9,7 +9,7 @@ use Rattle.cl_model.specs.Classes.{is_own, supers}
 use Rattle.cl_model.specs.Frames.{Frame}
 use Rattle.cl_model.specs.Homes.{World, home}
 use Rattle.cl_model.specs.Lineages.{Kin}
-use Rattle.cl_model.specs.Plans.{Plan, edges_of, homes_of, is_equal, needs_of, nodes_of, same_ask}
+use Rattle.cl_model.specs.Plans.{Plan, edges_of, homes_of, is_equal, nodes_of, plan_needs, same_ask}
 use Rattle.cl_model.specs.Preparation.{constraints_of}
 use Rattle.cl_model.specs.States.{State, recorded}
 use Rattle.cl_model.specs.Works.{Ask}
@@ -34,7 +34,7 @@ own_homes w p = count_by (is_own_home w) (nodes_of w p)
 
 -- so many needs of a plan are equalities (5.3.4)
 abbrev pub equalities_in : Plan → ℕ
-equalities_in p = count_by is_equal (needs_of p)
+equalities_in p = count_by is_equal (plan_needs p)
 
 -- ---- what is still to be recorded
 

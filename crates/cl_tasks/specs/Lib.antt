@@ -10,6 +10,7 @@ pub mod Stages
 pub mod Deriving
 pub mod Rooms
 pub mod Steps
+pub mod Repeating
 pub mod Ends
 pub mod Reaching
 pub mod Cited

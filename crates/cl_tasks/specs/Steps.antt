@@ -21,7 +21,7 @@ use Rattle.cl_tasks.specs.Measures.{Phase, Homing, Reading}
 use Rattle.cl_tasks.specs.Rooms.{Room, calls_at, calls_found, room_at, room_of}
 use Rattle.cl_tasks.specs.Stages.{IsStage, probes_left, task_at, loading_at}
 use Rattle.cl_tasks.specs.Tasks.{Tasked, begun}
-use Rattle.cl_tasks.specs.Turns.{AnswersOwn, Asks, ReadsUnrecorded, Serves, WasAbsent, way_of}
+use Rattle.cl_tasks.specs.Turns.{AnswersOwn, Asks, KeepsRequest, ReadsUnrecorded, WasAbsent, way_of}
 use Rattle.cl_tasks.specs.declared.stage.Job.{Job}
 use Rattle.cl_tasks.specs.declared.stage.Load.TheVariants as loads
 use Rattle.cl_tasks.specs.declared.stage.Next.{Next}
@@ -37,7 +37,7 @@ pub record LeadsOn {A : Type 0} (told : Option Content) (c : Configured) (q : �
   pub kept : IsStage told c n.stage
   pub number : (task_at c n.stage).q ≡ q
   pub asks : Asks (task_at c n.stage) n.turn
-  pub serves : Serves (begun c q r) (task_at c n.stage) n.turn
+  pub serves : KeepsRequest (begun c q r) (task_at c n.stage) n.turn
   pub left : (task_at c n.stage).left < room.turns
   pub calls : CallsWithin told c now r room.made (task_at c n.stage).calls room.calls
   pub keeps : (x : Shown) → holds x → Holds x (task_at c n.stage)

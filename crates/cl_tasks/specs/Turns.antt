@@ -86,10 +86,10 @@ abbrev pub Asks : {A : Type 0} → Tasked → Turn A → Type 0
 Asks t turn = t.waits ≡ call_of turn
 
 -- the request stays until its answer is posted, and is that of what is settled and posted
-abbrev pub Serves : {A : Type 0} → Tasked → Tasked → Turn A → Type 0
-Serves old new (turn.Post f) = old.request ≡ Some f.request
-Serves old new (turn.Settle f) = (old.request ≡ Some f.request) × (new.request ≡ old.request)
-Serves old new other = new.request ≡ old.request
+abbrev pub KeepsRequest : {A : Type 0} → Tasked → Tasked → Turn A → Type 0
+KeepsRequest old new (turn.Post f) = old.request ≡ Some f.request
+KeepsRequest old new (turn.Settle f) = (old.request ≡ Some f.request) × (new.request ≡ old.request)
+KeepsRequest old new other = new.request ≡ old.request
 
 -- ---- what is looked at first
 

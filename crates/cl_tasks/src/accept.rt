@@ -1,6 +1,6 @@
 //! From a home to the record of its class, and on with the class that waits for it.
 
-ghost use Rattle.std.specs.Prelude.{◌≡◌, ◌≢◌, ◌≤◌, [], None, IsSome, false, length};
+ghost use Rattle.std.specs.Prelude.{◌≡◌, ◌≢◌, ◌≤◌, [], None, IfOk, IsSome, false, length};
 ghost use Rattle.cl_classfile.specs.Files.{file_of};
 ghost use Rattle.cl_findings.specs.Loads.{IsSought, IsWhole, IsMisfit};
 ghost use Rattle.cl_hierarchy.specs.Drafts.{home_class};
@@ -11,6 +11,7 @@ ghost use Rattle.cl_model.specs.Frames.{wanted};
 ghost use Rattle.cl_tasks.specs.Deriving.{Derives, IsAtHome, IsNone, IsPast};
 ghost use Rattle.cl_tasks.specs.Ends.{IsOwnTarget};
 ghost use Rattle.cl_tasks.specs.Measures.{Fresh, Homing, Defining, Initiating, most};
+ghost use Rattle.cl_tasks.specs.Repeating.{ComesTo};
 ghost use Rattle.cl_tasks.specs.Stages.{IsJob, task_at, InitiatesNext};
 ghost use Rattle.cl_tasks.specs.Steps.{DefinesBy, Finds, FindsBy, HoldsOn, IsPlain, LeadsAt, LeadsFrom, LooksBy};
 ghost use Rattle.cl_tasks.specs.Turns.{GoesOnWith};
@@ -23,9 +24,9 @@ use crate::turn::Turn;
 use cl_config::Config;
 use cl_delegation::Home;
 use cl_findings::Obstacle;
-use cl_hierarchy::{ClassRow, Draft, DraftRefused, Frame};
+use cl_hierarchy::{Again, ClassRow, Draft, DraftRefused, Frame, Path};
 use cl_model::{ErrorKind, Told};
-use std::alloc::Global;
+use std::alloc::{AllocError, Global};
 use std::sync::Arc;
 
 /// Looks up what the path is at.
@@ -268,7 +269,51 @@ fn accept<T: Told>(alloc: Global, job: Job<T>, row: &ClassRow<T>) -> Next<T>
         path,
     };
     match accepted {
+        None => look_on(alloc, job),
+        Some(whole) => define(alloc, job, whole),
+    }
+}
+
+/// Looks up what the path is at, unless the class that waits accepted it before: its file may name one superinterface often.
+fn look_on<T: Told>(alloc: Global, job: Job<T>) -> Next<T>
+    requires job { IsJob T.told job.path.config job }
+    ensures leads { LeadsAt T.told Fresh job (HoldsOn job) result }
+    ensures plain { IsPlain result.turn }
+    ensures derives { Derives IsNone (frames_of job.path) result.stage }
+{
+    let Job {
+        q,
+        request,
+        target,
+        mut path,
+    } = job;
+    let repeated = match accept_repeated(&mut path) {
+        Err(_) => return out_of_memory(q, request),
+        Ok(repeated) => repeated,
+    };
+    // brings what a path keeps
+    let _ = path.at_name();
+    let job = Job {
+        q,
+        request,
+        target,
+        path,
+    };
+    match repeated {
         None => look(alloc, job),
         Some(whole) => define(alloc, job, whole),
+    }
+}
+
+/// The last class accepts what is looked for as long as it accepted that before: its whole frame, where nothing is left.
+fn accept_repeated<T: Told>(path: &mut Path<T>) -> Result<Option<Frame<T>>, AllocError>
+    ensures { IfOk result (ComesTo T.told path.old path.new) }
+{
+    loop {
+        match path.accept_again()? {
+            Again::Other => return Ok(None),
+            Again::Waits => {}
+            Again::Whole(whole) => return Ok(Some(whole)),
+        }
     }
 }

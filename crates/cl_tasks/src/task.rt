@@ -5,7 +5,7 @@ ghost use Rattle.cl_tasks.specs.Blames.{BlamesWhere};
 ghost use Rattle.cl_tasks.specs.Facts.{Holds};
 ghost use Rattle.cl_tasks.specs.Follows.{AreLeft, BackedWhere, CallsWithin, EndsRefused, FollowsWhere, IsWithinCost, LacksOnly, Refuses, Tells, TellsNow, made_by, refusal};
 ghost use Rattle.cl_tasks.specs.Tasks.{begun};
-ghost use Rattle.cl_tasks.specs.Turns.{AnswersOwn, Asks, DerivesUnrecorded, Expects, ReadsUnrecorded, Serves};
+ghost use Rattle.cl_tasks.specs.Turns.{AnswersOwn, Asks, DerivesUnrecorded, Expects, KeepsRequest, ReadsUnrecorded};
 
 use crate::expected::expects;
 use crate::stage::{Job, Load, Stage};
@@ -111,7 +111,7 @@ impl<T: Told> Task<T> {
         ensures number { self.new.q ≡ self.old.q }
         ensures config { self.new.config ≡ self.old.config }
         ensures asks { Asks self.new result }
-        ensures serves { Serves self.old self.new result }
+        ensures serves { KeepsRequest self.old self.new result }
         ensures left { self.new.left < self.old.left }
         ensures calls { IfSome self.old.request (λ r. CallsWithin T.told self.old.config
             (λ x. TellsNow x self.old reply) r (made_by self.old.waits) self.new.calls

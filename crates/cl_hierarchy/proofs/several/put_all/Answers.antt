@@ -1,7 +1,7 @@
 use Rattle.std.proofs.Common.{◌∙◌, List, ap, map, subst}
 use Rattle.cl_hierarchy.specs.Rows.{Rowed}
 use Rattle.std.proofs.lemmas.List.{take_all}
-use Rattle.cl_hierarchy.specs.Several.{Joins}
+use Rattle.cl_hierarchy.specs.Several.{Gains}
 use Rattle.cl_hierarchy.proofs.Joining.{joins_none, joins_row}
 use Rattle.cl_hierarchy.proofs.several.put_all.Goals as goal
 
@@ -15,4 +15,4 @@ loop-row-preserved g c =
 
 pub returns : goal.returns
 returns g c =
-    subst (λ (rs : List _). Joins c.args.classes.now.keys (map (λ r. r.value.class) rs) c.loop-row.classes.keys) (take_all c.loop-row.row-index c.args.rows.now c.loop-row-test.false) c.loop-row.invariant
+    subst (λ (rs : List _). Gains c.args.classes.now.keys (map (λ r. r.value.class) rs) c.loop-row.classes.keys) (take_all c.loop-row.row-index c.args.rows.now c.loop-row-test.false) c.loop-row.invariant

@@ -8,5 +8,5 @@ use Rattle.cl_registry.proofs.entries.places_of.Goals as goal
 pub loop-at-preserved : goal.loop-at-preserved
 loop-at-preserved g c =
     let below : c.loop-at.at < length (supers (file_of c.args.draft.now.file)) = subst (λ (n : ℕ). c.loop-at.at < n) c.supertypes-count.ensures c.loop-at-test.true in
-    places_more (placed_at c.args.tables.now.items c.args.draft.now.class.loader) (supers (file_of c.args.draft.now.file)) c.loop-at.at c.place_there.result c.loop-at.places.items c.push.new.self.items
-    below c.in_ok-push.ensures.items c.loop-at.invariant c.place_there.ensures
+    places_more (placed_at c.args.tables.now.items c.args.draft.now.class.loader) (supers (file_of c.args.draft.now.file)) c.loop-at.at c.place_behind.result c.loop-at.places.items c.push.new.self.items
+    below c.in_ok-push.ensures.items c.loop-at.invariant c.place_behind.ensures

@@ -1,0 +1,23 @@
+-- Supertypes that a class names again are accepted again, and not looked for (JVMS SE 8, 5.3.5, steps 3 to 5).
+use Rattle.std.specs.Prelude.{Option, Some, None}
+use Rattle.cl_model.specs.Content.{Content}
+use Rattle.cl_hierarchy.specs.Frames.{Framed}
+use Rattle.cl_hierarchy.specs.Paths.{IsPath, Pathed}
+use Rattle.cl_hierarchy.specs.Repeats.{AcceptsAgain, CompletesAgain}
+
+-- the last class of a path accepted again what it had accepted before, as often as it came next, and wants another (5.3.5, steps 3 and 4)
+pub data GoesOn (told : Option Content) (old : Pathed) : Pathed → Type 0 where
+  Here : GoesOn told old old
+  Again : (mid new : Pathed) → GoesOn told old mid → IsPath told mid → AcceptsAgain mid new → GoesOn told old new
+
+-- and so up to the last of its supertypes: its whole frame (5.3.5, step 5)
+pub record EndsAgain (told : Option Content) (old new : Pathed) (whole : Framed) : Type 0 where
+  pub mid : Pathed
+  pub goes : GoesOn told old mid
+  pub path : IsPath told mid
+  pub last : CompletesAgain mid new whole
+
+-- it wants another, or is whole (5.3.5, steps 3 to 5)
+abbrev pub ComesTo : Option Content → Pathed → Pathed → Option Framed → Type 0
+ComesTo told old new None = GoesOn told old new
+ComesTo told old new (Some whole) = EndsAgain told old new whole

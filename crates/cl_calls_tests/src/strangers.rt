@@ -7,7 +7,7 @@ use crate::given::{
 use cl_config::Config;
 use cl_delegation::{Home, Search};
 use cl_findings::Finding;
-use cl_given::{APP, BOOT, KID, LOADERS, Named, PLUG, bytes_of, class_name, config, file_of};
+use cl_given::{APP, BOOT, KID, LOADERS, Named, PLUG, bytes_of, class_name, config, file_bytes};
 use cl_hierarchy::{ClassRow, Draft};
 use cl_model::{LoaderId, Request, Untold};
 use cl_names::Name;
@@ -333,7 +333,7 @@ fn ask_steps<R: Abort + Print>(
         let bytes = if *found == Changed {
             final_file()
         } else {
-            file_of(T)
+            file_bytes(T)
         };
         let asked = class_name(alloc, bytes_of(*name))?;
         let home = home_among(alloc, loaders, bytes, *loader, *name)?;

@@ -45,10 +45,10 @@ Adds stands_for old new need =
 
 -- what imposing an equality comes to: it is new and added, or stands already and nothing changes
 -- (5.3.4)
-abbrev pub Imposes : {B : Type 0} → (B → State → Type 0) → B → B → Need → Bool → Type 0
-Imposes stands_for old new need true =
+abbrev pub AddsUnlessMet : {B : Type 0} → (B → State → Type 0) → B → B → Need → Bool → Type 0
+AddsUnlessMet stands_for old new need true =
     Adds stands_for old new need × Meets (stands_for old) need false
-Imposes stands_for old new need false = (new ≡ old) × Meets (stands_for old) need true
+AddsUnlessMet stands_for old new need false = (new ≡ old) × Meets (stands_for old) need true
 
 -- a need is blamed exactly where it is refused; running out of memory is told of no refused one
 -- (5.3.4)

@@ -1,6 +1,6 @@
 ghost use Rattle.std.specs.Prelude.{◌≡◌, ℕ, List, Option, None, IfErr, IfOk, OnOk};
 ghost use Rattle.cl_model.specs.States.{State, Entry, Equal};
-ghost use Rattle.cl_constraints.specs.Books.{Adds, Admits, Blames, Imposes, Meets, Refuses, Tells};
+ghost use Rattle.cl_constraints.specs.Books.{Adds, AddsUnlessMet, Admits, Blames, Meets, Refuses, Tells};
 
 use crate::fault::BookFault;
 use cl_model::LoaderId;
@@ -59,7 +59,8 @@ pub trait ConstraintBook {
         a: LoaderId,
         b: LoaderId,
     ) -> Result<bool, Refusal>
-        ensures imposed { IfOk result (Imposes stands_for self.old self.new (Equal name a b)) }
+        ensures imposed { IfOk result (AddsUnlessMet stands_for self.old self.new
+            (Equal name a b)) }
         ensures blames { IfErr result (λ e. Blames (stands_for self.old) (Equal name a b) e.fault) }
         ensures unchanged { IfErr result (λ e. (self.new ≡ self.old) × (e.name ≡ name)) };
 }

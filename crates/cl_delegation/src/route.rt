@@ -13,7 +13,7 @@ use cl_names::Name;
 use std::alloc::{AllocError, Global};
 
 /// The loaders whose own content is asked for a name that this loader is asked for, in order, while each lacks it.
-pub(crate) fn route_of(
+pub(crate) fn find_route(
     alloc: Global,
     config: &Config,
     loader: LoaderId,

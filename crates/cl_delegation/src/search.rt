@@ -5,7 +5,7 @@ ghost use Rattle.cl_delegation.specs.Searches.{LeadsTo, Follows, begun, next_of,
 ghost use Rattle.cl_source.specs.Told.{IsTold};
 ghost use Rattle.cl_source.specs.Views.{Found};
 
-use crate::route::route_of;
+use crate::route::find_route;
 use cl_config::Config;
 use cl_model::{LoaderId, Told};
 use cl_names::Name;
@@ -80,7 +80,7 @@ impl<T: Told> Search<T> {
         ensures begun { IfOk result (λ s. s ≡ begun config.value loader name) }
         ensures back { IfErr result (λ e. (e.config.value ≡ config.value) × (e.name ≡ name)) }
     {
-        let Ok(route) = route_of(alloc, &config, loader, &name) else {
+        let Ok(route) = find_route(alloc, &config, loader, &name) else {
             return Err(SearchRefused { config, name });
         };
         match Vec::with_capacity(alloc, route.len()) {

@@ -47,4 +47,4 @@ kept_lineage config content s loader c f closed at spelt =
     let is = lineage_of w c k.0 k.1 in
     let has : HasFile w c (file_of f) = kept_file config content s loader c f closed at spelt in
     let held : HasFile w c k.0.file = subst (λ (x : Class). HasFile w x k.0.file) is.0 is.1.has_file in
-    record { kin = k.0; of = k.1; class_is = is.0; file_is = ok_same k.0.file (file_of f) (classes.file_of w c) held has }
+    record { kin = k.0; of = k.1; class_is = is.0; file_is = ok_same k.0.file (file_of f) (classes.read_class w c) held has }

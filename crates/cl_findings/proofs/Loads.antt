@@ -182,10 +182,10 @@ module _ {A : Type 0} (content : Content) (r : request.Request) (t : Target A) (
       let e = error_of (kind_of fault) c in
       let found = there h sought leads in
       let own : home w h.place h.name ≡ Some h.place = subst (λ (n : List ℕ). home w h.place n ≡ Some h.place) (sym sought.name) (home_of_home w (at_loader p) h.place (at_name p) found) in
-      let bad : classes.file_of w c ≡ Err e = file_found w c h.bytes own stored ∙ wrong_read h fault c refl wrong in
+      let bad : classes.read_class w c ≡ Err e = file_found w c h.bytes own stored ∙ wrong_read h fault c refl wrong in
       faulty_ends w s (request_of r) (absent_of t) (frames_of p) (at_loader p) h.place (at_name p) e closed (under_all s [] closed met).0 found
       (subst (λ (n : List ℕ). classes.is_among (path_of [] (frames_of p)) (class n h.place) ≡ false) sought.name (path_scanned (frames_of p) c ∙ new))
-      (subst (λ (n : List ℕ). classes.file_of w (class n h.place) ≡ Err e) sought.name bad)
+      (subst (λ (n : List ℕ). classes.read_class w (class n h.place) ≡ Err e) sought.name bad)
 
   circle_ends_so : (h : Located) → IsSought p h → is_on p (class h.name h.place) ≡ true → LeadsTo (Some content) h.config h.asked h.name (Some h.place) → Ends [] (ClassCircularity (class h.name h.place))
   circle_ends_so h sought again leads = λ s closed met.

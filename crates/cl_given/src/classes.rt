@@ -29,7 +29,7 @@ pub fn bytes_of(name: Named) -> &'static [u8] {
 
 /// The file of a class: `java/lang/Object`, three public classes over it, and `q/C` over `p/Svc`. These two have the public
 /// method `m (Lp/T;)V`, and the first entry of `p/Use` is a reference to that of `p/Svc`.
-pub fn file_of(name: Named) -> &'static [u8] {
+pub fn file_bytes(name: Named) -> &'static [u8] {
     match name {
         Named::Top => {
             b"\xca\xfe\xba\xbe\x00\x00\x00\x34\x00\x03\x01\x00\x10java/lang/Object\x07\x00\x01\x00\x21\x00\x02\x00\x00\x00\x00\x00\x00\x00\x00\x00\x00"

@@ -3,7 +3,7 @@
 ghost use Rattle.std.specs.Prelude.{OnOk};
 ghost use Rattle.cl_source.specs.Puts.{TellsMore};
 
-use crate::classes::{Named, bytes_of, class_name, file_of};
+use crate::classes::{Named, bytes_of, class_name, file_bytes};
 use crate::loaders::{APP, BOOT, PLUG};
 use cl_model::{LoaderId, Untold};
 use cl_source::{MemorySource, Telling};
@@ -45,7 +45,7 @@ fn put_classes(
     classes: &[(u16, Named)],
 ) -> Result<(), AllocError> {
     for (loader, name) in classes {
-        let bytes = Vec::from_slice(alloc, file_of(*name))?;
+        let bytes = Vec::from_slice(alloc, file_bytes(*name))?;
         put(alloc, source, *loader, bytes_of(*name), bytes)?;
     }
     Ok(())

@@ -7,12 +7,12 @@ use Rattle.cl_model.specs.declared.class.Class.{Class}
 use Rattle.cl_model.specs.Classes.{IllegalAccess}
 use Rattle.cl_model.specs.Keys.{key_of}
 use Rattle.cl_model.specs.Lineages.{member_accessible, lookup_field, lookup_method, lookup_interface_method}
-use Rattle.cl_model.specs.Preparation.{class_names, equals_of}
+use Rattle.cl_model.specs.Preparation.{class_names, equal_between, equals_of}
 use Rattle.cl_model.specs.States.{Need}
 use Rattle.cl_model.specs.Works.{fail}
 use Rattle.cl_hierarchy.specs.Rows.{Rowed}
 use Rattle.cl_hierarchy.specs.Lineages.{Lined, IsInOrder, IsRowIn, field_order, kin_at, kin_of, rows_in}
-use Rattle.cl_hierarchy.specs.Imposed.{AreOfReference, equal_between}
+use Rattle.cl_hierarchy.specs.Imposed.{AreOfReference}
 use Rattle.cl_members.specs.declared.fault.LookupFault.{LookupFault}
 use Rattle.cl_members.specs.declared.fault.LookupFault.TheVariants as faults
 use Rattle.cl_members.specs.Asking.{AsksField, AsksMethod, AsksInterfaceMethod, LooksUp, IsDeniedIn, IsFoundAs, IsLocated, Located, Reaches, asked_key, key_at, verdict_of}

@@ -6,12 +6,12 @@ use Rattle.std.specs.List.{list_any}
 use Rattle.std.proofs.lemmas.List.Folds.{list_any-append}
 use Rattle.cl_model.specs.declared.class.Class.{Class}
 use Rattle.cl_model.specs.Classes.{same_class, is_among}
-use Rattle.cl_model.specs.Lineages.{Kin, classes, superinterfaces, is_maximal, first, only, from_superinterfaces}
+use Rattle.cl_model.specs.Lineages.{Kin, classes, superinterfaces, is_maximal, first, only, from_superinterfaces, implements, offers}
 use Rattle.cl_classfile.specs.Files.{Key}
 use Rattle.cl_hierarchy.specs.Rows.{Rowed}
 use Rattle.cl_hierarchy.specs.Lineages.{Lined, kin_at, kin_of}
 use Rattle.cl_hierarchy.specs.Several.{superinterfaces_of_any}
-use Rattle.cl_members.specs.Members.{implements, offers}
+use Rattle.cl_members.specs.Members.{method_in}
 use Rattle.cl_members.proofs.Lists.{filter_map_is, filter_same, map_map, option_map_map}
 
 pub any_is : (ks : List Kin) (c : Class) → is_among (superinterfaces_of_any ks) c ≡ list_any (λ k. is_among (classes (superinterfaces k)) c) ks
@@ -27,18 +27,18 @@ maximal_is ks = filter_same (λ k. not (is_among (superinterfaces_of_any ks) k.c
 
 -- the superinterfaces that offer the method, by the key that texts are, if they are one
 abbrev pub offered : Option Key → Kin → List Kin
-offered key k = filter (λ a. offers key a.file) (superinterfaces k)
+offered key k = filter (λ a. offers (method_in key a.file)) (superinterfaces k)
 
 -- of these the maximally specific ones that implement it
 abbrev pub implemented : Option Key → List Kin → List Kin
-implemented key ks = filter (λ a. implements key a.file) (filter (is_maximal ks) ks)
+implemented key ks = filter (λ a. implements (method_in key a.file)) (filter (is_maximal ks) ks)
 
 -- the lookup's end
 abbrev end_of : Option Key → List Kin → Option Kin
 end_of key ks = option_or (only (implemented key ks)) (first ks)
 
 -- nothing is offered by what is no key
-none_offered : (ks : List Kin) → filter (λ a. offers None a.file) ks ≡ []
+none_offered : (ks : List Kin) → filter (λ a. offers (method_in None a.file)) ks ≡ []
 none_offered [] = refl
 none_offered (k ∷ ks) = none_offered ks
 
@@ -49,10 +49,10 @@ end_is (Some key) k = refl
 module _ {R : Type 0} (f : R → Kin) where
   -- what the code leaves of the rows that offer the method is the maximally specific ones that implement it
   pub left_is : (key : Option Key) (k : Kin) (rows : List R) (among : Class → Bool) → map f rows ≡ offered key k → ((x : Class) → among x ≡ is_among (superinterfaces_of_any (map f rows)) x)
-      → map f (filter (λ r. implements key (f r).file) (filter (λ r. not (among (f r).class)) rows)) ≡ implemented key (offered key k)
+      → map f (filter (λ r. implements (method_in key (f r).file)) (filter (λ r. not (among (f r).class)) rows)) ≡ implemented key (offered key k)
   left_is key k rows among made told =
-      filter_map_is f (λ a. implements key a.file) (filter (λ r. not (among (f r).class)) rows)
-      ∙ ap (filter (λ a. implements key a.file)) (
+      filter_map_is f (λ a. implements (method_in key a.file)) (filter (λ r. not (among (f r).class)) rows)
+      ∙ ap (filter (λ a. implements (method_in key a.file))) (
       filter_map_is f (λ a. not (among a.class)) rows
       ∙ filter_same (λ a. not (among a.class)) (λ a. not (is_among (superinterfaces_of_any (map f rows)) a.class)) (λ a. ap not (told a.class)) (map f rows)
       ∙ maximal_is (map f rows)

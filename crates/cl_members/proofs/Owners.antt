@@ -3,8 +3,8 @@ use Rattle.std.proofs.Common.{◌≡◌, ℕ, Bool, true, false, if◌then◌els
 use Rattle.std.specs.Prelude.{filter, find, option_map, option_and_then}
 use Rattle.std.specs.Option.{option_or}
 use Rattle.cl_classfile.specs.Files.{Key, Member}
-use Rattle.cl_model.specs.Lineages.{Kin, first, if_declared, only, superclasses, superinterfaces, from_superinterfaces, is_default, is_offered, is_public_instance, lookup_interface_method, lookup_method, maximally_specific, method_of, offering}
-use Rattle.cl_members.specs.Members.{method_in, has_public}
+use Rattle.cl_model.specs.Lineages.{Kin, first, if_declared, only, superclasses, superinterfaces, from_superinterfaces, is_default, is_offered, is_public_instance, lookup_interface_method, lookup_method, maximally_specific, method_of, offering, has_public}
+use Rattle.cl_members.specs.Members.{method_in}
 use Rattle.cl_members.proofs.Lists.{either_some, find_passes}
 use Rattle.std.proofs.lemmas.Option.{same_Some}
 
@@ -14,8 +14,8 @@ use Rattle.std.proofs.lemmas.Option.{same_Some}
 never : {A : Type 0} (k a : Kin) → find (λ x. is_some (method_in None x.file)) (superclasses k) ≡ Some a → A
 never k a e = absurd (let t : false ≡ true = find_passes (λ x. is_some (method_in None x.file)) (superclasses k) a e in cc)
 
-never_public : {A : Type 0} (k a : Kin) → find (λ x. has_public None x.file) (superclasses k) ≡ Some a → A
-never_public k a e = absurd (let t : false ≡ true = find_passes (λ x. has_public None x.file) (superclasses k) a e in cc)
+never_public : {A : Type 0} (k a : Kin) → find (λ x. has_public (method_in None x.file)) (superclasses k) ≡ Some a → A
+never_public k a e = absurd (let t : false ≡ true = find_passes (λ x. has_public (method_in None x.file)) (superclasses k) a e in cc)
 
 pub own_is : (key : Option Key) (k : Kin) → true ≡ is_some (method_in key k.file) → Some k ≡ option_and_then (lookup_method k) key
 own_is None k e = absurd cc
@@ -34,11 +34,11 @@ pub own_of_interface : (key : Option Key) (k : Kin) → true ≡ is_some (method
 own_of_interface None k e = absurd cc
 own_of_interface (Some key) k e = rw (sym e) refl
 
-pub public_is : (key : Option Key) (k a : Kin) → false ≡ is_some (method_in key k.file) → find (λ x. has_public key x.file) (superclasses k) ≡ Some a → Some a ≡ option_and_then (lookup_interface_method k) key
+pub public_is : (key : Option Key) (k a : Kin) → false ≡ is_some (method_in key k.file) → find (λ x. has_public (method_in key x.file)) (superclasses k) ≡ Some a → Some a ≡ option_and_then (lookup_interface_method k) key
 public_is None k a none e = never_public k a e
 public_is (Some key) k a none e = rw (sym none, e) refl
 
-pub beyond_public : (key : Option Key) (k : Kin) (o : Option Kin) → false ≡ is_some (method_in key k.file) → find (λ x. has_public key x.file) (superclasses k) ≡ None → o ≡ option_and_then (from_superinterfaces k) key
+pub beyond_public : (key : Option Key) (k : Kin) (o : Option Kin) → false ≡ is_some (method_in key k.file) → find (λ x. has_public (method_in key x.file)) (superclasses k) ≡ None → o ≡ option_and_then (from_superinterfaces k) key
     → o ≡ option_and_then (lookup_interface_method k) key
 beyond_public None k o none e is = is
 beyond_public (Some key) k o none e is = rw (sym none, e) is

@@ -6,9 +6,9 @@ ghost use Rattle.std.specs.Option.{option_map, option_or};
 ghost use Rattle.cl_classfile.specs.Files.{file_of, method_key};
 ghost use Rattle.cl_classfile.specs.References.{plain_symbol};
 ghost use Rattle.cl_model.specs.Classes.{is_among};
-ghost use Rattle.cl_model.specs.Lineages.{first, from_superinterfaces, only, superinterfaces};
+ghost use Rattle.cl_model.specs.Lineages.{first, from_superinterfaces, implements, offers, only, superinterfaces};
 ghost use Rattle.cl_hierarchy.specs.Lineages.{IsRowIn, kin_at, kin_of, rows_in};
-ghost use Rattle.cl_members.specs.Members.{offers, implements};
+ghost use Rattle.cl_members.specs.Members.{method_in};
 
 use crate::owning::{implements, offers};
 use cl_classfile::Symbol;
@@ -21,16 +21,16 @@ use std::sync::Arc;
 
 /// Keeps the rows of classes that offer the method.
 fn keep_offering<T: Told>(rows: &mut Vec<Arc<ClassRow<T>>>, symbol: Symbol<'_>)
-    ensures { rows.new.items ≡ filter (λ r. offers (method_key (plain_symbol symbol.entry))
-        (file_of r.value.file)) rows.old.items }
+    ensures { rows.new.items ≡ filter (λ r. offers (method_in (method_key
+        (plain_symbol symbol.entry)) (file_of r.value.file))) rows.old.items }
 {
     rows.retain(|row| offers(row, symbol));
 }
 
 /// Keeps the rows of classes that implement the method.
 fn keep_implementing<T: Told>(rows: &mut Vec<Arc<ClassRow<T>>>, symbol: Symbol<'_>)
-    ensures { rows.new.items ≡ filter (λ r. implements (method_key (plain_symbol symbol.entry))
-        (file_of r.value.file)) rows.old.items }
+    ensures { rows.new.items ≡ filter (λ r. implements (method_in (method_key
+        (plain_symbol symbol.entry)) (file_of r.value.file))) rows.old.items }
 {
     rows.retain(|row| implements(row, symbol));
 }
@@ -50,7 +50,7 @@ fn offering<T: Told>(
     symbol: Symbol<'_>,
 ) -> Result<Vec<Arc<ClassRow<T>>>, AllocError>
     ensures kins { IfOk result (λ v. map (λ r. kin_at c.now r.value) v.items
-        ≡ filter (λ a. offers (method_key (plain_symbol symbol.entry)) a.file)
+        ≡ filter (λ a. offers (method_in (method_key (plain_symbol symbol.entry)) a.file))
         (superinterfaces (kin_of c.now))) }
     ensures rows { IfOk result (λ v. AllByRecursion (λ r. IsRowIn (rows_in c.now) r.value)
         v.items) }

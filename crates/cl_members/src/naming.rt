@@ -6,8 +6,8 @@ ghost use Rattle.cl_descriptors.specs.Types.{class_of, classes_of};
 ghost use Rattle.cl_descriptors.specs.Reading.{whole_field, whole_method};
 ghost use Rattle.cl_descriptors.specs.Answers.{IsFieldDescriptor, IsMethodDescriptor};
 ghost use Rattle.cl_classfile.specs.Files.{file_of};
-ghost use Rattle.cl_model.specs.Preparation.{class_names};
-ghost use Rattle.cl_hierarchy.specs.Imposed.{equal_between, needs_of};
+ghost use Rattle.cl_model.specs.Preparation.{class_names, equal_between};
+ghost use Rattle.cl_hierarchy.specs.Imposed.{needs_of};
 ghost use Rattle.cl_members.specs.Asking.{key_at};
 
 use cl_classfile::{ClassFile, Reference};

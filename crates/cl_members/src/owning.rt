@@ -4,7 +4,8 @@ ghost use Rattle.std.specs.Prelude.{◌≡◌, find, is_some};
 ghost use Rattle.std.specs.Option.{option_map};
 ghost use Rattle.cl_classfile.specs.Files.{file_of, field_key, method_key};
 ghost use Rattle.cl_classfile.specs.References.{plain_symbol};
-ghost use Rattle.cl_members.specs.Members.{field_in, method_in, offers, has_public, implements};
+ghost use Rattle.cl_model.specs.Lineages.{has_public, implements, offers};
+ghost use Rattle.cl_members.specs.Members.{field_in, method_in};
 
 use cl_classfile::{ABSTRACT, PRIVATE, PUBLIC, STATIC, Symbol, has_flag};
 use cl_hierarchy::ClassRow;
@@ -45,7 +46,8 @@ pub fn has_method<T: Told>(row: &ClassRow<T>, symbol: Symbol<'_>) -> bool
 
 /// Whether a class declares the method, neither private nor static (JVMS SE 8, 5.4.3.3).
 pub fn offers<T: Told>(row: &ClassRow<T>, symbol: Symbol<'_>) -> bool
-    ensures { result ≡ offers (method_key (plain_symbol symbol.entry)) (file_of row.now.file) }
+    ensures { result ≡ offers (method_in (method_key (plain_symbol symbol.entry))
+        (file_of row.now.file)) }
 {
     match method_flags(row, symbol) {
         Some(flags) => !has_flag(flags, PRIVATE) && !has_flag(flags, STATIC),
@@ -55,7 +57,8 @@ pub fn offers<T: Told>(row: &ClassRow<T>, symbol: Symbol<'_>) -> bool
 
 /// Whether a class declares the method, public and not static (JVMS SE 8, 5.4.3.4).
 fn has_public<T: Told>(row: &ClassRow<T>, symbol: Symbol<'_>) -> bool
-    ensures { result ≡ has_public (method_key (plain_symbol symbol.entry)) (file_of row.now.file) }
+    ensures { result ≡ has_public (method_in (method_key (plain_symbol symbol.entry))
+        (file_of row.now.file)) }
 {
     match method_flags(row, symbol) {
         Some(flags) => has_flag(flags, PUBLIC) && !has_flag(flags, STATIC),
@@ -65,7 +68,8 @@ fn has_public<T: Told>(row: &ClassRow<T>, symbol: Symbol<'_>) -> bool
 
 /// Whether a class declares the method, not abstract (JVMS SE 8, 5.4.3.3, step 3).
 pub fn implements<T: Told>(row: &ClassRow<T>, symbol: Symbol<'_>) -> bool
-    ensures { result ≡ implements (method_key (plain_symbol symbol.entry)) (file_of row.now.file) }
+    ensures { result ≡ implements (method_in (method_key (plain_symbol symbol.entry))
+        (file_of row.now.file)) }
 {
     match method_flags(row, symbol) {
         Some(flags) => !has_flag(flags, ABSTRACT),
@@ -103,8 +107,8 @@ pub fn first_public<'a, T: Told>(
     symbol: Symbol<'_>,
 ) -> Option<&'a Arc<ClassRow<T>>>
     ensures { option_map (λ r. r.now) result
-        ≡ find (λ r. has_public (method_key (plain_symbol symbol.entry)) (file_of r.value.file))
-        rows.now }
+        ≡ find (λ r. has_public (method_in (method_key (plain_symbol symbol.entry))
+        (file_of r.value.file))) rows.now }
 {
     rows.iter().find(|row| has_public(row, symbol))
 }

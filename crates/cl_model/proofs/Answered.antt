@@ -8,7 +8,7 @@ use Rattle.cl_model.specs.Classes.{class, Error, ClassNotFound, ClassCircularity
 use Rattle.cl_model.specs.Lineages.{Kin}
 use Rattle.cl_model.specs.States.{State, Need, Verdict, IsClass, Wrong, Linkage, IsLinkageError}
 use Rattle.cl_model.specs.Works.{Made}
-use Rattle.cl_model.specs.Plans.{derive, load, Request, Load, Plan, plan_from, needs_of}
+use Rattle.cl_model.specs.Plans.{derive, load, Request, Load, Plan, plan_from, plan_needs}
 use Rattle.cl_model.specs.Machine.{Setting, Answers, AnswersPlan, IsPlan}
 use Rattle.cl_model.proofs.Obstacles.{load_err}
 use Rattle.cl_model.proofs.Circles.{load_ill, circle_returns, return_is_derived}
@@ -65,7 +65,7 @@ load_wrong w n l name m p e h k = at m.ends refl h
     at (Ok x) r h = absurd (class_not_wrong x.class e (ap (λ (z : Plan). z.ends) (plan_same _ p h) ∙ k))
 
 pub circle_is_answered : (g : Setting) (s : State) (l : ℕ) (name : Name) (x : Class) → AnswersPlan g s (Load l name) (Wrong (ClassCircularity x)) → EndsInCircle g.world l name x
-circle_is_answered g s l name x a = elim (end_or_refused s (needs_of a.plan) a.plan.ends (Wrong (ClassCircularity x)) a.answered) [
+circle_is_answered g s l name x a = elim (end_or_refused s (plan_needs a.plan) a.plan.ends (Wrong (ClassCircularity x)) a.answered) [
   | inr h ↦ absurd (let e : Wrong (ClassCircularity x) ≡ Linkage h.0 = h.1 in cc)
   | inl h ↦
       let w = g.world in
@@ -85,4 +85,4 @@ circular_is_answered g s l name x v circle a =
     let k = load_ill w (derive w d.0 []) e ClassNotFound l name circle.place circle.found (record { made = d.1; is = d.2; ends = d.3 }) in
     let planned : IsPlan w (Load l name) (stopped_plan k.made e) = record { height = d.0; planned = planned_at w d.0 (Load l name) k.made (load w d.0 ClassNotFound l name) (stopped_plan k.made e) k.is (stops w d.0 l name k.made e k.ends) } in
     let ends : a.plan.ends ≡ Wrong e = ap (λ (p : Plan). p.ends) (one_plan w (Load l name) a.plan (stopped_plan k.made e) a.planned planned) in
-    elim (end_or_refused s (needs_of a.plan) a.plan.ends v a.answered) [ inl z ↦ inl (z ∙ ends) | inr z ↦ inr z ]
+    elim (end_or_refused s (plan_needs a.plan) a.plan.ends v a.answered) [ inl z ↦ inl (z ∙ ends) | inr z ↦ inr z ]

@@ -7,13 +7,13 @@ use Rattle.cl_descriptors.proofs.Codec.{map_some, then_some}
 use Rattle.cl_classfile.specs.Files.{Name, Key, Member, Reference, ToClass, ToField, ToMethod, ToInterfaceMethod, reference, same_name}
 use Rattle.cl_model.specs.Homes.{World, home}
 use Rattle.cl_model.specs.declared.class.Class.{Class}
-use Rattle.cl_model.specs.Classes.{class, same_class, is_among, Error, ClassNotFound, NoClassDef, NoSuchField, NoSuchMethod, IllegalAccess, file_of, misfit, Above, superclass_of, superinterfaces_of}
+use Rattle.cl_model.specs.Classes.{class, same_class, is_among, Error, ClassNotFound, NoClassDef, NoSuchField, NoSuchMethod, IllegalAccess, read_class, misfit, Above, superclass_of, superinterfaces_of}
 use Rattle.cl_model.specs.Lineages.{Forest, Bare, Kin, alone, classes, postorder, lineage, field_of, method_of, lookup_field, member_accessible}
 use Rattle.cl_model.specs.Preparation.{class_names, constraints_of, equals_of}
 use Rattle.cl_model.specs.Ancestors.{EachClassOnce}
 use Rattle.cl_model.specs.States.{Need, Entry, Equal, Verdict, IsField, IsMethod, IsLinked, Wrong}
 use Rattle.cl_model.specs.Works.{Work, Made, Ask, done, need, ask, or_fail, unless_wrong, of_result, after_made, go_on, ◌>>=◌}
-use Rattle.cl_model.specs.Plans.{initiating, load_by, loads_above, derive_new, derive, load, class_named, inaccessible, resolve_found, resolve_field, resolve_method, resolve_in, through, resolve_named, flags_of, Request, Load, Resolve, Link, loaded_by, go_on_with, Plan, plan_after, plan_from, needs_of, same_ask, distinct}
+use Rattle.cl_model.specs.Plans.{initiating, load_by, loads_above, derive_new, derive, load, class_named, inaccessible, resolve_found, resolve_field, resolve_method, resolve_in, through, resolve_named, flags_of, Request, Load, Resolve, Link, loaded_by, go_on_with, Plan, plan_after, plan_from, plan_needs, same_ask, distinct}
 use Rattle.cl_model.specs.Machine.{HasLineage, IsPlan}
 use Rattle.cl_model.proofs.Bind.{some_same, ok_same, step_is}
 use Rattle.cl_model.proofs.Heights.{loaded, found, sought, grown, others_after, checked, finished, interfaces_next, superclass_next, circle_or}
@@ -110,7 +110,7 @@ above_covers w d ih before c (a ∷ others) =
 new_covers : (w : World) (d : Class → Work Kin) → ((before : List Ask) (c : Class) → Covers before (d c)) → (before : List Ask) (c : Class) → (let a : Ask = record { loader = c.loader; name = c.name } in In a before) → Covers before (derive_new w d c)
 new_covers w d ih before c own =
     let a : Ask = record { loader = c.loader; name = c.name } in
-    covers_then before (of_result (file_of w c)) (superclass_next w d c) (none_covers before _ refl) (λ f x hx ex.
+    covers_then before (of_result (read_class w c)) (superclass_next w d c) (none_covers before _ refl) (λ f x hx ex.
     let one = before ++ x.asked in
     covers_then one (loads_above w d c (superclass_of f)) (interfaces_next w d c f) (above_covers w d ih one c (superclass_of f)) (λ sup u hu eu.
     let two = one ++ u.asked in
@@ -181,7 +181,7 @@ on_covers w n before (Link loader name) k =
     (λ a x hx ex. none_covers _ _ refl)
 
 -- the records that a plan needs are asked for
-pub plan_covers : (w : World) (q : Request) (p : Plan) → IsPlan w q p → AllByRecursion (Asked p.asked) (needs_of p)
+pub plan_covers : (w : World) (q : Request) (p : Plan) → IsPlan w q p → AllByRecursion (Asked p.asked) (plan_needs p)
 plan_covers w q p is =
     let n = is.height in
     let l = then_some (plan_from w n q) (load w n ClassNotFound (loaded_by q).loader (loaded_by q).name) p is.planned in
@@ -190,11 +190,11 @@ plan_covers w q p is =
     at : (m : Made Kin) → AllByRecursion (Asked m.asked) m.needs → (e : Result Kin Error) → (elim e as (λ x. Option Plan) [
       | Err x ↦ Some (record { own = m.needs; more = []; asked = m.asked; reached = None; ends = Wrong x })
       | Ok k ↦ option_map (plan_after m k) (go_on_with w is.height q k)
-    ]) ≡ Some p → AllByRecursion (Asked p.asked) (needs_of p)
-    at m all (Err x) h = subst (λ (y : Plan). AllByRecursion (Asked y.asked) (needs_of y)) (some_same _ p h) (all_both (Asked m.asked) m.needs [] all tt)
+    ]) ≡ Some p → AllByRecursion (Asked p.asked) (plan_needs p)
+    at m all (Err x) h = subst (λ (y : Plan). AllByRecursion (Asked y.asked) (plan_needs y)) (some_same _ p h) (all_both (Asked m.asked) m.needs [] all tt)
     at m all (Ok k) h =
         let on = map_some (plan_after m k) (go_on_with w is.height q k) p h in
-        subst (λ (y : Plan). AllByRecursion (Asked y.asked) (needs_of y)) on.2
+        subst (λ (y : Plan). AllByRecursion (Asked y.asked) (plan_needs y)) on.2
         (all_both (Asked (m.asked ++ on.0.asked)) m.needs on.0.needs (all_asked m.asked on.0.asked m.needs all) (on_covers w is.height m.asked q k on.0 on.1))
 
 -- ---- the classes of a lineage stand in the plan by their own records
@@ -260,13 +260,13 @@ reached_asked w q p d k is r lin =
     let below = derive_owns w n [] (class (loaded_by q).name i.place) i.below x.kin i.made i.ends in
     let same : x.kin ≡ k = one_lineage w d x.kin k x.lineage lin in
     let in_load : AllByRecursion (OwnIn x.loading.needs) (postorder (alone x.kin)) = subst (λ (ns : List Need). AllByRecursion (OwnIn ns) (postorder (alone x.kin))) (sym i.needs) (owns_left i.below.needs (initiating (loaded_by q).loader (loaded_by q).name i.place ++ []) (postorder (alone x.kin)) below) in
-    let in_plan : AllByRecursion (OwnIn (needs_of p)) (postorder (alone x.kin)) = owns_left p.own p.more (postorder (alone x.kin)) (subst (λ (y : Plan). AllByRecursion (OwnIn y.own) (postorder (alone x.kin))) (sym x.is) in_load) in
+    let in_plan : AllByRecursion (OwnIn (plan_needs p)) (postorder (alone x.kin)) = owns_left p.own p.more (postorder (alone x.kin)) (subst (λ (y : Plan). AllByRecursion (OwnIn y.own) (postorder (alone x.kin))) (sym x.is) in_load) in
     let asked = plan_covers w q p is in
     subst (λ (y : Kin). AllByRecursion (AskedFor p.asked) (lineage y)) same (once_kept (AskedFor p.asked) [] (postorder (alone x.kin)) (each asked (postorder (alone x.kin)) in_plan))
   where
-    each : AllByRecursion (Asked p.asked) (needs_of p) → (ks : List Kin) → AllByRecursion (OwnIn (needs_of p)) ks → AllByRecursion (AskedFor p.asked) ks
+    each : AllByRecursion (Asked p.asked) (plan_needs p) → (ks : List Kin) → AllByRecursion (OwnIn (plan_needs p)) ks → AllByRecursion (AskedFor p.asked) ks
     each asked [] h = tt
-    each asked (z ∷ ks) h = (all_in (Asked p.asked) (needs_of p) (Entry z.class.loader z.class.name z.class.loader) asked h.0, each asked ks h.1)
+    each asked (z ∷ ks) h = (all_in (Asked p.asked) (plan_needs p) (Entry z.class.loader z.class.name z.class.loader) asked h.0, each asked ks h.1)
 
 -- ---- what is asked, each once
 

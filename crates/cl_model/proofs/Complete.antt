@@ -5,7 +5,7 @@ use Rattle.std.proofs.lemmas.Bool.{eqb-true, and_parts}
 use Rattle.cl_classfile.specs.Files.{Name, File, same_name}
 use Rattle.cl_model.specs.Homes.{World, home}
 use Rattle.cl_model.specs.declared.class.Class.{Class}
-use Rattle.cl_model.specs.Classes.{class, same_class, Error, Above, is_among, NoClassDef, ClassCircularity, file_of, misfit, superclass_of, superinterfaces_of, HasFile, Fitting, FitsAt, Good}
+use Rattle.cl_model.specs.Classes.{class, same_class, Error, Above, is_among, NoClassDef, ClassCircularity, read_class, misfit, superclass_of, superinterfaces_of, HasFile, Fitting, FitsAt, Good}
 use Rattle.cl_model.specs.Lineages.{Bare, Tree, Kin}
 use Rattle.cl_model.specs.States.{Entry}
 use Rattle.cl_model.specs.Works.{Work, Made, done, need, ask, or_fail, unless_wrong, of_result, ◌>>=◌}
@@ -66,7 +66,7 @@ load_either w n m path d ih absent loader name place f g =
 
 pub fits_still : (w : World) (c : Class) (a : Above) (s : Class) (k : Kin) → Fitting w c a.role None s → k.class ≡ s → HasFile w s k.file → misfit c a.role k.class k.file ≡ None
 fits_still w c a s k fit e h =
-    ap (λ (x : Class). misfit c a.role x k.file) e ∙ ap (λ (x : File). misfit c a.role s x) (ok_same k.file fit.file (file_of w s) h fit.has_file) ∙ fit.judged
+    ap (λ (x : Class). misfit c a.role x k.file) e ∙ ap (λ (x : File). misfit c a.role s x) (ok_same k.file fit.file (read_class w s) h fit.has_file) ∙ fit.judged
 
 pub above_either : (w : World) (n m : ℕ) (path : List Class) (d : Class → Work Kin) → Derives w n path d m → Tells w d → (c : Class) (others : List Above) → AllByRecursion (FitsAt w c (Good w m)) others → Either w n path (loads_above w d c others)
 above_either w n m path d ih tells c [] all = inl (Bare, at_once _)
@@ -80,7 +80,7 @@ above_either w n m path d ih tells c (a ∷ others) all =
 
 new_either : (w : World) (n m : ℕ) (path : List Class) (d : Class → Work Kin) → Derives w n path d m → Tells w d → (c : Class) → Good w (suc m) c → Either w n path (derive_new w d c)
 new_either w n m path d ih tells c g =
-    then_either w n path (of_result (file_of w c)) (superclass_next w d c) g.0 (record { made = record { needs = []; asked = []; ends = file_of w c }; is = refl; ends = g.1 })
+    then_either w n path (of_result (read_class w c)) (superclass_next w d c) g.0 (record { made = record { needs = []; asked = []; ends = read_class w c }; is = refl; ends = g.1 })
     (either_then w n path (loads_above w d c (superclass_of g.0)) (interfaces_next w d c g.0) (above_either w n m path d ih tells c (superclass_of g.0) (all_left (FitsAt w c (Good w m)) (superclass_of g.0) (superinterfaces_of g.0) g.2)) (λ sup e.
     either_then w n path (loads_above w d c (superinterfaces_of g.0)) (finished c g.0 sup) (above_either w n m path d ih tells c (superinterfaces_of g.0) (all_right (FitsAt w c (Good w m)) (superclass_of g.0) (superinterfaces_of g.0) g.2)) (λ ints e2.
     let k : Kin = record { class = c; file = g.0; superclass = sup; interfaces = ints } in

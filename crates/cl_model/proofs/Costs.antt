@@ -10,7 +10,7 @@ use Rattle.cl_model.specs.Lineages.{Kin, alone, classes, lineage}
 use Rattle.cl_model.specs.Preparation.{constraints_of}
 use Rattle.cl_model.specs.States.{State, Need, Entry, Equal, Verdict, settled_to}
 use Rattle.cl_model.specs.Works.{Ask}
-use Rattle.cl_model.specs.Plans.{Request, Load, Resolve, Link, Plan, needs_of, nodes_of, homes_of, asked_at_home, edges_of, is_equal, cost}
+use Rattle.cl_model.specs.Plans.{Request, Load, Resolve, Link, Plan, plan_needs, nodes_of, homes_of, asked_at_home, edges_of, is_equal, cost}
 use Rattle.cl_model.specs.Machine.{Setting, Step, Settle, HasLineage, IsPlan, after}
 use Rattle.cl_model.specs.Service.{Want, ToStand, ToPrepare, IsFirst, MayServe, serving, to_stand, to_link, WantsPast, HasWants, Settles, IsNextStep}
 use Rattle.cl_model.specs.Progress.{Takes}
@@ -53,7 +53,7 @@ equal_marked (Equal m x y ∷ ns) name a b (inr h) = inr (equal_marked ns name a
 -- all that a request's service may close: what its plan asks for, the classes that it links, its equalities, and its reference
 record Marked (w : World) (r : Request) (p : Plan) (marks : List Mark) : Type 0 where
   asks : (a : Ask) → In a p.asked → In (OfAsk a) marks
-  equals : (name : Name) (a b : ℕ) → In (Equal name a b) (needs_of p) → In (OfEqual name a b) marks
+  equals : (name : Name) (a b : ℕ) → In (Equal name a b) (plan_needs p) → In (OfEqual name a b) marks
   prepares : (wants : List Want) (c : Class) → HasWants w r p wants → In (ToPrepare c) wants → In (OfClass c) marks
   settles : (g : Setting) (s : State) (e : Step) → Settles g s r p e → (d : Class) × (i : ℕ) × (v : Verdict) × (e ≡ Settle d i v) × (settled_to s.settled d i ≡ None) × In (OfReference d i) marks
 
@@ -106,7 +106,7 @@ past_needs w (Link loader name) p (Some c) past n is e h i =
     subst (λ (ns : List Need). In n ns) (sym (link_more w loader name p c h.0 is e h.1))
     (in_left n (flat_map constraints_of (lineage h.0)) [] (link_needs (lineage h.0) n (subst (λ (ws : List Want). In (ToStand n) ws) h.2 i)))
 
-wants_needs : (w : World) (r : Request) (p : Plan) (wants : List Want) (n : Need) → HasWants w r p wants → In (ToStand n) wants → In n (needs_of p)
+wants_needs : (w : World) (r : Request) (p : Plan) (wants : List Want) (n : Need) → HasWants w r p wants → In (ToStand n) wants → In n (plan_needs p)
 wants_needs w r p wants n has h = elim (in_split (ToStand n) (to_stand p.own) has.past (subst (λ (ws : List Want). In (ToStand n) ws) has.whole h)) [
   | inl i ↦ in_left n p.own p.more (stands_in p.own n i)
   | inr i ↦ in_right n p.own p.more (past_needs w r p p.reached has.past n has.planned refl has.follows i)
@@ -127,25 +127,25 @@ built : (w : World) (r : Request) (p : Plan) (cs : List Class) (refs : List Mark
 built w r p cs refs few one prepares settles =
     let asks = map (λ (a : Ask). OfAsk a) (nodes_of w p) in
     let prepared = map (λ (c : Class). OfClass c) cs in
-    let equals = equal_marks (needs_of p) in
+    let equals = equal_marks (plan_needs p) in
     let marks = asks ++ (prepared ++ (equals ++ refs)) in
-    let total : length marks ≡ length (nodes_of w p) + (length cs + (count_by is_equal (needs_of p) + length refs)) =
+    let total : length marks ≡ length (nodes_of w p) + (length cs + (count_by is_equal (plan_needs p) + length refs)) =
     length-append asks (prepared ++ (equals ++ refs))
     ∙ ap (λ (n : ℕ). n + length (prepared ++ (equals ++ refs))) (length-map (nodes_of w p) (λ (a : Ask). OfAsk a))
     ∙ ap (λ (n : ℕ). length (nodes_of w p) + n) (length-append prepared (equals ++ refs)
     ∙ ap (λ (n : ℕ). n + length (equals ++ refs)) (length-map cs (λ (c : Class). OfClass c))
-    ∙ ap (λ (n : ℕ). length cs + n) (length-append equals refs ∙ ap (λ (n : ℕ). n + length refs) (equal_count (needs_of p)))) in (
+    ∙ ap (λ (n : ℕ). length cs + n) (length-append equals refs ∙ ap (λ (n : ℕ). n + length refs) (equal_count (plan_needs p)))) in (
       marks,
       record {
         asks = λ a h. in_left (OfAsk a) asks (prepared ++ (equals ++ refs)) (in_map (λ (x : Ask). OfAsk x) a (nodes_of w p) (distinct_has a (p.asked ++ flat_map (asked_at_home w) p.asked) (in_left a p.asked (flat_map (asked_at_home w) p.asked) h)));
-        equals = λ name a b h. in_right (OfEqual name a b) asks (prepared ++ (equals ++ refs)) (in_right (OfEqual name a b) prepared (equals ++ refs) (in_left (OfEqual name a b) equals refs (equal_marked (needs_of p) name a b h)));
+        equals = λ name a b h. in_right (OfEqual name a b) asks (prepared ++ (equals ++ refs)) (in_right (OfEqual name a b) prepared (equals ++ refs) (in_left (OfEqual name a b) equals refs (equal_marked (plan_needs p) name a b h)));
         prepares = λ wants c has h. in_right (OfClass c) asks (prepared ++ (equals ++ refs)) (in_left (OfClass c) prepared (equals ++ refs) (in_map (λ (x : Class). OfClass x) c cs (prepares wants c has h)));
         settles =
             λ g s e h.
             let k = settles g s e h in
             (k.0, k.1, k.2, k.3, k.4, in_right (OfReference k.0 k.1) asks (prepared ++ (equals ++ refs)) (in_right (OfReference k.0 k.1) prepared (equals ++ refs) (in_right (OfReference k.0 k.1) equals refs k.5)));
       },
-      within (length marks) (length (nodes_of w p)) (length cs) (count_by is_equal (needs_of p)) (length refs) (sum_by (edges_of w) (homes_of w p)) total few one,
+      within (length marks) (length (nodes_of w p)) (length cs) (count_by is_equal (plan_needs p)) (length refs) (sum_by (edges_of w) (homes_of w p)) total few one,
     )
   where
     within : (m n c e r d : ℕ) → m ≡ n + (c + (e + r)) → c ≤ n → r ≤ 1 → m + 1 ≤ 3 * n + d + e + 7
@@ -187,8 +187,8 @@ marked w (Link loader name) p is = at p.reached refl
 
 -- ---- each step of a service closes a mark
 
-need_marked : (w : World) (r : Request) (p : Plan) (marks : List Mark) (n : Need) → IsPlan w r p → Marked w r p marks → In n (needs_of p) → In (mark_of n) marks
-need_marked w r p marks (Entry loader name place) is m h = m.asks (record { loader = loader; name = name }) (all_in (Asked p.asked) (needs_of p) (Entry loader name place) (plan_covers w r p is) h)
+need_marked : (w : World) (r : Request) (p : Plan) (marks : List Mark) (n : Need) → IsPlan w r p → Marked w r p marks → In n (plan_needs p) → In (mark_of n) marks
+need_marked w r p marks (Entry loader name place) is m h = m.asks (record { loader = loader; name = name }) (all_in (Asked p.asked) (plan_needs p) (Entry loader name place) (plan_covers w r p is) h)
 need_marked w r p marks (Equal name a b) is m h = m.equals name a b h
 
 want_closes : (w : World) (s : State) (r : Request) (p : Plan) (wants : List Want) (marks : List Mark) (x : Want) → HasWants w r p wants → Marked w r p marks → In x wants → MayServe s x → (m : Mark) × In m marks × Closes s (serving x) m

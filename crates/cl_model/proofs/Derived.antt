@@ -4,7 +4,7 @@ use Rattle.std.specs.List.{AllByRecursion}
 use Rattle.cl_classfile.specs.Files.{Name, File}
 use Rattle.cl_model.specs.Homes.{World, home}
 use Rattle.cl_model.specs.declared.class.Class.{Class}
-use Rattle.cl_model.specs.Classes.{class, Error, Above, is_among, NoClassDef, ClassCircularity, file_of, misfit, superclass_of, superinterfaces_of, HasFile, FitsAt, Good}
+use Rattle.cl_model.specs.Classes.{class, Error, Above, is_among, NoClassDef, ClassCircularity, read_class, misfit, superclass_of, superinterfaces_of, HasFile, FitsAt, Good}
 use Rattle.cl_model.specs.Lineages.{Forest, Tree, Kin}
 use Rattle.cl_model.specs.States.{Need, Entry}
 use Rattle.cl_model.specs.Works.{Work, Made, done, need, ask, or_fail, unless_wrong, of_result}
@@ -103,8 +103,8 @@ pub record IsNew (w : World) (d : Class → Work Kin) (c : Class) (m : Made Kin)
 
 pub new_ok : (w : World) (d : Class → Work Kin) (c : Class) (m : Made Kin) (k : Kin) → derive_new w d c ≡ Some m → m.ends ≡ Ok k → IsNew w d c m k
 new_ok w d c m k h e =
-    let read = bind_ok (of_result (file_of w c)) (superclass_next w d c) m k h e in
-    let file = result_ok (file_of w c) read.first read.value read.made read.ended in
+    let read = bind_ok (of_result (read_class w c)) (superclass_next w d c) m k h e in
+    let file = result_ok (read_class w c) read.first read.value read.made read.ended in
     let up = bind_ok (loads_above w d c (superclass_of read.value)) (interfaces_next w d c read.value) read.second k read.next read.ends in
     let over = bind_ok (loads_above w d c (superinterfaces_of read.value)) (finished c read.value up.value) up.second k up.next up.ends in
     let last = bind_ok (need (Entry c.loader c.name c.loader ∷ [])) (λ (b : Unit {0}). done (record { class = c; file = read.value; superclass = up.value; interfaces = over.value })) over.second k over.next over.ends in

@@ -7,7 +7,7 @@ use Rattle.cl_classfile.specs.Files.{Name, File, same_name}
 use Rattle.cl_model.specs.Content.{Content, Stored, content_at}
 use Rattle.cl_model.specs.Homes.{World, home}
 use Rattle.cl_model.specs.declared.class.Class.{Class}
-use Rattle.cl_model.specs.Classes.{class, same_class, Error, Above, is_among, NoClassDef, IsAtHome, is_own, bytes_of, read_found, file_of, misfit, superclass_of, superinterfaces_of, HasFile, Good, IsGood, Fails, Circular, Next, Returns}
+use Rattle.cl_model.specs.Classes.{class, same_class, Error, Above, is_among, NoClassDef, IsAtHome, is_own, bytes_of, read_found, read_class, misfit, superclass_of, superinterfaces_of, HasFile, Good, IsGood, Fails, Circular, Next, Returns}
 use Rattle.cl_model.specs.Lineages.{Kin}
 use Rattle.cl_model.specs.States.{Need}
 use Rattle.cl_model.specs.Works.{Work, Made, Ask, ask, or_fail, unless_wrong, of_result, after_made, go_on, ◌>>=◌}
@@ -123,8 +123,8 @@ above_done w d h c (a ∷ others) =
 
 new_done : (w : World) (d : Class → Work Kin) (c : Class) → ((f : File) → HasFile w c f → (s : Class) → Done (d s)) → Done (derive_new w d c)
 new_done w d c h =
-    done_then (of_result (file_of w c)) (superclass_next w d c) (now _) (λ f x.
-    let below = h f (some_end (file_of w c) f x) in
+    done_then (of_result (read_class w c)) (superclass_next w d c) (now _) (λ f x.
+    let below = h f (some_end (read_class w c) f x) in
     done_then (loads_above w d c (superclass_of f)) (interfaces_next w d c f) (above_done w d below c (superclass_of f)) (λ sup y.
     done_then (loads_above w d c (superinterfaces_of f)) (finished c f sup) (above_done w d below c (superinterfaces_of f)) (λ ints z. now _)))
   where

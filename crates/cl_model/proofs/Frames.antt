@@ -7,11 +7,11 @@ use Rattle.cl_classfile.specs.Files.{Name, File, Reference, reference}
 use Rattle.cl_descriptors.proofs.Codec.{map_some, then_some}
 use Rattle.cl_model.specs.Homes.{World, home}
 use Rattle.cl_model.specs.declared.class.Class.{Class}
-use Rattle.cl_model.specs.Classes.{class, Error, Above, is_among, ClassNotFound, NoClassDef, ClassCircularity, file_of, misfit, superclass_of, superinterfaces_of, supers, HasFile, AtHome, Fitting, FitsAt, Good, IsGood, FirstWrong, Next}
+use Rattle.cl_model.specs.Classes.{class, Error, Above, is_among, ClassNotFound, NoClassDef, ClassCircularity, read_class, misfit, superclass_of, superinterfaces_of, supers, HasFile, AtHome, Fitting, FitsAt, Good, IsGood, FirstWrong, Next}
 use Rattle.cl_model.specs.Lineages.{Bare, Kin}
 use Rattle.cl_model.specs.States.{State, Need, Entry, Verdict, Wrong, Met, Keeps, AllMet, IsNext, IsRecorded}
 use Rattle.cl_model.specs.Works.{Work, Made, Ask, ask, need, done, or_fail, unless_wrong, of_result, ◌>>=◌}
-use Rattle.cl_model.specs.Plans.{initiating, load_by, loads_above, derive_new, derive, load, Request, loaded_by, go_on_with, Plan, plan_after, plan_from, needs_of, class_named, through, resolve_named, resolve, Resolve, ending}
+use Rattle.cl_model.specs.Plans.{initiating, load_by, loads_above, derive_new, derive, load, Request, loaded_by, go_on_with, Plan, plan_after, plan_from, plan_needs, class_named, through, resolve_named, resolve, Resolve, ending}
 use Rattle.cl_model.specs.Machine.{Setting, IsPlan, AnswersPlan, IsClosed}
 use Rattle.cl_model.specs.Service.{IsNextNeed}
 use Rattle.cl_model.specs.Frames.{Frame, wanted, Judged, Accepts, KeepsAccepted, AllKept, IsFrame, IsFrames, path_of, absent_under, EndsHere, OfReference, Starts, Under}
@@ -126,7 +126,7 @@ above_hits w s g d c Q top (a ∷ others) (inr h) =
 new_hits : (w : World) (s : State) (g : Aim) (d : Class → Work Kin) (c : Class) (f : File) (Q : Above → Type 0) → HasFile w c f → ((a : Above) (more : List Above) → Q a → Every (load_by w d NoClassDef c.loader a.name >>= checked w d c a more) (Hits s g))
     → FirstWrong (Passes w s d c) Q (supers f) → Every (derive_new w d c) (Hits s g)
 new_hits w s g d c f Q hf top h =
-    then_hits s g (of_result (file_of w c)) (superclass_next w d c) (λ y. y ≡ f) (read_well s (file_of w c) f hf) (λ y e.
+    then_hits s g (of_result (read_class w c)) (superclass_next w d c) (λ y. y ≡ f) (read_well s (read_class w c) f hf) (λ y e.
     subst (λ (z : File). Every (superclass_next w d c z) (Hits s g)) (sym e)
     (elim (wrong_split (Passes w s d c) Q (superclass_of f) (superinterfaces_of f) h) [
       | inl k ↦ first_hits s g (loads_above w d c (superclass_of f)) (interfaces_next w d c f) (above_hits w s g d c Q top (superclass_of f) k)
@@ -138,7 +138,7 @@ complete_hits : (w : World) (s : State) (d : Class → Work Kin) (c : Class) (f 
 complete_hits w s d c f hf all =
     let n = Entry c.loader c.name c.loader in
     let g = NextIs n in
-    then_hits s g (of_result (file_of w c)) (superclass_next w d c) (λ y. y ≡ f) (read_well s (file_of w c) f hf) (λ y e.
+    then_hits s g (of_result (read_class w c)) (superclass_next w d c) (λ y. y ≡ f) (read_well s (read_class w c) f hf) (λ y e.
     subst (λ (z : File). Every (superclass_next w d c z) (Hits s g)) (sym e)
     (then_hits s g (loads_above w d c (superclass_of f)) (interfaces_next w d c f) Any (above_well w s d c (superclass_of f) (all_left (Passes w s d c) (superclass_of f) (superinterfaces_of f) all)) (λ sup u.
     then_hits s g (loads_above w d c (superinterfaces_of f)) (finished c f sup) Any (above_well w s d c (superinterfaces_of f) (all_right (Passes w s d c) (superclass_of f) (superinterfaces_of f) all)) (λ ints v.
@@ -255,8 +255,8 @@ walk w s g closed (x ∷ xs) path absent loader name al an f acc top n here =
 -- ---- plans
 
 abbrev PlanHits : State → Aim → Plan → Type 0
-PlanHits s (NextIs n) p = IsNext s (needs_of p) n
-PlanHits s (EndsIn e) p = AllMet s (needs_of p) × (p.ends ≡ Wrong e)
+PlanHits s (NextIs n) p = IsNext s (plan_needs p) n
+PlanHits s (EndsIn e) p = AllMet s (plan_needs p) × (p.ends ≡ Wrong e)
 PlanHits s (AsksFor a) p = In a p.asked
 
 plan_well : (s : State) (g : Aim) (m : Made Kin) (k : Kin) (behind : List Ask) (p : Plan) → m.ends ≡ Ok k → p.own ≡ m.needs → p.asked ≡ m.asked ++ behind → Hits s g m → PlanHits s g p
@@ -327,7 +327,7 @@ referring_hits w s g r loader name closed o h p is =
     plan_on w s g q (OfClass w d) p (subst (λ (z : Request). IsPlan w z p) o.request is)
     (λ n. load_well w s (derive w n []) ClassNotFound o.through o.asked loader (OfClass w d) (closed.homes o.through loader o.asked o.kept) o.kept (derive_well w s n [] d closed (closed.own o.through loader o.asked o.kept) (nothing_leads w d)))
     (λ n k c. resolve_hits w s g n k o.index o.cites.cited name
-    (ap (λ (f : File). reference f o.index) (ok_same k.file o.file (file_of w d) c.1 o.has_file) ∙ o.cites.found) o.cites.names
+    (ap (λ (f : File). reference f o.index) (ok_same k.file o.file (read_class w d) c.1 o.has_file) ∙ o.cites.found) o.cites.names
     (subst (λ (z : Class). Every (load w n NoClassDef z.loader name) (Hits s g)) (sym c.0) (h n)))
 
 start_hits : (w : World) (s : State) (g : Aim) (r : Request) (absent : Class → Error) (loader : ℕ) (name : Name) → IsClosed w s → Starts w s r absent loader name → ((n : ℕ) → Every (load w n absent loader name) (Hits s g)) → (p : Plan) → IsPlan w r p → PlanHits s g p
@@ -402,7 +402,7 @@ missing_ends w s r absent xs al an closed u at =
     first_hits s g (or_fail e (home w al an)) (found w (derive w n (path_of [] xs)) al an) (or_fail_hits s e (home w al an) at)))
 
 -- the bytes of what is looked for are not its class
-pub faulty_ends : (w : World) (s : State) (r : Request) (absent : Class → Error) (xs : List Frame) (al place : ℕ) (an : Name) (e : Error) → IsClosed w s → Under w s r absent xs al an → home w al an ≡ Some place → is_among (path_of [] xs) (class an place) ≡ false → file_of w (class an place) ≡ Err e → EndsHere w s r (Wrong e)
+pub faulty_ends : (w : World) (s : State) (r : Request) (absent : Class → Error) (xs : List Frame) (al place : ℕ) (an : Name) (e : Error) → IsClosed w s → Under w s r absent xs al an → home w al an ≡ Some place → is_among (path_of [] xs) (class an place) ≡ false → read_class w (class an place) ≡ Err e → EndsHere w s r (Wrong e)
 faulty_ends w s r absent xs al place an e closed u at new bad =
     let g = EndsIn e in
     let path = path_of [] xs in
@@ -411,7 +411,7 @@ faulty_ends w s r absent xs al place an e closed u at new bad =
     load_hits w s g (derive w n path) (absent_under absent xs) al an place at
     (first_hits s g (derive w n path t) (loaded w al an place)
     (derive_hits w s g n path t new (λ j.
-    first_hits s g (of_result (file_of w t)) (superclass_next w (derive w j (t ∷ path)) t) (read_hits s (file_of w t) e bad)))))
+    first_hits s g (of_result (read_class w t)) (superclass_next w (derive w j (t ∷ path)) t) (read_hits s (read_class w t) e bad)))))
 
 -- what is looked for is being derived already
 pub circle_ends : (w : World) (s : State) (r : Request) (absent : Class → Error) (xs : List Frame) (al place : ℕ) (an : Name) → IsClosed w s → Under w s r absent xs al an → home w al an ≡ Some place → is_among (path_of [] xs) (class an place) ≡ true → EndsHere w s r (Wrong (ClassCircularity (class an place)))
@@ -443,4 +443,4 @@ misfit_ends w s r absent xs x al a t e closed u f acc want named wrong kept =
 
 -- what ends here is answered so
 pub answers_here : (g : Setting) (s : State) (r : Request) (v : Verdict) → EndsHere g.world s r v → AnswersPlan g s r v
-answers_here g s r v h = record { plan = h.plan; planned = h.planned; answered = answers_met s (needs_of h.plan) h.plan.ends v h.met (sym h.ends) }
+answers_here g s r v h = record { plan = h.plan; planned = h.planned; answered = answers_met s (plan_needs h.plan) h.plan.ends v h.met (sym h.ends) }

@@ -11,7 +11,7 @@ use Rattle.cl_model.specs.Lineages.{Kin, classes, lineage}
 use Rattle.cl_model.specs.Preparation.{constraints_of}
 use Rattle.cl_model.specs.States.{State, Need, Entry, Verdict, IsClass, IsLinked, Wrong, Linkage, recorded, Met, AllMet, MayAdd, IsNext, Refused}
 use Rattle.cl_model.specs.Works.{Made}
-use Rattle.cl_model.specs.Plans.{load, Request, Load, Resolve, Link, loaded_by, go_on_with, Plan, plan_after, plan_from, needs_of, ending}
+use Rattle.cl_model.specs.Plans.{load, Request, Load, Resolve, Link, loaded_by, go_on_with, Plan, plan_after, plan_from, plan_needs, ending}
 use Rattle.cl_model.specs.Machine.{Setting, HasLineage, IsPlan, IsClosed, Answers, AnswersPlan, MaySay, RestsOn, step_for}
 use Rattle.cl_model.specs.Service.{Want, ToStand, ToPrepare, FulfilsAll, IsFirst, to_stand, to_link, WantsPast, HasWants, IsNextNeed, IsNextStep, IsLinkedIn, ComesTo}
 use Rattle.cl_model.specs.Frames.{EndsHere}
@@ -156,7 +156,7 @@ link_comes g s loader place name k closed rec lin all =
         answers = record {
           plan = here.plan;
           planned = here.planned;
-          answered = answers_met s (needs_of here.plan) here.plan.ends (IsLinked d) here.met (sym here.ends);
+          answered = answers_met s (plan_needs here.plan) here.plan.ends (IsLinked d) here.met (sym here.ends);
         };
         rests = λ c e. subst (λ (x : Class). Contains s.prepared x) (one_linked c d e) prepared;
       };
@@ -195,7 +195,7 @@ link_refusal_comes g s loader place name l k before behind n closed rec lin part
         answers = record {
           plan = next.plan;
           planned = next.planned;
-          answered = refused_answer s (needs_of next.plan) next.plan.ends n next.next refused;
+          answered = refused_answer s (plan_needs next.plan) next.plan.ends n next.next refused;
         };
         rests = λ c e. absurd (refused_not_linked c n e);
       };
@@ -208,12 +208,12 @@ past_nothing w (Load loader name) p = refl
 past_nothing w (Resolve loader name i) p = refl
 past_nothing w (Link loader name) p = refl
 
-rests_nothing : (w : World) (s : State) (r : Request) (p : Plan) (v : Verdict) → IsPlan w r p → p.reached ≡ None → Answers s (needs_of p) p.ends v → RestsOn s r p v
+rests_nothing : (w : World) (s : State) (r : Request) (p : Plan) (v : Verdict) → IsPlan w r p → p.reached ≡ None → Answers s (plan_needs p) p.ends v → RestsOn s r p v
 rests_nothing w s (Load loader name) p v is none a = tt
 rests_nothing w s (Resolve loader name i) p v is none a = λ d past settling. absurd (none_not_some p.reached none past.0)
-rests_nothing w s (Link loader name) p v is none a = λ c e. absurd (at c e (ends_for w (Link loader name) p (λ (d : Class). IsLinked d) (λ n k r h. (step_is _ r h).1) is) (end_or_refused s (needs_of p) p.ends v a))
+rests_nothing w s (Link loader name) p v is none a = λ c e. absurd (at c e (ends_for w (Link loader name) p (λ (d : Class). IsLinked d) (λ n k r h. (step_is _ r h).1) is) (end_or_refused s (plan_needs p) p.ends v a))
   where
-    at : (c : Class) → v ≡ IsLinked c → EndsFor (λ (d : Class). IsLinked d) p → ((v ≡ p.ends) × AllMet s (needs_of p)) ⊎ ((n : Need) × (v ≡ Linkage n)) → ⊥
+    at : (c : Class) → v ≡ IsLinked c → EndsFor (λ (d : Class). IsLinked d) p → ((v ≡ p.ends) × AllMet s (plan_needs p)) ⊎ ((n : Need) × (v ≡ Linkage n)) → ⊥
     at c e ends (inr k) = refused_not_linked c k.0 (sym k.1 ∙ e)
     at c e (inl x) (inl k) = none_not_some p.reached none x.1
     at c e (inr x) (inl k) = wrong_not_linked c x.0 (sym x.1 ∙ sym k.0 ∙ e)
@@ -221,12 +221,12 @@ rests_nothing w s (Link loader name) p v is none a = λ c e. absurd (at c e (end
 pub unreached_comes : (g : Setting) (s : State) (r : Request) (p : Plan) (v : Verdict) → IsPlan g.world r p → p.reached ≡ None → AnswersPlan g s r v → ComesTo g s r v
 unreached_comes g s r p v is none a =
     let same : a.plan ≡ p = one_plan g.world r a.plan p a.planned is in
-    let answered : Answers s (needs_of p) p.ends v = subst (λ (y : Plan). Answers s (needs_of y) y.ends v) same a.answered in
+    let answered : Answers s (plan_needs p) p.ends v = subst (λ (y : Plan). Answers s (plan_needs y) y.ends v) same a.answered in
     record {
       plan = p;
-      wants = to_stand (needs_of p);
+      wants = to_stand (plan_needs p);
       wanted = record { planned = is; past = to_stand p.more; follows = subst (λ (o : Option Class). WantsPast g.world r p o (to_stand p.more)) (sym none) (past_nothing g.world r p); whole = to_stand_both p.own p.more };
-      over = answers_over s (needs_of p) p.ends v answered;
+      over = answers_over s (plan_needs p) p.ends v answered;
       may_say = record { answers = record { plan = p; planned = is; answered = answered }; rests = rests_nothing g.world s r p v is none answered };
     }
 
@@ -261,7 +261,7 @@ load_refusal_comes g s r p n is h refused =
       wants = to_stand p.own ++ past.0;
       wanted = record { planned = is; past = past.0; follows = past.1; whole = refl };
       over = inr (n, first_left s (to_stand p.own) past.0 (ToStand n) (next_is_first s p.own n h), refused);
-      may_say = record { answers = record { plan = p; planned = is; answered = refused_answer s (needs_of p) p.ends n (next_left s p.own p.more n h) refused }; rests = rests_refused s r p n h refused };
+      may_say = record { answers = record { plan = p; planned = is; answered = refused_answer s (plan_needs p) p.ends n (next_left s p.own p.more n h) refused }; rests = rests_refused s r p n h refused };
     }
 
 -- ---- records that come next
@@ -284,7 +284,7 @@ link_more w loader name p is =
         subst (λ (y : Plan). AllByRecursion IsEquality y.more) on.2 (subst (λ (ns : List Need). AllByRecursion IsEquality ns) (sym (step_is _ on.0 on.1).0) all)
 
 -- so a record is one of the load
-link_own : (w : World) (s : State) (loader to place : ℕ) (name other : Name) (p : Plan) → IsPlan w (Link loader name) p → IsNext s (needs_of p) (Entry to other place) → IsNext s p.own (Entry to other place)
+link_own : (w : World) (s : State) (loader to place : ℕ) (name other : Name) (p : Plan) → IsPlan w (Link loader name) p → IsNext s (plan_needs p) (Entry to other place) → IsNext s p.own (Entry to other place)
 link_own w s loader to place name other p is h = elim (next_split s p.own p.more (Entry to other place) h) [
   | inl k ↦ k
   | inr k ↦ absurd (never_both (Entry to other place) tt (next_is s IsEquality p.more (Entry to other place) (link_more w loader name p is) k.1))

@@ -4,7 +4,7 @@ use Rattle.std.specs.Prelude.{option_map}
 use Rattle.cl_classfile.specs.Files.{Name, File}
 use Rattle.cl_model.specs.Homes.{World, home}
 use Rattle.cl_model.specs.declared.class.Class.{Class}
-use Rattle.cl_model.specs.Classes.{class, Error, Above, is_among, NoClassDef, ClassCircularity, file_of, misfit, superclass_of, superinterfaces_of}
+use Rattle.cl_model.specs.Classes.{class, Error, Above, is_among, NoClassDef, ClassCircularity, read_class, misfit, superclass_of, superinterfaces_of}
 use Rattle.cl_model.specs.Lineages.{Forest, Tree, Kin}
 use Rattle.cl_model.specs.States.{Need, Entry}
 use Rattle.cl_model.specs.Works.{Work, Made, Ask, done, fail, need, ask, or_fail, unless_wrong, of_result, after_made, go_on, ◌>>=◌}
@@ -78,7 +78,7 @@ superclass_next w d c f = loads_above w d c (superclass_of f) >>= interfaces_nex
 
 new_reaches : (w : World) (d e : Class → Work Kin) → ((c : Class) → Reaches (d c) (e c)) → (c : Class) → Reaches (derive_new w d c) (derive_new w e c)
 new_reaches w d e r c =
-    then_reaches (of_result (file_of w c)) (superclass_next w d c) (superclass_next w e c) (λ f.
+    then_reaches (of_result (read_class w c)) (superclass_next w d c) (superclass_next w e c) (λ f.
     bind_reaches (loads_above w d c (superclass_of f)) (loads_above w e c (superclass_of f)) (interfaces_next w d c f) (interfaces_next w e c f) (above_reaches w d e r c (superclass_of f)) (λ sup.
     first_reaches (loads_above w d c (superinterfaces_of f)) (loads_above w e c (superinterfaces_of f)) (finished c f sup) (above_reaches w d e r c (superinterfaces_of f))))
 

@@ -4,7 +4,7 @@ use Rattle.std.specs.List.{AllByRecursion}
 use Rattle.cl_classfile.specs.Files.{Name, File}
 use Rattle.cl_model.specs.Homes.{World, home}
 use Rattle.cl_model.specs.declared.class.Class.{Class}
-use Rattle.cl_model.specs.Classes.{class, Error, Above, is_among, NoClassDef, ClassCircularity, file_of, misfit, superclass_of, superinterfaces_of, supers, HasFile, AtHome, FitsAt, Good, IsGood, FirstWrong, WrongAt, Fails, Returns}
+use Rattle.cl_model.specs.Classes.{class, Error, Above, is_among, NoClassDef, ClassCircularity, read_class, misfit, superclass_of, superinterfaces_of, supers, HasFile, AtHome, FitsAt, Good, IsGood, FirstWrong, WrongAt, Fails, Returns}
 use Rattle.cl_model.specs.Lineages.{Forest, Bare, Kin}
 use Rattle.cl_model.specs.States.{Entry}
 use Rattle.cl_model.specs.Works.{Work, Made, ask, or_fail, unless_wrong, of_result}
@@ -84,14 +84,14 @@ wrong_right fits wrong (x ∷ xs) ys all h = inr (all.0, wrong_right fits wrong 
 
 -- the file is at fault, or a supertype
 abbrev NewErr : World → (Class → Work Kin) → Class → (Class → Type 0) → Error → Type 0
-NewErr w d c good e = (file_of w c ≡ Err e) ⊎ ((f : File) × HasFile w c f × Blocked w c good (BlockedAt w d c good e) (supers f))
+NewErr w d c good e = (read_class w c ≡ Err e) ⊎ ((f : File) × HasFile w c f × Blocked w c good (BlockedAt w d c good e) (supers f))
 
 new_err : (w : World) (d : Class → Work Kin) (P : Class → Type 0) → Yields w d P → (c : Class) (m : Made Kin) (e : Error) → derive_new w d c ≡ Some m → m.ends ≡ Err e → NewErr w d c P e
 new_err w d P y c m e h k =
-    elim (bind_err (of_result (file_of w c)) (superclass_next w d c) m e h k) [
-      | inr s ↦ inl (result_err (file_of w c) s.first e s.made s.ended)
+    elim (bind_err (of_result (read_class w c)) (superclass_next w d c) m e h k) [
+      | inr s ↦ inl (result_err (read_class w c) s.first e s.made s.ended)
       | inl read ↦
-          let file = (result_ok (file_of w c) read.first read.value read.made read.ended).0 in
+          let file = (result_ok (read_class w c) read.first read.value read.made read.ended).0 in
           elim (bind_err (loads_above w d c (superclass_of read.value)) (interfaces_next w d c read.value) read.second e read.next read.ends) [
             | inr s ↦ inr (read.value, file, wrong_left (FitsAt w c P) (BlockedAt w d c P e) (superclass_of read.value) (superinterfaces_of read.value) (above_err w d P y c (superclass_of read.value) s.first e s.made s.ended))
             | inl up ↦ elim (bind_err (loads_above w d c (superinterfaces_of read.value)) (finished c read.value up.value) up.second e up.next up.ends) [

@@ -4,7 +4,7 @@ use Rattle.std.specs.List.{AllByRecursion}
 use Rattle.cl_classfile.specs.Files.{Name, File}
 use Rattle.cl_model.specs.Homes.{World, home}
 use Rattle.cl_model.specs.declared.class.Class.{Class}
-use Rattle.cl_model.specs.Classes.{class, same_class, Error, Above, is_among, NoClassDef, ClassCircularity, file_of, misfit, superclass_of, superinterfaces_of, HasFile, Fitting, FitsAt, Good, FirstWrong, WrongAt, Fails}
+use Rattle.cl_model.specs.Classes.{class, same_class, Error, Above, is_among, NoClassDef, ClassCircularity, read_class, misfit, superclass_of, superinterfaces_of, HasFile, Fitting, FitsAt, Good, FirstWrong, WrongAt, Fails}
 use Rattle.cl_model.specs.Lineages.{Kin}
 use Rattle.cl_model.specs.Works.{Work, Made, ask, or_fail, unless_wrong, of_result, ◌>>=◌}
 use Rattle.cl_model.specs.Plans.{load_by, loads_above, derive_new, derive}
@@ -56,7 +56,7 @@ load_absent w d absent loader name h =
 -- a supertype that is loaded is judged as its file says
 pub judged_still : (w : World) (c : Class) (a : Above) (s : Class) (k : Kin) (o : Option Error) → Fitting w c a.role o s → k.class ≡ s → HasFile w s k.file → misfit c a.role k.class k.file ≡ o
 judged_still w c a s k o fit e h =
-    ap (λ (x : Class). misfit c a.role x k.file) e ∙ ap (λ (x : File). misfit c a.role s x) (ok_same k.file fit.file (file_of w s) h fit.has_file) ∙ fit.judged
+    ap (λ (x : Class). misfit c a.role x k.file) e ∙ ap (λ (x : File). misfit c a.role s x) (ok_same k.file fit.file (read_class w s) h fit.has_file) ∙ fit.judged
 
 above_fails : (w : World) (n m : ℕ) (path : List Class) (d : Class → Work Kin) (e : Error) → Derives w n path d m → FailsBelow w n path d m e → Tells w d → (c : Class) (others : List Above) → FirstWrong (FitsAt w c (Good w m)) (WrongAt w c (Good w m) (λ s. Fails w m s e) e) others → FailsSo w n path (loads_above w d c others) e
 above_fails w n m path d e good ih tells c [] h = absurd h
@@ -86,11 +86,11 @@ wrong_split fits wrong (x ∷ xs) ys (inr h) = elim (wrong_split fits wrong xs y
 
 new_fails : (w : World) (n m : ℕ) (path : List Class) (d : Class → Work Kin) (e : Error) → Derives w n path d m → FailsBelow w n path d m e → Tells w d → (c : Class) → Fails w (suc m) c e → FailsSo w n path (derive_new w d c) e
 new_fails w n m path d e good ih tells c (inl h) =
-    ill_then w n path (of_result (file_of w c)) (superclass_next w d c) e (inl (record { made = record { needs = []; asked = []; ends = file_of w c }; is = refl; ends = h }))
+    ill_then w n path (of_result (read_class w c)) (superclass_next w d c) e (inl (record { made = record { needs = []; asked = []; ends = read_class w c }; is = refl; ends = h }))
 new_fails w n m path d e good ih tells c (inr h) =
     let fits = FitsAt w c (Good w m) in
     let wrong = WrongAt w c (Good w m) (λ s. Fails w m s e) e in
-    well_then w n path (of_result (file_of w c)) (superclass_next w d c) h.0 e (record { made = record { needs = []; asked = []; ends = file_of w c }; is = refl; ends = h.1 })
+    well_then w n path (of_result (read_class w c)) (superclass_next w d c) h.0 e (record { made = record { needs = []; asked = []; ends = read_class w c }; is = refl; ends = h.1 })
     (elim (wrong_split fits wrong (superclass_of h.0) (superinterfaces_of h.0) h.2) [
       | inl k ↦ ill_then w n path (loads_above w d c (superclass_of h.0)) (interfaces_next w d c h.0) e (above_fails w n m path d e good ih tells c (superclass_of h.0) k)
       | inr k ↦ either_then w n path (loads_above w d c (superclass_of h.0)) (interfaces_next w d c h.0) e (above_either w n m path d good tells c (superclass_of h.0) k.0) (λ sup x.

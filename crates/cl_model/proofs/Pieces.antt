@@ -10,7 +10,7 @@ use Rattle.cl_model.specs.Lineages.{Kin, lineage}
 use Rattle.cl_model.specs.Preparation.{constraints_of}
 use Rattle.cl_model.specs.Ancestors.{SupersFirst}
 use Rattle.cl_model.specs.States.{State, Need, Verdict, IsSettling, AllMet, Refused, IsNext, IsRecorded, recorded, MayAdd}
-use Rattle.cl_model.specs.Plans.{Request, Load, Resolve, Link, Plan, needs_of}
+use Rattle.cl_model.specs.Plans.{Request, Load, Resolve, Link, Plan, plan_needs}
 use Rattle.cl_model.specs.Machine.{Setting, Step, Settle, IsPlan, IsPastLoad, Answers, AnswersReference, MaySay, May, after, Run, IsClosed, Scheduled, Prepare, NextRound, HasLineage, MaySettle, MayGoOn, state_after, step_for}
 use Rattle.cl_model.specs.Service.{Want, ToStand, ToPrepare, Fulfils, FulfilsAll, IsFirst, MayServe, serving, to_stand, to_link, WantsPast, HasWants, Settles, IsNextStep, IsOver, ComesTo, IsBegun, IsLinkedIn, PassesRounds, AllServed}
 use Rattle.cl_model.proofs.Complete.{is_class, or_true}
@@ -121,9 +121,9 @@ links_may g s before (k ∷ ks) x kept order all h may = elim (first_split s (to
 
 -- ---- what comes next may happen
 
-needs_may : (g : Setting) (s : State) (r : Request) (p : Plan) (x : Want) → IsClosed g.world s → IsPlan g.world r p → IsFirst s (to_stand (needs_of p)) x → MayServe s x → May g s (serving x)
-needs_may g s r p (ToStand n) closed is h may = next_may g s r p n closed is (next_of s (needs_of p) n h) may
-needs_may g s r p (ToPrepare c) closed is h may = absurd (needs_alone s (needs_of p) c h)
+needs_may : (g : Setting) (s : State) (r : Request) (p : Plan) (x : Want) → IsClosed g.world s → IsPlan g.world r p → IsFirst s (to_stand (plan_needs p)) x → MayServe s x → May g s (serving x)
+needs_may g s r p (ToStand n) closed is h may = next_may g s r p n closed is (next_of s (plan_needs p) n h) may
+needs_may g s r p (ToPrepare c) closed is h may = absurd (needs_alone s (plan_needs p) c h)
 
 own_may : (g : Setting) (s : State) (r : Request) (p : Plan) (x : Want) → IsClosed g.world s → IsPlan g.world r p → IsFirst s (to_stand p.own) x → MayServe s x → May g s (serving x)
 own_may g s r p (ToStand n) closed is h may = next_may g s r p n closed is (next_left s p.own p.more n (next_of s p.own n h)) may
@@ -209,9 +209,9 @@ settled_none g s (Load loader name) p q wants e x has is h first may = h
 settled_none g s (Link loader name) p q wants e x has is h first may = h
 settled_none g s (Resolve loader name i) p q wants e x has is h first may =
     let answered = reference_is_plan g s loader name i p h.0 h.2.0 is h.1.0 h.1.1 h.2.1.answered in
-    let same : wants ≡ to_stand (needs_of p) = wants_same g.world (Resolve loader name i) q p wants (to_stand (needs_of p)) has (resolve_wants loader name i g.world p is) in
+    let same : wants ≡ to_stand (plan_needs p) = wants_same g.world (Resolve loader name i) q p wants (to_stand (plan_needs p)) has (resolve_wants loader name i g.world p is) in
     let plan_of : answered.plan ≡ p = one_plan g.world (Resolve loader name i) answered.plan p answered.planned is in
-    answered_none s (needs_of p) p.ends h.2.0 x (subst (λ (y : Plan). Answers s (needs_of y) y.ends h.2.0) plan_of answered.answered) (subst (λ (ws : List Want). IsFirst s ws x) same first) may
+    answered_none s (plan_needs p) p.ends h.2.0 x (subst (λ (y : Plan). Answers s (plan_needs y) y.ends h.2.0) plan_of answered.answered) (subst (λ (ws : List Want). IsFirst s ws x) same first) may
 
 one_settled : (g : Setting) (s : State) (r : Request) (p q : Plan) (e f : Step) → p ≡ q → Settles g s r p e → Settles g s r q f → e ≡ f
 one_settled g s (Load loader name) p q e f same h k = absurd h
@@ -279,7 +279,7 @@ come_to_ends g s r v e c a =
 -- ---- what comes next of a reference, and of a link
 
 pub settle_next : (g : Setting) (s : State) (loader : ℕ) (name : Name) (i : ℕ) (p : Plan) (d : Class) (v : Verdict) → IsPlan g.world (Resolve loader name i) p → p.reached ≡ Some d → AllMet s p.own → MaySettle g s d i v → IsNextStep g s (Resolve loader name i) (Settle d i v)
-settle_next g s loader name i p d v is reach met may = record { plan = p; wants = to_stand (needs_of p); wanted = resolve_wants loader name i g.world p is; next = inr (d, (reach, met), (v, may, refl)) }
+settle_next g s loader name i p d v is reach met may = record { plan = p; wants = to_stand (plan_needs p); wanted = resolve_wants loader name i g.world p is; next = inr (d, (reach, met), (v, may, refl)) }
 
 pub first_right : (s : State) (xs ys : List Want) (x : Want) → FulfilsAll s xs → IsFirst s ys x → IsFirst s (xs ++ ys) x
 first_right s [] ys x all h = h

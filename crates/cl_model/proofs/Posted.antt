@@ -5,7 +5,7 @@ use Rattle.std.specs.List.{AllByRecursion}
 use Rattle.cl_classfile.specs.Files.{Name, File}
 use Rattle.cl_model.specs.Homes.{World, home}
 use Rattle.cl_model.specs.declared.class.Class.{Class}
-use Rattle.cl_model.specs.Classes.{class, Above, AtHome, AllAtHome, HasFile, file_of, superclass_of, superinterfaces_of, supers}
+use Rattle.cl_model.specs.Classes.{class, Above, AtHome, AllAtHome, HasFile, read_class, superclass_of, superinterfaces_of, supers}
 use Rattle.cl_model.specs.Lineages.{Forest, Bare, Tree, Kin, StandsFor, IsLineage, alone, postorder, lineage}
 use Rattle.cl_model.specs.Preparation.{constraints_of}
 use Rattle.cl_model.specs.States.{State, Verdict, IsSettling, IsLinked, Said, AllMet, IsRecorded, settled_to, answer_to}
@@ -73,7 +73,7 @@ forest_prepared g s c (Tree t f sup ints rest) (a ∷ more) sound all h =
     (own, forest_prepared g s c rest more sound all.1 h.3)
   where
     file_same : (x y : File) (d : Class) → HasFile g.world d x → HasFile g.world d y → x ≡ y
-    file_same x y d p q = ok_same x y (file_of g.world d) p q
+    file_same x y d p q = ok_same x y (read_class g.world d) p q
 
 pub lineage_prepared : (g : Setting) (s : State) (k : Kin) → IsSound g s → IsLineage g.world k → Contains s.prepared k.class → AllByRecursion (λ (a : Kin). Contains s.prepared a.class) (lineage k)
 lineage_prepared g s k sound h own =

@@ -8,12 +8,12 @@ use Rattle.cl_descriptors.proofs.Codec.{map_some, then_some}
 use Rattle.cl_classfile.specs.Files.{Name, File, Key, Member, Reference, ToClass, ToField, ToMethod, ToInterfaceMethod, reference, is_interface}
 use Rattle.cl_model.specs.Homes.{World, home}
 use Rattle.cl_model.specs.declared.class.Class.{Class}
-use Rattle.cl_model.specs.Classes.{class, Error, Above, is_among, ClassNotFound, NoClassDef, NoSuchField, NoSuchMethod, IllegalAccess, file_of, misfit, superclass_of, superinterfaces_of, FitsAt, Good}
+use Rattle.cl_model.specs.Classes.{class, Error, Above, is_among, ClassNotFound, NoClassDef, NoSuchField, NoSuchMethod, IllegalAccess, read_class, misfit, superclass_of, superinterfaces_of, FitsAt, Good}
 use Rattle.cl_model.specs.Lineages.{Forest, Bare, Tree, Kin, StandsFor, IsLineage, alone, postorder, once_after, lineage, field_of, method_of, lookup_field, member_accessible, superinterfaces}
-use Rattle.cl_model.specs.Preparation.{equals_of, equals_with, class_names, takes_part, overridden, for_declared, for_inherited, inherited_from, with_inherited, constraints_of}
+use Rattle.cl_model.specs.Preparation.{equal_between, equals_of, equals_with, class_names, takes_part, overridden, for_declared, for_inherited, inherited_from, with_inherited, constraints_of}
 use Rattle.cl_model.specs.States.{State, Need, Entry, Equal, Verdict, IsField, IsMethod, Met, AllMet, Wrong, IsNext, MayAdd, recorded, IsRecorded, added}
 use Rattle.cl_model.specs.Works.{Work, Made, done, need, ask, or_fail, unless_wrong, of_result, ◌>>=◌}
-use Rattle.cl_model.specs.Plans.{initiating, load_by, loads_above, derive_new, derive, load, class_named, inaccessible, resolve_found, resolve_field, resolve_method, resolve_in, through, resolve_named, resolve, flags_of, Request, Load, Resolve, Link, loaded_by, go_on_with, Plan, plan_after, plan_from, needs_of}
+use Rattle.cl_model.specs.Plans.{initiating, load_by, loads_above, derive_new, derive, load, class_named, inaccessible, resolve_found, resolve_field, resolve_method, resolve_in, through, resolve_named, resolve, flags_of, Request, Load, Resolve, Link, loaded_by, go_on_with, Plan, plan_after, plan_from, plan_needs}
 use Rattle.cl_model.specs.Machine.{Setting, Define, Initiate, May, IsClosed, HasLineage, IsPlan, step_for, after}
 use Rattle.cl_model.proofs.Bind.{pieces, some_same, or_fail_ok, result_ok, value_same}
 use Rattle.cl_model.proofs.Heights.{loaded, found, sought, grown, others_after, checked, finished, interfaces_next, superclass_next, circle_or}
@@ -138,17 +138,17 @@ define_may g s c false e may h = absurd (false_differs c.loader c.loader e refl)
 new_makes : (g : Setting) (s : State) (P : Need → Type 0) (n : ℕ) (d : Class → Work Kin) → Records s d → ((c : Class) → Makes g s P (d c)) → Yields g.world d (Good g.world n) → (c : Class) → Makes g s P (derive_new g.world d c)
 new_makes g s P n d r ih y c =
     let w = g.world in
-    makes_then g s P (of_result (file_of w c)) (superclass_next w d c) (none_next g s P _ refl) (λ f x hx ex mx.
+    makes_then g s P (of_result (read_class w c)) (superclass_next w d c) (none_next g s P _ refl) (λ f x hx ex mx.
     makes_then g s P (loads_above w d c (superclass_of f)) (interfaces_next w d c f) (above_makes g s P d r ih c (superclass_of f)) (λ sup u hu eu mu.
     makes_then g s P (loads_above w d c (superinterfaces_of f)) (finished c f sup) (above_makes g s P d r ih c (superinterfaces_of f)) (λ ints v hv ev mv.
     makes_then g s P (need (Entry c.loader c.name c.loader ∷ [])) (λ (b : Unit {0}). done (record { class = c; file = f; superclass = sup; interfaces = ints }))
     (λ m h t p next may. last f x hx ex sup u hu eu mu ints v hv ev mv m h t next may)
     (λ b z hz ez mz. none_next g s P _ refl))))
   where
-    last : (f : File) (x : Made File) → of_result (file_of g.world c) ≡ Some x → x.ends ≡ Ok f → (sup : Forest) (u : Made Forest) → loads_above g.world d c (superclass_of f) ≡ Some u → u.ends ≡ Ok sup → AllMet s u.needs → (ints : Forest) (v : Made Forest) → loads_above g.world d c (superinterfaces_of f) ≡ Some v → v.ends ≡ Ok ints → AllMet s v.needs → (m : Made (Unit {0})) → need (Entry c.loader c.name c.loader ∷ []) ≡ Some m → (t : Need) → IsNext s m.needs t → MayAdd s t → May g s (step_for t)
+    last : (f : File) (x : Made File) → of_result (read_class g.world c) ≡ Some x → x.ends ≡ Ok f → (sup : Forest) (u : Made Forest) → loads_above g.world d c (superclass_of f) ≡ Some u → u.ends ≡ Ok sup → AllMet s u.needs → (ints : Forest) (v : Made Forest) → loads_above g.world d c (superinterfaces_of f) ≡ Some v → v.ends ≡ Ok ints → AllMet s v.needs → (m : Made (Unit {0})) → need (Entry c.loader c.name c.loader ∷ []) ≡ Some m → (t : Need) → IsNext s m.needs t → MayAdd s t → May g s (step_for t)
     last f x hx ex sup u hu eu mu ints v hv ev mv m h t next may =
         let w = g.world in
-        let hf = (result_ok (file_of w c) x f hx ex).0 in
+        let hf = (result_ok (read_class w c) x f hx ex).0 in
         let good : Good w (suc n) c = (f, hf, all_both (FitsAt w c (Good w n)) (superclass_of f) (superinterfaces_of f) (above_good w d (Good w n) y c (superclass_of f) u sup hu eu) (above_good w d (Good w n) y c (superinterfaces_of f) v ints hv ev)) in
         let stand = all_both (Stands w s c) (superclass_of f) (superinterfaces_of f) (above_met w s d r c (superclass_of f) u sup hu eu mu) (above_met w s d r c (superinterfaces_of f) v ints hv ev mv) in
         elim (subst (λ (q : List Need). IsNext s q t) (ap (λ (q : Made (Unit {0})). q.needs) (sym (some_same _ m h))) next) [
@@ -203,7 +203,7 @@ equal_is : (name : Name) (a b : ℕ) (t : Bool) → IsEquality (if t then Equal 
 equal_is name a b true = tt
 equal_is name a b false = tt
 
-pub equals_are : (names : List Name) (a b : ℕ) → AllByRecursion IsEquality (map (λ (n : Name). if nat_le a b then Equal n a b else Equal n b a) names)
+pub equals_are : (names : List Name) (a b : ℕ) → AllByRecursion IsEquality (map (λ (n : Name). equal_between n a b) names)
 equals_are [] a b = tt
 equals_are (n ∷ names) a b = (equal_is n a b (nat_le a b), equals_are names a b)
 
@@ -347,7 +347,7 @@ on_next g s h (Link loader name) k m n closed rec lin e next may =
       | inr x ↦ absurd (x.1)
     ]
 
-pub next_may : (g : Setting) (s : State) (q : Request) (p : Plan) (n : Need) → IsClosed g.world s → IsPlan g.world q p → IsNext s (needs_of p) n → MayAdd s n → May g s (step_for n)
+pub next_may : (g : Setting) (s : State) (q : Request) (p : Plan) (n : Need) → IsClosed g.world s → IsPlan g.world q p → IsNext s (plan_needs p) n → MayAdd s n → May g s (step_for n)
 next_may g s q p n closed is next may =
     let w = g.world in
     let h = is.height in
@@ -359,13 +359,13 @@ next_may g s q p n closed is next may =
       | Ok k ↦ option_map (plan_after m k) (go_on_with g.world is.height q k)
     ]) ≡ Some p → May g s (step_for n)
     at m l (Err x) e r =
-        elim (next_split s m.needs [] n (subst (λ (y : Plan). IsNext s (needs_of y) n) (sym (some_same _ p r)) next)) [
+        elim (next_split s m.needs [] n (subst (λ (y : Plan). IsNext s (plan_needs y) n) (sym (some_same _ p r)) next)) [
           | inl y ↦ whole_load_makes g s (λ x. Unit {0}) is.height ClassNotFound (loaded_by q).loader (loaded_by q).name m l n tt y may
           | inr y ↦ absurd (y.1)
         ]
     at m l (Ok k) e r =
         let on = map_some (plan_after m k) (go_on_with g.world is.height q k) p r in
-        elim (next_split s m.needs on.0.needs n (subst (λ (y : Plan). IsNext s (needs_of y) n) (sym on.2) next)) [
+        elim (next_split s m.needs on.0.needs n (subst (λ (y : Plan). IsNext s (plan_needs y) n) (sym on.2) next)) [
           | inl y ↦ whole_load_makes g s (λ x. Unit {0}) is.height ClassNotFound (loaded_by q).loader (loaded_by q).name m l n tt y may
           | inr y ↦
               let i = load_ok g.world (derive g.world is.height []) ClassNotFound (loaded_by q).loader (loaded_by q).name m k l e in

@@ -10,7 +10,7 @@ use Rattle.cl_model.specs.Classes.{class, Error, ClassNotFound, NoClassDef, name
 use Rattle.cl_model.specs.Lineages.{Kin}
 use Rattle.cl_model.specs.States.{State, Need, Verdict, Wrong, Said, answer_to, AllMet}
 use Rattle.cl_model.specs.Works.{Made}
-use Rattle.cl_model.specs.Plans.{derive, load, Request, Resolve, loaded_by, go_on_with, Plan, ending, plan_after, plan_from, plan, needs_of}
+use Rattle.cl_model.specs.Plans.{derive, load, Request, Resolve, loaded_by, go_on_with, Plan, ending, plan_after, plan_from, plan, plan_needs}
 use Rattle.cl_model.specs.Machine.{Setting, HasLineage, IsPlan, Answers, AnswersPlan, AnswersReference, IsSound, Scheduled}
 use Rattle.cl_model.proofs.Bind.{some_same}
 use Rattle.cl_model.proofs.Derived.{load_ok}
@@ -69,7 +69,7 @@ answers_after s [] more ends v m h = h
 answers_after s (n ∷ own) more ends v m (inl h) = answers_after s own more ends v m.1 h.1
 answers_after s (n ∷ own) more ends v m (inr h) = absurd (h.0.unmet m.0)
 
-pub reference_answered : (g : Setting) (s : State) (loader : ℕ) (name : Name) (i : ℕ) (p : Plan) (d : Class) (v : Verdict) → IsPlan g.world (Resolve loader name i) p → p.reached ≡ Some d → AllMet s p.own → Answers s (needs_of p) p.ends v → AnswersReference g s d i v
+pub reference_answered : (g : Setting) (s : State) (loader : ℕ) (name : Name) (i : ℕ) (p : Plan) (d : Class) (v : Verdict) → IsPlan g.world (Resolve loader name i) p → p.reached ≡ Some d → AllMet s p.own → Answers s (plan_needs p) p.ends v → AnswersReference g s d i v
 reference_answered g s loader name i p d v is r met h =
     let x = reached g.world is.height (Resolve loader name i) p d is.planned r in
     let after = answers_after s p.own p.more p.ends v met h in
@@ -94,7 +94,7 @@ reference_is_plan g s loader name i p d v is r met a =
 pub plan_is_reference : (g : Setting) (s : State) (loader : ℕ) (name : Name) (i : ℕ) (p : Plan) (d : Class) (v : Verdict) → IsPlan g.world (Resolve loader name i) p → p.reached ≡ Some d → AllMet s p.own → AnswersPlan g s (Resolve loader name i) v → AnswersReference g s d i v
 plan_is_reference g s loader name i p d v is r met a =
     let same : a.plan ≡ p = one_plan g.world (Resolve loader name i) a.plan p a.planned is in
-    reference_answered g s loader name i p d v is r met (subst (λ (y : Plan). Answers s (needs_of y) y.ends v) same a.answered)
+    reference_answered g s loader name i p d v is r met (subst (λ (y : Plan). Answers s (plan_needs y) y.ends v) same a.answered)
 
 -- ---- equal requests and equal references are answered alike
 
@@ -116,7 +116,7 @@ said_reference g s q a loader name i p d v sound x is planned r met h =
     let request : c.scheduled.request ≡ Resolve loader name i = ap (λ (z : Scheduled). z.request) one ∙ is in
     let a = c.may_answer.answers in
     let same : a.plan ≡ p = one_plan g.world (Resolve loader name i) a.plan p (subst (λ (y : Request). IsPlan g.world y a.plan) request a.planned) planned in
-    reference_answered g s loader name i p d v planned r met (subst (λ (y : Plan). Answers s (needs_of y) y.ends v) same a.answered)
+    reference_answered g s loader name i p d v planned r met (subst (λ (y : Plan). Answers s (plan_needs y) y.ends v) same a.answered)
 
 -- ---- what has a file is spelled by its own bytes
 
@@ -130,8 +130,8 @@ named_ok c (Ok x) f h =
     let both = if_ok (same_name x.name c.name) x f (NoClassDef c) h in
     (ap (λ (y : File). Ok y) both.1, subst (λ (y : File). y.name ≡ c.name) both.1 (names_equal x.name c.name both.0))
 
-pub file_is_spelt : (w : World) (c : Class) (f : File) → HasFile w c f → (bytes : List ℕ) × (content_at w.content c.loader c.name ≡ Some bytes) × (w.read bytes ≡ Ok f) × (f.name ≡ c.name)
-file_is_spelt w c f h = at (bytes_of w c) refl h
+pub file_is_read : (w : World) (c : Class) (f : File) → HasFile w c f → (bytes : List ℕ) × (content_at w.content c.loader c.name ≡ Some bytes) × (w.read bytes ≡ Ok f) × (f.name ≡ c.name)
+file_is_read w c f h = at (bytes_of w c) refl h
   where
     at : (o : Option (List ℕ)) → bytes_of w c ≡ o → read_found w c o ≡ Ok f → (bytes : List ℕ) × (content_at w.content c.loader c.name ≡ Some bytes) × (w.read bytes ≡ Ok f) × (f.name ≡ c.name)
     at None e k = absurd cc

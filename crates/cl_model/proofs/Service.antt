@@ -5,7 +5,7 @@ use Rattle.cl_classfile.specs.Files.{Name}
 use Rattle.cl_model.specs.Homes.{World}
 use Rattle.cl_model.specs.Classes.{class}
 use Rattle.cl_model.specs.States.{State, Need, Entry, Equal, Verdict, Answer, recorded, Met, MayAdd, IsNext, added}
-use Rattle.cl_model.specs.Plans.{Request, Load, Resolve, Plan, needs_of}
+use Rattle.cl_model.specs.Plans.{Request, Load, Resolve, Plan, plan_needs}
 use Rattle.cl_model.specs.Machine.{Setting, Scheduled, Step, Define, Post, IsPlan, Answers, AnswersPlan, MaySay, after, state_after, step_for, Run, May}
 use Rattle.cl_model.specs.Service.{Want, ToStand, to_stand, IsFirst, HasWants, IsNextNeed, IsNextStep, IsOver, ComesTo, MayEnd, Serves, IsBegun, PassesRounds, AllServed}
 use Rattle.cl_model.proofs.Runs.{joined_self, joined_link, last_linked, record_found}
@@ -55,7 +55,7 @@ answers_over s (n ∷ ns) ends v (inl h) = elim (answers_over s ns ends v h.1) [
 
 -- a request that wants needs alone: a load, or the resolution of a reference
 abbrev pub WantsNeeds : Request → Type 0
-WantsNeeds r = (w : World) (p : Plan) → IsPlan w r p → HasWants w r p (to_stand (needs_of p))
+WantsNeeds r = (w : World) (p : Plan) → IsPlan w r p → HasWants w r p (to_stand (plan_needs p))
 
 pub load_wants : (loader : ℕ) (name : Name) → WantsNeeds (Load loader name)
 load_wants loader name w p h = record { planned = h; past = to_stand p.more; follows = refl; whole = to_stand_both p.own p.more }
@@ -67,18 +67,18 @@ resolve_wants loader name i w p h = record { planned = h; past = to_stand p.more
 pub need_next : (g : Setting) (s : State) (r : Request) (n : Need) → WantsNeeds r → IsNextNeed g.world s r n → MayAdd s n → IsNextStep g s r (step_for n)
 need_next g s r n needs next may = record {
   plan = next.plan;
-  wants = to_stand (needs_of next.plan);
+  wants = to_stand (plan_needs next.plan);
   wanted = needs g.world next.plan next.planned;
-  next = inl (ToStand n, next_is_first s (needs_of next.plan) n next.next, may, refl);
+  next = inl (ToStand n, next_is_first s (plan_needs next.plan) n next.next, may, refl);
 }
 
 -- what may be said is what the service comes to
 pub said_comes : (g : Setting) (s : State) (r : Request) (v : Verdict) → WantsNeeds r → MaySay g s r v → ComesTo g s r v
 said_comes g s r v needs may = record {
   plan = may.answers.plan;
-  wants = to_stand (needs_of may.answers.plan);
+  wants = to_stand (plan_needs may.answers.plan);
   wanted = needs g.world may.answers.plan may.answers.planned;
-  over = answers_over s (needs_of may.answers.plan) may.answers.plan.ends v may.answers.answered;
+  over = answers_over s (plan_needs may.answers.plan) may.answers.plan.ends v may.answers.answered;
   may_say = may;
 }
 

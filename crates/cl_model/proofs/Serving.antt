@@ -5,7 +5,7 @@ use Rattle.cl_classfile.specs.Files.{Name}
 use Rattle.cl_model.specs.declared.class.Class.{Class}
 use Rattle.cl_model.specs.Classes.{class}
 use Rattle.cl_model.specs.States.{State, Need, Entry, Equal, BadEntry, IsClass, Linkage, Said, start, Answer}
-use Rattle.cl_model.specs.Plans.{Request, Load, Resolve, Link, Plan, plan, needs_of}
+use Rattle.cl_model.specs.Plans.{Request, Load, Resolve, Link, Plan, plan, plan_needs}
 use Rattle.cl_model.specs.Machine.{Setting, Step, Define, Initiate, Answers, state_after, Post}
 use Rattle.cl_model.specs.Steps.{IsOfService}
 use Rattle.cl_model.specs.Service.{Want, ToStand, ToPrepare, serving, Settles, IsNextStep, MayEnd}
@@ -52,7 +52,7 @@ not_class e = absurd cc
 not_refused : {n : Need} → BadEntry ≡ Linkage n → ⊥
 not_refused e = absurd cc
 
-not_said : Answers (state_after start (Define the_root ∷ [])) (needs_of plan_of_root) plan_of_root.ends BadEntry → ⊥
+not_said : Answers (state_after start (Define the_root ∷ [])) (plan_needs plan_of_root) plan_of_root.ends BadEntry → ⊥
 not_said (inl (m, e)) = not_class e
 not_said (inr (r, e)) = not_refused e
 
@@ -60,5 +60,5 @@ not_said (inr (r, e)) = not_refused e
 pub root_not_bad : MayEnd (over service) (state_after start (Define the_root ∷ [])) (load_of boot "java/lang/Object") (Said BadEntry) → ⊥
 root_not_bad h =
     not_said
-    (subst (λ (p : Plan). Answers (state_after start (Define the_root ∷ [])) (needs_of p) p.ends BadEntry)
+    (subst (λ (p : Plan). Answers (state_after start (Define the_root ∷ [])) (plan_needs p) p.ends BadEntry)
     (one_plan service (load_of boot "java/lang/Object") h.may_say.answers.plan plan_of_root h.may_say.answers.planned (record { height = 3; planned = refl })) h.may_say.answers.answered)

@@ -10,7 +10,7 @@ use Rattle.cl_model.specs.declared.class.Class.{Class}
 use Rattle.cl_model.specs.Classes.{same_class, Above, AllAtHome, supers}
 use Rattle.cl_model.specs.Preparation.{constraints_of}
 use Rattle.cl_model.specs.States.{State, start, Need, Verdict, Answer, Said, OutOfMemory, SourceFault, Settled, Posted, settled_to, answer_to, Violated, AllMet}
-use Rattle.cl_model.specs.Plans.{Request, Load, Resolve, Link, Plan, needs_of, ending}
+use Rattle.cl_model.specs.Plans.{Request, Load, Resolve, Link, Plan, plan_needs, ending}
 use Rattle.cl_model.specs.Works.{Made}
 use Rattle.cl_model.specs.Machine.{Setting, Step, Define, Initiate, Constrain, Settle, Prepare, Post, NextRound, Stray, May, after, state_after, Run, Answers, AnswersPlan, AnswersReference, MayAnswer, RestsOn, IsClosed, IsPreparable, IsSettled, IsAnswered, IsSound}
 use Rattle.cl_model.proofs.Runs.{IsLater, after_later, run_later, met_later, refused_later, answers_later, keeps, start_unviolated, stays_unviolated, one_answer, or_map, contains_one}
@@ -79,7 +79,7 @@ posted_stay s es q a h = (run_keeps s es).answers q a h
 -- ---- answers of requests and references
 
 pub plan_answer_later : (g : Setting) (s t : State) → IsLater s t → (Violated t → ⊥) → (q : Request) (v : Verdict) → AnswersPlan g s q v → AnswersPlan g t q v
-plan_answer_later g s t l u q v h = record { plan = h.plan; planned = h.planned; answered = answers_later s t l u (needs_of h.plan) h.plan.ends v h.answered }
+plan_answer_later g s t l u q v h = record { plan = h.plan; planned = h.planned; answered = answers_later s t l u (plan_needs h.plan) h.plan.ends v h.answered }
 
 pub reference_answer_later : (g : Setting) (s t : State) → IsLater s t → (Violated t → ⊥) → (d : Class) (i : ℕ) (v : Verdict) → AnswersReference g s d i v → AnswersReference g t d i v
 reference_answer_later g s t l u d i v h = record { made = h.made; resolved = h.resolved; answered = answers_later s t l u h.made.needs _ v h.answered }
@@ -93,7 +93,7 @@ reference_answer_stays g s es d i v u run h = reference_answer_later g s (state_
 pub one_plan_answer : (g : Setting) (s : State) (q : Request) (v u : Verdict) → AnswersPlan g s q v → AnswersPlan g s q u → v ≡ u
 one_plan_answer g s q v u a b =
     let same : a.plan ≡ b.plan = one_plan g.world q a.plan b.plan a.planned b.planned in
-    one_answer s (needs_of b.plan) b.plan.ends v u (subst (λ (p : Plan). Answers s (needs_of p) p.ends v) same a.answered) b.answered
+    one_answer s (plan_needs b.plan) b.plan.ends v u (subst (λ (p : Plan). Answers s (plan_needs p) p.ends v) same a.answered) b.answered
 
 pub one_reference_answer : (g : Setting) (s : State) (d : Class) (i : ℕ) (v u : Verdict) → AnswersReference g s d i v → AnswersReference g s d i u → v ≡ u
 one_reference_answer g s d i v u a b =
@@ -108,7 +108,7 @@ met_before s t l u [] more ends v h k = tt
 met_before s t l u (n ∷ own) more ends v (inl h) k = (h.0, met_before s t l u own more ends v h.1 k.1)
 met_before s t l u (n ∷ own) more ends v (inr h) k = absurd ((refused_later s t l u n h.0).unmet k.0)
 
-rests_later : (s t : State) → Keeps s t → (Violated t → ⊥) → (q : Request) (p : Plan) (v : Verdict) → Answers s (needs_of p) p.ends v → RestsOn s q p v → RestsOn t q p v
+rests_later : (s t : State) → Keeps s t → (Violated t → ⊥) → (q : Request) (p : Plan) (v : Verdict) → Answers s (plan_needs p) p.ends v → RestsOn s q p v → RestsOn t q p v
 rests_later s t k u (Load loader name) p v a h = tt
 rests_later s t k u (Resolve loader name i) p v a h = λ d past x. k.settled d i v (h d (past.0, met_before s t k.later u p.own p.more p.ends v a past.1) x)
 rests_later s t k u (Link loader name) p v a h = λ c e. k.prepared c (h c e)

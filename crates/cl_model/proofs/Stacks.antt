@@ -8,7 +8,7 @@ use Rattle.cl_model.specs.Homes.{World, home}
 use Rattle.cl_model.specs.declared.class.Class.{Class}
 use Rattle.cl_model.specs.Classes.{same_class, is_among, Above, AsSuperclass, AsSuperinterface, superclass_of, superinterfaces_of, supers}
 use Rattle.cl_model.specs.States.{State, Need, entry_for, Linkage, Keeps, AllMet, Refused, recorded}
-use Rattle.cl_model.specs.Plans.{Request, needs_of}
+use Rattle.cl_model.specs.Plans.{Request, plan_needs}
 use Rattle.cl_model.specs.Machine.{Setting, Step, state_after, AnswersPlan}
 use Rattle.cl_model.specs.Service.{IsNextNeed}
 use Rattle.cl_model.proofs.Bind.{some_same}
@@ -64,7 +64,7 @@ kept_stays s es (x ∷ xs) h = (still_kept s es x.class.loader x.accepted h.0, k
 -- ---- what is refused
 
 pub refused_answers : (g : Setting) (s : State) (r : Request) (n : Need) → IsNextNeed g.world s r n → Refused s n → AnswersPlan g s r (Linkage n)
-refused_answers g s r n h k = record { plan = h.plan; planned = h.planned; answered = refused_answer s (needs_of h.plan) h.plan.ends n h.next k }
+refused_answers g s r n h k = record { plan = h.plan; planned = h.planned; answered = refused_answer s (plan_needs h.plan) h.plan.ends n h.next k }
 
 -- ---- the path, as frames
 

@@ -11,9 +11,9 @@ use Rattle.cl_model.specs.Classes.{class, Error, ClassNotFound}
 use Rattle.cl_model.specs.Lineages.{Kin}
 use Rattle.cl_model.specs.States.{State, start, Record, Posted, Need, Entry, Equal, Verdict, IsClass, IsArrayOf, IsArrayOfBase, IsField, IsMethod, IsLinked, BadEntry, ArrayMember, Wrong, Linkage, IsSettling, Answer, Said, OutOfMemory, SourceFault, recorded, settled_to, answer_to, AllMet, Clashes, added}
 use Rattle.cl_model.specs.Works.{Made}
-use Rattle.cl_model.specs.Plans.{derive, load, Request, Load, Resolve, Link, loaded_by, go_on_with, Plan, ending, plan_after, plan_from, needs_of}
+use Rattle.cl_model.specs.Plans.{derive, load, Request, Load, Resolve, Link, loaded_by, go_on_with, Plan, ending, plan_after, plan_from, plan_needs}
 use Rattle.cl_model.specs.Machine.{Setting, Scheduled, Step, Define, Initiate, Constrain, Settle, Prepare, Post, NextRound, Stray, IsPlan, Answers, MaySay, MayAnswer, May, after, state_after, Run, IsClosed}
-use Rattle.cl_model.specs.Tables.{Records, Bears, BearsAnswer, Allows, Orderly, IsTrusted, EachNew, NoneRecordedTwice, NoneAnsweredTwice, IsConsistent, Stands}
+use Rattle.cl_model.specs.Tables.{Records, Bears, BearsAnswer, Allows, Orderly, AreTrusted, EachNew, NoneRecordedTwice, NoneAnsweredTwice, IsConsistent, Stands}
 use Rattle.cl_model.proofs.Bind.{some_same, ok_same, ok_not_err, step_is}
 use Rattle.cl_model.proofs.Derived.{load_ok}
 use Rattle.cl_model.proofs.Runs.{IsLater, after_later, run_later, recorded_added, record_found, adds, violated_as, start_unviolated}
@@ -81,7 +81,7 @@ consistent_run : (script : List Scheduled) (rounds : ℕ) (s : State) (es : List
 consistent_run script rounds s [] trusted run = trusted
 consistent_run script rounds s (e ∷ es) trusted run = consistent_run script rounds (after s e) es (consistent_after script rounds s e run.0 trusted) run.1
 
-pub trusted_is_consistent : (script : List Scheduled) (rounds : ℕ) (es : List Step) → IsTrusted script rounds es → IsConsistent (state_after start es)
+pub trusted_is_consistent : (script : List Scheduled) (rounds : ℕ) (es : List Step) → AreTrusted script rounds es → IsConsistent (state_after start es)
 trusted_is_consistent script rounds es run = consistent_run script rounds start es start_consistent run
 
 -- ---- plans and what is recorded
@@ -143,8 +143,8 @@ ends_for w q p f goes is =
 
 -- what is answered for a class is recorded, and that class
 pub answered_records : (w : World) (s : State) (q : Request) (p : Plan) (f : Class → Verdict) (v : Verdict) (c : Class) → ((n : Need) → Linkage n ≡ f c → ⊥) → ((e : Error) → Wrong e ≡ f c → ⊥) → ((d : Class) → f d ≡ f c → d ≡ c) → IsPlan w q p → EndsFor f p
-    → Answers s (needs_of p) p.ends v → v ≡ f c → Records s (loaded_by q).loader (loaded_by q).name c
-answered_records w s q p f v c refused wrong one is ends h e = elim (end_or_refused s (needs_of p) p.ends v h) [
+    → Answers s (plan_needs p) p.ends v → v ≡ f c → Records s (loaded_by q).loader (loaded_by q).name c
+answered_records w s q p f v c refused wrong one is ends h e = elim (end_or_refused s (plan_needs p) p.ends v h) [
   | inr k ↦ absurd (refused k.0 (sym k.1 ∙ e))
   | inl k ↦ elim ends [
     | inr x ↦ absurd (wrong x.0 (sym x.1 ∙ sym k.0 ∙ e))
@@ -227,7 +227,7 @@ orderly_from : (g : Setting) (s : State) (es : List Step) → IsClosed g.world s
 orderly_from g s [] closed run = tt
 orderly_from g s (e ∷ es) closed run = (may_allows g s e closed run.0, orderly_from g (after s e) es (closed_after g s e run.0 closed) run.1)
 
-pub runs_are_trusted : (g : Setting) (es : List Step) → Run g start es → IsTrusted g.script g.rounds es
+pub runs_are_trusted : (g : Setting) (es : List Step) → Run g start es → AreTrusted g.script g.rounds es
 runs_are_trusted g es run = orderly_from g start es (start_closed g.world) run
 
 -- ---- histories in parts
@@ -236,14 +236,14 @@ orderly_parts : (script : List Scheduled) (rounds : ℕ) (s : State) (es fs : Li
 orderly_parts script rounds s [] fs h = (tt, h)
 orderly_parts script rounds s (e ∷ es) fs h = let rest = orderly_parts script rounds (after s e) es fs h.1 in ((h.0, rest.0), rest.1)
 
-pub trusted_parts : (script : List Scheduled) (rounds : ℕ) (es fs : List Step) → IsTrusted script rounds (es ++ fs) → IsTrusted script rounds es × Orderly script rounds (state_after start es) fs
+pub trusted_parts : (script : List Scheduled) (rounds : ℕ) (es fs : List Step) → AreTrusted script rounds (es ++ fs) → AreTrusted script rounds es × Orderly script rounds (state_after start es) fs
 trusted_parts script rounds es fs h = orderly_parts script rounds start es fs h
 
 orderly_then : (script : List Scheduled) (rounds : ℕ) (s : State) (es : List Step) (e : Step) → Orderly script rounds s es → Allows script rounds (state_after s es) e → Orderly script rounds s (es ++ e ∷ [])
 orderly_then script rounds s [] e h may = (may, tt)
 orderly_then script rounds s (f ∷ es) e h may = (h.0, orderly_then script rounds (after s f) es e h.1 may)
 
-pub trusted_goes_on : (script : List Scheduled) (rounds : ℕ) (es : List Step) (e : Step) → IsTrusted script rounds es → Allows script rounds (state_after start es) e → IsTrusted script rounds (es ++ e ∷ [])
+pub trusted_goes_on : (script : List Scheduled) (rounds : ℕ) (es : List Step) (e : Step) → AreTrusted script rounds es → Allows script rounds (state_after start es) e → AreTrusted script rounds (es ++ e ∷ [])
 trusted_goes_on script rounds es e h may = orderly_then script rounds start es e h may
 
 -- ---- a class is defined once
@@ -263,7 +263,7 @@ stands_defined script rounds s (e ∷ es) c run (inl x) =
     (run_later (after s e) es).records c.loader c.loader c.name (subst (λ (f : Step). recorded (after s f).records c.loader c.name ≡ Some c.loader) (sym x) (defined s c may.fresh))
 stands_defined script rounds s (e ∷ es) c run (inr x) = stands_defined script rounds (after s e) es c run.1 x
 
-pub defined_once : (script : List Scheduled) (rounds : ℕ) (es fs : List Step) (c : Class) → IsTrusted script rounds (es ++ Define c ∷ fs) → Stands es (Define c) ⊎ Stands fs (Define c) → ⊥
+pub defined_once : (script : List Scheduled) (rounds : ℕ) (es fs : List Step) (c : Class) → AreTrusted script rounds (es ++ Define c ∷ fs) → Stands es (Define c) ⊎ Stands fs (Define c) → ⊥
 defined_once script rounds es fs c run (inl x) =
     let parts = trusted_parts script rounds es (Define c ∷ fs) run in
     nothing (sym parts.1.0.fresh ∙ stands_defined script rounds start es c parts.0 x)
@@ -299,7 +299,7 @@ stands_posted script rounds s (e ∷ es) q b run (inl x) =
     posted_stay (after s e) es q b (subst (λ (f : Step). answer_to (after s f).answers q ≡ Some b) (sym x) (answer_found s.answers q b may.unposted))
 stands_posted script rounds s (e ∷ es) q b run (inr x) = stands_posted script rounds (after s e) es q b run.1 x
 
-pub answered_once : (script : List Scheduled) (rounds : ℕ) (es fs : List Step) (q : ℕ) (a b : Answer) → IsTrusted script rounds (es ++ Post q a ∷ fs) → Stands es (Post q b) ⊎ Stands fs (Post q b) → ⊥
+pub answered_once : (script : List Scheduled) (rounds : ℕ) (es fs : List Step) (q : ℕ) (a b : Answer) → AreTrusted script rounds (es ++ Post q a ∷ fs) → Stands es (Post q b) ⊎ Stands fs (Post q b) → ⊥
 answered_once script rounds es fs q a b run (inl x) =
     let parts = trusted_parts script rounds es (Post q a ∷ fs) run in
     no_answer (sym parts.1.0.unposted ∙ stands_posted script rounds start es q b parts.0 x)
@@ -310,20 +310,20 @@ answered_once script rounds es fs q a b run (inr x) =
 -- ---- what was told
 
 -- the tables bore an answer where it was posted
-told_there : (script : List Scheduled) (rounds : ℕ) (es fs : List Step) (q : ℕ) (a : Answer) (r : Scheduled) → IsTrusted script rounds (es ++ Post q a ∷ fs) → slice_get script q ≡ Some r → BearsAnswer (state_after start es) r.request a × (r.round ≡ (state_after start es).round)
+told_there : (script : List Scheduled) (rounds : ℕ) (es fs : List Step) (q : ℕ) (a : Answer) (r : Scheduled) → AreTrusted script rounds (es ++ Post q a ∷ fs) → slice_get script q ≡ Some r → BearsAnswer (state_after start es) r.request a × (r.round ≡ (state_after start es).round)
 told_there script rounds es fs q a r trusted asked =
     let may = (trusted_parts script rounds es (Post q a ∷ fs) trusted).1.0 in
     let same : may.scheduled ≡ r = some_same may.scheduled r (sym may.asked ∙ asked) in
     (subst (λ (x : Scheduled). BearsAnswer (state_after start es) x.request a) same may.fits, ap (λ (x : Scheduled). x.round) (sym same) ∙ may.in_round)
 
-pub told_in_round : (script : List Scheduled) (rounds : ℕ) (es fs : List Step) (q : ℕ) (a : Answer) (r : Scheduled) → IsTrusted script rounds (es ++ Post q a ∷ fs) → slice_get script q ≡ Some r → r.round ≡ (state_after start es).round
+pub told_in_round : (script : List Scheduled) (rounds : ℕ) (es fs : List Step) (q : ℕ) (a : Answer) (r : Scheduled) → AreTrusted script rounds (es ++ Post q a ∷ fs) → slice_get script q ≡ Some r → r.round ≡ (state_after start es).round
 told_in_round script rounds es fs q a r trusted asked = (told_there script rounds es fs q a r trusted asked).1
 
-pub told_is_recorded : (script : List Scheduled) (rounds : ℕ) (es fs : List Step) (q : ℕ) (r : Scheduled) (loader : ℕ) (name : Name) (c : Class) → IsTrusted script rounds (es ++ Post q (Said (IsClass c)) ∷ fs) → slice_get script q ≡ Some r → r.request ≡ Load loader name → Records (state_after start es) loader name c
+pub told_is_recorded : (script : List Scheduled) (rounds : ℕ) (es fs : List Step) (q : ℕ) (r : Scheduled) (loader : ℕ) (name : Name) (c : Class) → AreTrusted script rounds (es ++ Post q (Said (IsClass c)) ∷ fs) → slice_get script q ≡ Some r → r.request ≡ Load loader name → Records (state_after start es) loader name c
 told_is_recorded script rounds es fs q r loader name c trusted asked is =
     subst (λ (x : Request). BearsAnswer (state_after start es) x (Said (IsClass c))) is (told_there script rounds es fs q (Said (IsClass c)) r trusted asked).0 c refl
 
-pub told_is_settled : (script : List Scheduled) (rounds : ℕ) (es fs : List Step) (q : ℕ) (r : Scheduled) (loader : ℕ) (name : Name) (i : ℕ) (d : Class) (v : Verdict) → IsTrusted script rounds (es ++ Post q (Said v) ∷ fs) → slice_get script q ≡ Some r → r.request ≡ Resolve loader name i
+pub told_is_settled : (script : List Scheduled) (rounds : ℕ) (es fs : List Step) (q : ℕ) (r : Scheduled) (loader : ℕ) (name : Name) (i : ℕ) (d : Class) (v : Verdict) → AreTrusted script rounds (es ++ Post q (Said v) ∷ fs) → slice_get script q ≡ Some r → r.request ≡ Resolve loader name i
     → Records (state_after start es) loader name d → IsSettling v → settled_to (state_after start es).settled d i ≡ Some v
 told_is_settled script rounds es fs q r loader name i d v trusted asked is rec settling =
     elim (subst (λ (x : Request). BearsAnswer (state_after start es) x (Said v)) is (told_there script rounds es fs q (Said v) r trusted asked).0 d rec) [
@@ -331,7 +331,7 @@ told_is_settled script rounds es fs q r loader name i d v trusted asked is rec s
       | inr k ↦ elim k [ inl e ↦ absurd (settling.is_class_member e) | inr h ↦ h ]
     ]
 
-pub told_is_prepared : (script : List Scheduled) (rounds : ℕ) (es fs : List Step) (q : ℕ) (r : Scheduled) (loader : ℕ) (name : Name) (c : Class) → IsTrusted script rounds (es ++ Post q (Said (IsLinked c)) ∷ fs) → slice_get script q ≡ Some r → r.request ≡ Link loader name
+pub told_is_prepared : (script : List Scheduled) (rounds : ℕ) (es fs : List Step) (q : ℕ) (r : Scheduled) (loader : ℕ) (name : Name) (c : Class) → AreTrusted script rounds (es ++ Post q (Said (IsLinked c)) ∷ fs) → slice_get script q ≡ Some r → r.request ≡ Link loader name
     → Records (state_after start es) loader name c × Contains (state_after start es).prepared c
 told_is_prepared script rounds es fs q r loader name c trusted asked is =
     subst (λ (x : Request). BearsAnswer (state_after start es) x (Said (IsLinked c))) is (told_there script rounds es fs q (Said (IsLinked c)) r trusted asked).0 c refl

@@ -4,7 +4,7 @@ use Rattle.std.specs.List.{AllByRecursion}
 use Rattle.cl_classfile.specs.Files.{Name, File}
 use Rattle.cl_model.specs.Homes.{World, home}
 use Rattle.cl_model.specs.declared.class.Class.{Class}
-use Rattle.cl_model.specs.Classes.{class, Above, superclass_of, superinterfaces_of, file_of, HasFile, Fitting, FitsAt, Good}
+use Rattle.cl_model.specs.Classes.{class, Above, superclass_of, superinterfaces_of, read_class, HasFile, Fitting, FitsAt, Good}
 use Rattle.cl_model.specs.Lineages.{Forest, Bare, Tree, Kin, StandsFor, IsLineage}
 use Rattle.cl_model.specs.Works.{Work, Made, done}
 use Rattle.cl_model.specs.Plans.{loads_above, derive}
@@ -113,7 +113,7 @@ stands_same w c (Tree s f sup ints rest) Bare (x ∷ more) h k = absurd k
 stands_same w c (Tree s f sup ints rest) (Tree t g a b e) [] h k = absurd h
 stands_same w c (Tree s f sup ints rest) (Tree t g a b e) (x ∷ more) h k =
     let same : t ≡ s = class_same t s (k.0.named ∙ sym h.0.named) (value_same t.loader s.loader (home w c.loader x.name) k.0.found h.0.found) in
-    let file : g ≡ f = ok_same g f (file_of w s) (subst (λ (y : Class). HasFile w y g) same k.0.has_file) h.0.has_file in
+    let file : g ≡ f = ok_same g f (read_class w s) (subst (λ (y : Class). HasFile w y g) same k.0.has_file) h.0.has_file in
     tree_same s t f g sup a ints b rest e (sym same) (sym file)
     (stands_same w s sup a (superclass_of f) h.1 (subst (λ (y : File). StandsFor w s a (superclass_of y)) file (subst (λ (y : Class). StandsFor w y a (superclass_of g)) same k.1)))
     (stands_same w s ints b (superinterfaces_of f) h.2 (subst (λ (y : File). StandsFor w s b (superinterfaces_of y)) file (subst (λ (y : Class). StandsFor w y b (superinterfaces_of g)) same k.2)))
@@ -131,7 +131,7 @@ kin_same k l p q r u =
 
 lineage_same : (w : World) (k l : Kin) → k.class ≡ l.class → IsLineage w k → IsLineage w l → k ≡ l
 lineage_same w k l same h i =
-    let file : k.file ≡ l.file = ok_same k.file l.file (file_of w l.class) (subst (λ (y : Class). HasFile w y k.file) same h.has_file) i.has_file in
+    let file : k.file ≡ l.file = ok_same k.file l.file (read_class w l.class) (subst (λ (y : Class). HasFile w y k.file) same h.has_file) i.has_file in
     kin_same k l same file
     (stands_same w l.class k.superclass l.superclass (superclass_of l.file) (subst (λ (y : File). StandsFor w l.class k.superclass (superclass_of y)) file (subst (λ (y : Class). StandsFor w y k.superclass (superclass_of k.file)) same h.above)) i.above)
     (stands_same w l.class k.interfaces l.interfaces (superinterfaces_of l.file) (subst (λ (y : File). StandsFor w l.class k.interfaces (superinterfaces_of y)) file (subst (λ (y : Class). StandsFor w y k.interfaces (superinterfaces_of k.file)) same h.over)) i.over)

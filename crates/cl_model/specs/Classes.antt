@@ -61,8 +61,8 @@ read_found w c None = Err (NoClassDef c)
 read_found w c (Some bytes) = named c (w.read bytes)
 
 -- the file of a class, or what is wrong with its bytes (5.3.5, step 2)
-abbrev pub file_of : World → Class → Result File Error
-file_of w c = read_found w c (bytes_of w c)
+abbrev pub read_class : World → Class → Result File Error
+read_class w c = read_found w c (bytes_of w c)
 
 -- what a supertype is wanted for (5.3.5, steps 3 and 4)
 pub data Role : Type 0 where
@@ -110,7 +110,7 @@ misfit c role s f =
 
 -- a class has this file (5.3.5, step 2)
 abbrev pub HasFile : World → Class → File → Type 0
-HasFile w c f = file_of w c ≡ Ok f
+HasFile w c f = read_class w c ≡ Ok f
 
 -- a supertype of c has a home, at which P holds of it (5.3.1, 5.3.2)
 pub record AtHome (w : World) (c : Class) (P : Class → Type 0) (name : Name) : Type 0 where
@@ -153,7 +153,7 @@ WrongAt w c good fails e a =
 abbrev pub Fails : World → ℕ → Class → Error → Type 0
 Fails w zero c e = ⊥
 Fails w (suc n) c e =
-    (file_of w c ≡ Err e)
+    (read_class w c ≡ Err e)
     ⊎ ((f : File) × HasFile w c f × FirstWrong (FitsAt w c (Good w n)) (WrongAt w c (Good w n) (λ s. Fails w n s e) e) (supers f))
 
 -- a class is good at some height (5.3.5)

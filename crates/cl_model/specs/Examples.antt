@@ -12,7 +12,7 @@ use Rattle.cl_model.specs.Content.{Content, content_at}
 use Rattle.cl_model.specs.Homes.{World, Loader, ParentFirst, ChildFirst}
 use Rattle.cl_model.specs.Classes.{class, Error}
 use Rattle.cl_model.specs.States.{Need, Entry, Equal, Verdict, Wrong}
-use Rattle.cl_model.specs.Plans.{Request, Load, Resolve, Link, plan, needs_of, cost}
+use Rattle.cl_model.specs.Plans.{Request, Load, Resolve, Link, plan, plan_needs, cost}
 
 -- ---- loaders
 
@@ -266,7 +266,7 @@ ends_at w q = option_map (λ p. p.ends) (plan w enough q)
 
 -- all needs of the plan of a request (5.3 to 5.4.3)
 abbrev pub needs_at : World → Request → Option (List Need)
-needs_at w q = option_map needs_of (plan w enough q)
+needs_at w q = option_map plan_needs (plan w enough q)
 
 -- the needs that follow the load (5.4.2, 5.4.3)
 abbrev pub more_at : World → Request → Option (List Need)

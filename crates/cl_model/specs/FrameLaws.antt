@@ -4,7 +4,7 @@ use Rattle.std.specs.List.{AllByRecursion, list_any}
 use Rattle.cl_classfile.specs.Files.{Name, File}
 use Rattle.cl_model.specs.Homes.{World, home}
 use Rattle.cl_model.specs.declared.class.Class.{Class}
-use Rattle.cl_model.specs.Classes.{class, same_class, is_among, Error, ClassCircularity, file_of, Above, supers}
+use Rattle.cl_model.specs.Classes.{class, same_class, is_among, Error, ClassCircularity, read_class, Above, supers}
 use Rattle.cl_model.specs.States.{State, Need, Entry, entry_for, Verdict, Wrong, Linkage, recorded, Keeps, AllMet, IsRecorded, Refused}
 use Rattle.cl_model.specs.Plans.{Request}
 use Rattle.cl_model.specs.Machine.{Setting, Step, state_after, AnswersPlan, IsClosed}
@@ -34,7 +34,7 @@ MissingEnds =
 abbrev pub FaultyEnds : Type 0
 FaultyEnds =
     (w : World) (s : State) (r : Request) (absent : Class → Error) (xs : List Frame) (at_loader place : ℕ) (at_name : Name) (e : Error) → IsClosed w s → Under w s r absent xs at_loader at_name
-    → home w at_loader at_name ≡ Some place → is_among (path_of [] xs) (class at_name place) ≡ false → file_of w (class at_name place) ≡ Err e → EndsHere w s r (Wrong e)
+    → home w at_loader at_name ≡ Some place → is_among (path_of [] xs) (class at_name place) ≡ false → read_class w (class at_name place) ≡ Err e → EndsHere w s r (Wrong e)
 
 -- where what is looked for is being derived already, the plan ends in the circle (5.3.5, step 3)
 abbrev pub CircleEnds : Type 0

@@ -6,7 +6,7 @@ use Rattle.cl_model.specs.Homes.{World, home}
 use Rattle.cl_model.specs.declared.class.Class.{Class}
 use Rattle.cl_model.specs.Classes.{class, is_among, Error, ClassNotFound, NoClassDef, IsAtHome, Role, Above, supers, HasFile, Fitting}
 use Rattle.cl_model.specs.States.{State, Need, entry_for, Verdict, recorded, Keeps, AllMet}
-use Rattle.cl_model.specs.Plans.{CitesClass, Request, Resolve, loaded_by, Plan, needs_of}
+use Rattle.cl_model.specs.Plans.{CitesClass, Request, Resolve, loaded_by, Plan, plan_needs}
 use Rattle.cl_model.specs.Machine.{IsPlan}
 
 -- a class that is being derived, its file, and the classes that were accepted as its first direct supertypes (5.3.5, steps 3 and 4)
@@ -77,7 +77,7 @@ absent_under absent (x ∷ xs) = absent_under NoClassDef xs
 pub record EndsHere (w : World) (s : State) (r : Request) (v : Verdict) : Type 0 where
   pub plan : Plan
   pub planned : IsPlan w r plan
-  pub met : AllMet s (needs_of plan)
+  pub met : AllMet s (plan_needs plan)
   pub ends : plan.ends ≡ v
 
 -- a request resolves a reference that names a class, and the class of the reference is recorded where it asks (5.4.3.1)

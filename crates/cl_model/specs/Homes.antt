@@ -10,7 +10,8 @@ pub data Order : Type 0 where
   ParentFirst : Order
   ChildFirst : Order
 
--- names that begin with this prefix are searched at that loader alone (own choice of delegation, 5.3.2)
+-- of names that begin with this prefix the search of that loader alone is made (own choice of
+-- delegation, 5.3.2)
 pub record Import : Type 0 where
   pub prefix : Name
   pub target : ℕ

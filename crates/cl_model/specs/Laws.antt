@@ -9,11 +9,11 @@ use Rattle.cl_model.specs.Classes.{class, is_among, AllAtHome, supers, Error, Cl
 use Rattle.cl_model.specs.Lineages.{Kin, IsLineage, classes, lineage}
 use Rattle.cl_model.specs.Ancestors.{EachClassOnce, SupersFirst}
 use Rattle.cl_model.specs.Works.{Made}
-use Rattle.cl_model.specs.Plans.{derive, load, Load, Request, Plan, Resolve, Link, loaded_by, needs_of, cost}
+use Rattle.cl_model.specs.Plans.{derive, load, Load, Request, Plan, Resolve, Link, loaded_by, plan_needs, cost}
 use Rattle.cl_model.specs.States.{State, start, Entry, Equal, IsClass, Answer, settled_to, answer_to, IsFresh, Clashes, added, Need, Verdict, IsSettling, IsLinkageError, recorded, Violated, Met, AllMet, IsRecorded, IsLinked, MayAdd, Said, Wrong, IsNext}
 use Rattle.cl_model.specs.Progress.{Takes}
 use Rattle.cl_model.specs.Service.{IsNextNeed, IsNextStep, ComesTo, MayEnd, IsBegun, Serves, PassesRounds, AllServed, IsLinkedIn}
-use Rattle.cl_model.specs.Machine.{Setting, Scheduled, Step, Post, Settle, Prepare, May, state_after, Run, Answers, IsClosed, IsSound, after, AnswersPlan, AnswersReference, MaySay, IsPlan, IsPastLoad, HasLineage, IsResolution, step_for, MaySettle, MayGoOn, MayConstrain, Imposes}
+use Rattle.cl_model.specs.Machine.{Setting, Scheduled, Step, Post, Settle, Prepare, May, state_after, Run, Answers, IsClosed, IsSound, after, AnswersPlan, AnswersReference, MaySay, IsPlan, IsPastLoad, HasLineage, IsResolution, step_for, MaySettle, MayGoOn, MayConstrain, AreOfRecorded}
 use Rattle.std.specs.List.{AllByRecursion}
 use Rattle.cl_model.specs.Content.{content_at}
 use Rattle.cl_model.specs.declared.event.Event as events
@@ -238,7 +238,7 @@ abbrev pub ConstrainsInOrder : Type 0
 ConstrainsInOrder =
     (g : Setting) (s : State) (name : Name) (one other : ℕ)
     → MayConstrain g s name one other
-    ↔ ((before : List Need) × (behind : List Need) × Imposes g s (before ++ Equal name one other ∷ behind) × AllMet s before × MayAdd s (Equal name one other))
+    ↔ ((before : List Need) × (behind : List Need) × AreOfRecorded g s (before ++ Equal name one other ∷ behind) × AllMet s before × MayAdd s (Equal name one other))
 
 -- a step that may happen keeps a state sound (5.3 to 5.4.3)
 abbrev pub StepIsSound : Type 0
@@ -427,8 +427,8 @@ abbrev pub LineagePrepared : Type 0
 LineagePrepared = (g : Setting) (s : State) (k : Kin) → IsSound g s → IsLineage g.world k → Contains s.prepared k.class → AllByRecursion (λ (a : Kin). Contains s.prepared a.class) (lineage k)
 
 -- what has a file is spelled by its own loader's bytes, and the file names it (5.3.5, step 2)
-abbrev pub FileIsSpelt : Type 0
-FileIsSpelt = (w : World) (c : Class) (f : File) → HasFile w c f → (bytes : List ℕ) × (content_at w.content c.loader c.name ≡ Some bytes) × (w.read bytes ≡ Ok f) × (f.name ≡ c.name)
+abbrev pub FileIsRead : Type 0
+FileIsRead = (w : World) (c : Class) (f : File) → HasFile w c f → (bytes : List ℕ) × (content_at w.content c.loader c.name ≡ Some bytes) × (w.read bytes ≡ Ok f) × (f.name ≡ c.name)
 
 -- what a history tells, where it goes on
 abbrev pub StepsThen : Type 0
@@ -440,7 +440,7 @@ StepsSame = (given more : List (Option Answer)) (q : ℕ) → ((p : ℕ) → p �
 
 -- the first need of a plan that does not stand may be made, unless it is refused (5.3 to 5.4.3)
 abbrev pub NextMayBeMade : Type 0
-NextMayBeMade = (g : Setting) (s : State) (q : Request) (p : Plan) (n : Need) → IsClosed g.world s → IsPlan g.world q p → IsNext s (needs_of p) n → MayAdd s n → May g s (step_for n)
+NextMayBeMade = (g : Setting) (s : State) (q : Request) (p : Plan) (n : Need) → IsClosed g.world s → IsPlan g.world q p → IsNext s (plan_needs p) n → MayAdd s n → May g s (step_for n)
 
 -- the step of a need adds it (5.3, 5.3.4)
 abbrev pub StepAdds : Type 0

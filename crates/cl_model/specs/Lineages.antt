@@ -138,9 +138,21 @@ if_declared (Some m) test = test m.flags
 abbrev pub is_virtual : ℕ → Bool
 is_virtual flags = not (is_private flags) && not (is_static flags)
 
--- a class or an interface declares it neither private nor static (5.4.3.3, 5.4.5)
+-- what a file declares with a key, if it does, is offered to subtypes: neither private nor static (5.4.3.3, 5.4.5)
+abbrev pub offers : Option Member → Bool
+offers declared = if_declared declared is_virtual
+
+-- it is not abstract (5.4.3.3, step 3)
+abbrev pub implements : Option Member → Bool
+implements declared = if_declared declared (λ x. not (is_abstract x))
+
+-- it is public, and a method of instances: not static (5.4.3.4)
+abbrev pub has_public : Option Member → Bool
+has_public declared = if_declared declared (λ x. is_public x && not (is_static x))
+
+-- a class or an interface offers the method (5.4.3.3, 5.4.5)
 abbrev pub is_offered : Key → Kin → Bool
-is_offered key k = if_declared (method_of k key) is_virtual
+is_offered key k = offers (method_of k key)
 
 -- the superinterfaces that offer a method, in preorder (5.4.3.3)
 abbrev pub offering : Kin → Key → List Kin
@@ -156,7 +168,7 @@ maximally_specific k key = filter (is_maximal (offering k key)) (offering k key)
 
 -- it declares it, and it is not abstract (5.4.3.3, step 3)
 abbrev pub is_default : Key → Kin → Bool
-is_default key k = if_declared (method_of k key) (λ x. not (is_abstract x))
+is_default key k = implements (method_of k key)
 
 -- the first: 'arbitrarily chosen' is read so (own choice, 5.4.3.3)
 abbrev pub first : {A : Type 0} → List A → Option A
@@ -179,7 +191,7 @@ lookup_method k key = option_or (find (λ a. is_some (method_of a key)) (k ∷ s
 
 -- it declares a public method that is not static (5.4.3.4)
 abbrev pub is_public_instance : Key → Kin → Bool
-is_public_instance key k = if_declared (method_of k key) (λ x. is_public x && not (is_static x))
+is_public_instance key k = has_public (method_of k key)
 
 -- interface method lookup: the one superclass of an interface is `java/lang/Object` (5.4.3.4)
 abbrev pub lookup_interface_method : Kin → Key → Option Kin

@@ -8,7 +8,7 @@ use Rattle.cl_model.specs.Lineages.{Kin}
 use Rattle.cl_model.specs.Preparation.{constraints_of}
 use Rattle.cl_model.specs.States.{State, Need, Entry, Equal, entry_for, Verdict, IsLinked, Linkage, Answer, IfSaid, IsSettling, recorded, Keeps, IsRecorded, settled_to, answer_to, Met, Refused, MayAdd, Violated, AllMet, IsNext, added}
 use Rattle.cl_model.specs.Works.{Made}
-use Rattle.cl_model.specs.Plans.{Request, Load, Resolve, Link, Plan, plan, derive, resolve, needs_of, ending}
+use Rattle.cl_model.specs.Plans.{Request, Load, Resolve, Link, Plan, plan, derive, resolve, plan_needs, ending}
 
 -- a request and its round
 pub record Scheduled : Type 0 where
@@ -61,7 +61,7 @@ Answers s (n ∷ ns) ends v = (Met s n × Answers s ns ends v) ⊎ (Refused s n 
 pub record AnswersPlan (g : Setting) (s : State) (q : Request) (v : Verdict) : Type 0 where
   pub plan : Plan
   pub planned : IsPlan g.world q plan
-  pub answered : Answers s (needs_of plan) plan.ends v
+  pub answered : Answers s (plan_needs plan) plan.ends v
 
 -- a reference is answered so in a state (5.4.3)
 pub record AnswersReference (g : Setting) (s : State) (d : Class) (i : ℕ) (v : Verdict) : Type 0 where
@@ -88,15 +88,15 @@ pub record MayInitiate (g : Setting) (s : State) (name : Name) (place loader : �
   pub may_add : MayAdd s (Entry loader name place)
 
 -- a list of needs that may impose equalities belongs to a recorded class: its preparation, or a reference of it (5.3.4, 5.4.2, 5.4.3)
-abbrev pub Imposes : Setting → State → List Need → Type 0
-Imposes g s needs =
+abbrev pub AreOfRecorded : Setting → State → List Need → Type 0
+AreOfRecorded g s needs =
     ((c : Class) × IsRecorded s c × ((k : Kin) × HasLineage g.world c k × (needs ≡ constraints_of k)))
     ⊎ ((d : Class) × IsRecorded s d × ((i : ℕ) × (m : Made Verdict) × IsResolution g.world d i m × (needs ≡ m.needs)))
 
 -- an equality may be imposed: it is next in such a list (5.3.4)
 pub record MayConstrain (g : Setting) (s : State) (name : Name) (one other : ℕ) : Type 0 where
   pub needs : List Need
-  pub imposes : Imposes g s needs
+  pub imposes : AreOfRecorded g s needs
   pub next : IsNext s needs (Equal name one other)
   pub may_add : MayAdd s (Equal name one other)
 

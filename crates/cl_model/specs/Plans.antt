@@ -5,7 +5,7 @@ use Rattle.cl_classfile.specs.Files.{Name, File, same_name, element_name, letter
 use Rattle.cl_model.specs.Homes.{World, home}
 use Rattle.cl_descriptors.specs.declared.types.FieldType.{FieldType}
 use Rattle.cl_model.specs.declared.class.Class.{Class}
-use Rattle.cl_model.specs.Classes.{class, is_among, Error, ClassNotFound, NoClassDef, ClassCircularity, IncompatibleClassChange, IllegalAccess, NoSuchField, NoSuchMethod, file_of, Above, supers, superclass_of, superinterfaces_of, misfit, class_accessible}
+use Rattle.cl_model.specs.Classes.{class, is_among, Error, ClassNotFound, NoClassDef, ClassCircularity, IncompatibleClassChange, IllegalAccess, NoSuchField, NoSuchMethod, read_class, Above, supers, superclass_of, superinterfaces_of, misfit, class_accessible}
 use Rattle.cl_model.specs.Lineages.{Forest, Bare, Tree, Kin, first, lineage, field_of, method_of, member_accessible, lookup_field, lookup_method, lookup_interface_method}
 use Rattle.cl_model.specs.Preparation.{equals_of, constraints_of}
 use Rattle.cl_model.specs.States.{Need, Entry, Equal, entry_for, Verdict, IsClass, IsArrayOf, IsArrayOfBase, IsField, IsMethod, IsLinked, BadEntry, ArrayMember, Wrong}
@@ -35,7 +35,7 @@ loads_above w derived c (a ∷ others) =
 -- the derivation of a class from its bytes, of the file, what stands above, and its record (5.3.5)
 abbrev pub derive_new : World → (Class → Work Kin) → Class → Work Kin
 derive_new w derived c =
-    of_result (file_of w c)
+    of_result (read_class w c)
     >>= λ f. loads_above w derived c (superclass_of f)
     >>= λ sup. loads_above w derived c (superinterfaces_of f)
     >>= λ ints. need (entry_for c.loader c ∷ [])
@@ -195,8 +195,8 @@ abbrev pub plan : World → ℕ → Request → Option Plan
 plan w n q = option_and_then (plan_from w n q) (load w n ClassNotFound (loaded_by q).loader (loaded_by q).name)
 
 -- all needs of a plan (5.3 to 5.4.3)
-abbrev pub needs_of : Plan → List Need
-needs_of p = p.own ++ p.more
+abbrev pub plan_needs : Plan → List Need
+plan_needs p = p.own ++ p.more
 
 -- ---- cost
 
@@ -218,7 +218,7 @@ asked_at_home w a = elim (home w a.loader a.name) [
 
 -- how many supertypes a class has that has a file (5.3.5, steps 3 and 4)
 abbrev pub edges_of : World → Ask → ℕ
-edges_of w a = elim (file_of w (class a.name a.loader)) [
+edges_of w a = elim (read_class w (class a.name a.loader)) [
   | Err e ↦ 0
   | Ok f ↦ length (supers f)
 ]
@@ -241,5 +241,5 @@ abbrev pub cost : World → Plan → ℕ
 cost w p =
     3 * length (nodes_of w p)
     + sum_by (edges_of w) (homes_of w p)
-    + count_by is_equal (needs_of p)
+    + count_by is_equal (plan_needs p)
     + 7

@@ -58,9 +58,13 @@ abbrev pub class_names : Descriptor → List Name
 class_names (descriptors.Field t) = option_to_list (class_of t)
 class_names (descriptors.Method m) = classes_of m
 
--- an equality for each class that a key's descriptor names, the lesser loader first (5.3.4)
+-- that two loaders have the same class of a name, the lesser loader first (5.3.4)
+abbrev pub equal_between : Name → ℕ → ℕ → Need
+equal_between name a b = if nat_le a b then Equal name a b else Equal name b a
+
+-- an equality for each class that a key's descriptor names (5.3.4)
 abbrev pub equals_of : Key → ℕ → ℕ → List Need
-equals_of key a b = map (λ n. if nat_le a b then Equal n a b else Equal n b a) (class_names key.descriptor)
+equals_of key a b = map (λ n. equal_between n a b) (class_names key.descriptor)
 
 -- equalities with the loaders of each of these (5.4.2)
 abbrev pub equals_with : Key → ℕ → List Kin → List Need

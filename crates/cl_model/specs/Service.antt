@@ -6,7 +6,7 @@ use Rattle.cl_model.specs.declared.class.Class.{Class}
 use Rattle.cl_model.specs.Lineages.{Kin, lineage}
 use Rattle.cl_model.specs.Preparation.{constraints_of}
 use Rattle.cl_model.specs.States.{State, Need, Verdict, Answer, IfSaid, Met, AllMet, Refused, MayAdd, IsNext, StandsAfter}
-use Rattle.cl_model.specs.Plans.{Request, Load, Resolve, Link, Plan, needs_of}
+use Rattle.cl_model.specs.Plans.{Request, Load, Resolve, Link, Plan, plan_needs}
 use Rattle.cl_model.specs.Machine.{Setting, Scheduled, Step, Settle, Prepare, Post, NextRound, HasLineage, IsPlan, IsPastLoad, MaySettle, MaySay, MayGoOn, Along, after, state_after, step_for}
 
 -- ---- wants
@@ -123,7 +123,7 @@ pub record Serves (g : Setting) (q : ℕ) (r : Request) (s : State) (es : List S
 pub record IsNextNeed (w : World) (s : State) (r : Request) (need : Need) : Type 0 where
   pub plan : Plan
   pub planned : IsPlan w r plan
-  pub next : IsNext s (needs_of plan) need
+  pub next : IsNext s (plan_needs plan) need
 
 -- ---- the service of a script
 

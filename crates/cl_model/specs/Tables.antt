@@ -46,8 +46,8 @@ abbrev pub Orderly : List Scheduled → ℕ → State → List Step → Type 0
 Orderly script rounds s es = Along (Allows script rounds) s es
 
 -- the tables of a history can be trusted, whatever its source told: each step was allowed where it was made (5.3 to 5.4.3)
-abbrev pub IsTrusted : List Scheduled → ℕ → List Step → Type 0
-IsTrusted script rounds es = Orderly script rounds start es
+abbrev pub AreTrusted : List Scheduled → ℕ → List Step → Type 0
+AreTrusted script rounds es = Orderly script rounds start es
 
 -- each of these is new behind those before it
 abbrev pub EachNew : {A : Type 0} → (List A → A → Type 0) → List A → List A → Type 0

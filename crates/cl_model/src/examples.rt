@@ -2,7 +2,7 @@
 
 ghost use Rattle.std.specs.Prelude.{◌≡◌, ◌∷◌, ◌++◌, [], Some, None, Err, codes};
 ghost use Rattle.cl_model.specs.Homes.{home};
-ghost use Rattle.cl_model.specs.Classes.{file_of, ClassNotFound, NoClassDef, ClassFormat, UnsupportedVersion, ClassCircularity, IncompatibleClassChange, IllegalAccess, NoSuchField, NoSuchMethod};
+ghost use Rattle.cl_model.specs.Classes.{read_class, ClassNotFound, NoClassDef, ClassFormat, UnsupportedVersion, ClassCircularity, IncompatibleClassChange, IllegalAccess, NoSuchField, NoSuchMethod};
 ghost use Rattle.cl_model.specs.States.{State, Joined, Entry, IsClass, IsArrayOf, IsArrayOfBase, IsField, IsMethod, IsLinked, Wrong, BadEntry, ArrayMember, Linkage, Said, OutOfMemory, SourceFault, start, settled_to, answer_to, recorded, IsNext};
 ghost use Rattle.cl_model.specs.Machine.{Define, Initiate, Constrain, Settle, Prepare, Post, NextRound, Stray, May, MayDefine, MayInitiate, MayConstrain, MaySettle, MayPrepare, Run, MayPost, MayGoOn, after};
 ghost use Rattle.cl_model.specs.Lines.{line};
@@ -36,7 +36,8 @@ pub fn probe_order()
 pub fn told_bytes()
     ensures first_entry { HasBytes twice app "p/T" (7 ∷ []) }
     ensures other_loader { HasBytes twice plug "p/T" (3 ∷ []) }
-    ensures not_at_home { file_of importing (in_fifth "q/Y") ≡ Err (NoClassDef (in_fifth "q/Y")) }
+    ensures not_at_home { read_class importing (in_fifth "q/Y")
+        ≡ Err (NoClassDef (in_fifth "q/Y")) }
 {}
 
 /// The first import whose prefix begins the name decides, and never of a `java/` name; bytes that

@@ -1,4 +1,4 @@
-ghost use Rattle.cl_model.specs.Laws.{HomeOfHome, HomeIsOnRoute, HomeIsProbed, ProbedOnce, ProbesAreLoaders, GoodIsNotFailing, RunGoesOn, RecordsStay, MetStays, NeverViolated, OneAnswer, HigherDerives, AnswersStay, DerivedIsGood, RecordedIsMet, RunsAreClosed, GoodIsDerived, ErrorIsFailing, OneError, GoodGrows, FailsGrows, FailingIsDerived, ReturnIsCircular, ReturnGoesOn, CircleReturns, ReturnIsDerived, OneSubject, FailureIsNoCircle, OneDerivation, GoodIsAtHome, ComesOut, CircularReturns, CircularGoesOn, PlanExists, OnePlan, LineageExists, OneLineage, ResolutionExists, OneResolution, DerivedIsLineage, LineageIsDerived, LineageOnce, LineageHas, LineageSupersFirst, LineageRecorded, SettledStay, PreparedStay, PostedStay, RequestAnswerStays, ReferenceAnswerStays, OneRequestAnswer, OneReferenceAnswer, RunsAreSound, StepIsSound, ClashViolates, ViolationClashes, RecordedLoadStands, RecordedAnswers, UnmetIsFresh, ServiceGoesOn, ServiceIsWhole, NextStepMayHappen, BegunIsRun, OneNextStep, ComeToEnds, ServiceWithinCost, LoadNeedIsNext, ResolveNeedIsNext, SettleIsNext, LinkNeedIsNext, PrepareIsNext, LoadComes, ResolutionComes, ServicesGoOn, NoRoundLeft, CircleIsAnswered, CircularIsAnswered, PartBegins, RunThen, RunParts, StateThen, SaidAlike, SaidReference, PlanIsReference, ReferenceIsPlan, RecordedIsReached, ReachedIsRecorded, AnsweredMaySettle, ImposedMayPrepare, SaidIsSettled, LinkedIsPrepared, LineagePrepared, FileIsSpelt, StepsThen, StepsSame, NextMayBeMade, StepAdds, SameKey, FieldKey, MethodKey, ConstrainsInOrder, VerdictEnds, PassedIsRun};
+ghost use Rattle.cl_model.specs.Laws.{HomeOfHome, HomeIsOnRoute, HomeIsProbed, ProbedOnce, ProbesAreLoaders, GoodIsNotFailing, RunGoesOn, RecordsStay, MetStays, NeverViolated, OneAnswer, HigherDerives, AnswersStay, DerivedIsGood, RecordedIsMet, RunsAreClosed, GoodIsDerived, ErrorIsFailing, OneError, GoodGrows, FailsGrows, FailingIsDerived, ReturnIsCircular, ReturnGoesOn, CircleReturns, ReturnIsDerived, OneSubject, FailureIsNoCircle, OneDerivation, GoodIsAtHome, ComesOut, CircularReturns, CircularGoesOn, PlanExists, OnePlan, LineageExists, OneLineage, ResolutionExists, OneResolution, DerivedIsLineage, LineageIsDerived, LineageOnce, LineageHas, LineageSupersFirst, LineageRecorded, SettledStay, PreparedStay, PostedStay, RequestAnswerStays, ReferenceAnswerStays, OneRequestAnswer, OneReferenceAnswer, RunsAreSound, StepIsSound, ClashViolates, ViolationClashes, RecordedLoadStands, RecordedAnswers, UnmetIsFresh, ServiceGoesOn, ServiceIsWhole, NextStepMayHappen, BegunIsRun, OneNextStep, ComeToEnds, ServiceWithinCost, LoadNeedIsNext, ResolveNeedIsNext, SettleIsNext, LinkNeedIsNext, PrepareIsNext, LoadComes, ResolutionComes, ServicesGoOn, NoRoundLeft, CircleIsAnswered, CircularIsAnswered, PartBegins, RunThen, RunParts, StateThen, SaidAlike, SaidReference, PlanIsReference, ReferenceIsPlan, RecordedIsReached, ReachedIsRecorded, AnsweredMaySettle, ImposedMayPrepare, SaidIsSettled, LinkedIsPrepared, LineagePrepared, FileIsRead, StepsThen, StepsSame, NextMayBeMade, StepAdds, SameKey, FieldKey, MethodKey, ConstrainsInOrder, VerdictEnds, PassedIsRun};
 
 /// A home is its own home.
 pub fn home_of_home()
@@ -405,9 +405,9 @@ pub fn said_is_settled()
     ensures lineage { LineagePrepared }
 {}
 
-/// What has a file is spelled by its own bytes, and the file names it.
-pub fn file_is_spelt()
-    ensures { FileIsSpelt }
+/// What has a file is read from its own bytes, and the file names it.
+pub fn file_is_read()
+    ensures { FileIsRead }
 {}
 
 /// What a history tells, where it goes on.

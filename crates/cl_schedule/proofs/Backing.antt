@@ -24,7 +24,7 @@ use Rattle.cl_model.specs.Tables.{Bears}
 use Rattle.cl_model.specs.Views.{request_of, verdict_of}
 use Rattle.cl_model.proofs.Sound.{runs_are_sound}
 use Rattle.cl_model.proofs.Tables.{may_bear}
-use Rattle.cl_registry.specs.Imposing.{ArePreparedAbove, HoldsFor, IsReadyBy, IsStanding, StandsFor}
+use Rattle.cl_registry.specs.Imposing.{ArePreparedAbove, HoldsFor, IsReadyBy, IsStanding, OriginStands}
 use Rattle.cl_registry.specs.Posting.{AnswerBacked, IsBacked}
 use Rattle.cl_registry.specs.References.{Cited, cited_by, settled_by}
 use Rattle.cl_registry.specs.Settling.{MaySettle}
@@ -104,7 +104,7 @@ holds_later : (old new : Shown) (l : Lined) (given : Given) → GoesOn old new �
 holds_later old new l givens.Nothing h is = tt
 holds_later old new l givens.Superclass h is = above_prepared_later old new l.own.class (superclass_of (file_of l.own.file)) h is
 
-pub stands_for_later : (old new : Shown) (o : Sprung) → GoesOn old new → StandsFor old o → StandsFor new o
+pub stands_for_later : (old new : Shown) (o : Sprung) → GoesOn old new → OriginStands old o → OriginStands new o
 stands_for_later old new (OfReference d c index) h stands = (
   standing_later old new d h stands.0,
   record {

@@ -24,7 +24,7 @@ use Rattle.cl_hierarchy.specs.Imposed.{Sprung, OfReference, OfPreparation, equal
 use Rattle.cl_registry.specs.References.{Cited, cited_by}
 use Rattle.cl_registry.specs.Settling.{IsToSettle}
 use Rattle.cl_registry.specs.Tables.{Shown, state_of}
-use Rattle.cl_tasks.specs.Turns.{Serves}
+use Rattle.cl_tasks.specs.Turns.{KeepsRequest}
 use Rattle.cl_tasks.specs.Follows.{Follows, IsPreparedNext, IsSettledNext, IsWanted}
 use Rattle.cl_tasks.specs.Tasks.{Tasked}
 use Rattle.cl_tasks.specs.declared.turn.Turn.{Turn}
@@ -107,7 +107,7 @@ prepare_next g s r (OfReference d c index) e next is may = absurd is
 prepare_next g s r (OfPreparation l given) e next is may = subst (IsNextStep g s (request_of r)) (sym is) (next (subst (May g s) is may).unprepared)
 
 -- what a turn asks for comes next, wherever it may happen
-pub next_of : {A : Type 0} (g : Setting) (x : Shown) (r : Request) (t new : Tasked) (u : Turn A) (e : Step) → Follows g (state_of x) r u → Serves t new u → t.request ≡ Some r → IsStepOf x u e → May g (state_of x) e → IsNextStep g (state_of x) (request_of r) e
+pub next_of : {A : Type 0} (g : Setting) (x : Shown) (r : Request) (t new : Tasked) (u : Turn A) (e : Step) → Follows g (state_of x) r u → KeepsRequest t new u → t.request ≡ Some r → IsStepOf x u e → May g (state_of x) e → IsNextStep g (state_of x) (request_of r) e
 next_of g x r t new (turn.Define d) e follows serves request is may =
     let here : step_for (Entry d.class.loader d.class.name d.class.loader) ≡ e = define_for d.class ∙ sym is in
     subst (IsNextStep g (state_of x) (request_of r)) here (follows.step (subst (May g (state_of x)) is may).may_add)

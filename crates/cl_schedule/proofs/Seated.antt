@@ -22,7 +22,7 @@ use Rattle.cl_tasks.specs.Facts.{Holds}
 use Rattle.cl_tasks.specs.Measures.{all_left}
 use Rattle.cl_tasks.specs.Follows.{AreLeft, Backed, FollowsWhere, Tells, TellsOf, Unrecorded}
 use Rattle.cl_tasks.specs.Tasks.{Tasked, begun}
-use Rattle.cl_tasks.specs.Turns.{Asks, Expects, IsReplyTo, Serves, call_of}
+use Rattle.cl_tasks.specs.Turns.{Asks, Expects, IsReplyTo, KeepsRequest, call_of}
 use Rattle.cl_tasks.specs.Waits.{Waits, Reading, Settling}
 use Rattle.cl_tasks.specs.declared.turn.Reply.{Reply}
 use Rattle.cl_tasks.specs.declared.turn.Reply.TheVariants as reply
@@ -91,7 +91,7 @@ ready_begun {A = A} told x c q r t kept config is =
 -- ---- a turn
 
 -- a turn is for the request of its task
-is_for : {A : Type 0} (t next : Tasked) (u : Turn A) (r : Request) → Serves t next u → t.request ≡ Some r → IsFor next u r
+is_for : {A : Type 0} (t next : Tasked) (u : Turn A) (r : Request) → KeepsRequest t next u → t.request ≡ Some r → IsFor next u r
 is_for t next (turn.Settle f) r serves is = (some_same f.request r (sym serves.0 ∙ is), serves.1 ∙ is)
 is_for t next (turn.Post f) r serves is = some_same f.request r (sym serves ∙ is)
 is_for t next other r serves is = serves ∙ is
@@ -133,7 +133,7 @@ seated_on told x q r t next given u ready says less unread more =
 pub seated_backed : {A : Type 0} (told : Option Content) (x : Shown) (t : Tasked) (u : Turn A) (q : ℕ) → IsKept told x → IsSeatedAt told x t u q → IsCall u → Backed x u
 seated_backed told x t u q kept (r, may, seated) call = seated.backed x (after_none told x kept) call
 
-serves_self : {A : Type 0} (t : Tasked) (u : Turn A) (r : Request) → IsFor t u r → IsCall u → Serves t t u
+serves_self : {A : Type 0} (t : Tasked) (u : Turn A) (r : Request) → IsFor t u r → IsCall u → KeepsRequest t t u
 serves_self t (turn.Settle f) r is call = (is.1 ∙ ap (λ (k : Request). Some k) (sym is.0), refl)
 serves_self t (turn.Post f) r is call = absurd call
 serves_self t other r is call = refl

@@ -13,7 +13,7 @@ use Rattle.cl_tasks.specs.Blames.{BlamesWhere}
 use Rattle.cl_tasks.specs.Facts.{Holds}
 use Rattle.cl_tasks.specs.Follows.{Backed, BackedWhere, Follows, FollowsWhere, Refuses, ServedIn, Tells, TellsNow, TellsOf, Unrecorded, refusal}
 use Rattle.cl_tasks.specs.Tasks.{Tasked, begun}
-use Rattle.cl_tasks.specs.Turns.{AnswersOwn, Asks, Expects, IsReplyTo, Serves, call_of}
+use Rattle.cl_tasks.specs.Turns.{AnswersOwn, Asks, Expects, IsReplyTo, KeepsRequest, call_of}
 use Rattle.cl_tasks.specs.Waits.{Waits, Looking}
 use Rattle.cl_tasks.specs.declared.turn.Reply.{Reply}
 use Rattle.cl_tasks.specs.declared.turn.Reply.TheVariants as reply
@@ -31,7 +31,7 @@ use Rattle.cl_schedule.proofs.Later.{goes_on_by, holds_later}
 pub record TurnSays {A : Type 0} (told : Option Content) (t new : Tasked) (given : Reply A) (u : Turn A) : Type 0 where
   pub config : new.config ≡ t.config
   pub asks : Asks new u
-  pub serves : Serves t new u
+  pub serves : KeepsRequest t new u
   pub keeps : (x : Shown) → Tells x t given → Holds x new
   pub backed : BackedWhere t.config (λ x. TellsNow x t given) u
   pub next : IfSome t.request (λ r. FollowsWhere told t.config (λ x. Tells x t given) r u)
@@ -105,7 +105,7 @@ pub unrecorded_of : {A : Type 0} (x : Shown) (w : Waits) (given : Reply A) → S
 unrecorded_of x (Looking l n) (reply.Looked None) shows = shows
 unrecorded_of x other another shows = tt
 
-pub serves_request : {A : Type 0} (t new : Tasked) (u : Turn A) → Serves t new u → IsCall u → new.request ≡ t.request
+pub serves_request : {A : Type 0} (t new : Tasked) (u : Turn A) → KeepsRequest t new u → IsCall u → new.request ≡ t.request
 serves_request t new (turn.Settle f) s call = s.1
 serves_request t new (turn.Post f) s call = absurd call
 serves_request t new other s call = s

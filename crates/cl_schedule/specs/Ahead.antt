@@ -2,7 +2,7 @@
 use Rattle.std.specs.Prelude.{◌≡◌, ◌≤◌, ◌+◌, ℕ, zero, suc, length, take}
 use Rattle.cl_hierarchy.specs.Imposed.{Listed, needs_of}
 use Rattle.cl_model.specs.States.{AllMet}
-use Rattle.cl_registry.specs.Imposing.{Imposes, MayImpose, StandsFor}
+use Rattle.cl_registry.specs.Imposing.{Imposes, MayImpose, OriginStands}
 use Rattle.cl_registry.specs.Tables.{Shown, state_of}
 
 -- so many equalities of a list are imposed from a place on, each of which may be (5.3.4)
@@ -20,6 +20,6 @@ pub record AreImposed (old new : Shown) (l : Listed) (from to : ℕ) : Type 0 wh
 
 -- what a list was made from stands, and all its equalities before a place are met (5.3.4)
 pub record StandsBefore (x : Shown) (l : Listed) (k : ℕ) : Type 0 where
-  pub stands : StandsFor x l.origin
+  pub stands : OriginStands x l.origin
   pub within : k ≤ length l.needs
   pub met : AllMet (state_of x) (take k (needs_of l.needs))

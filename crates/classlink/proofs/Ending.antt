@@ -18,7 +18,7 @@ use Rattle.cl_program.specs.declared.asked.Asked.TheVariants.{Bundle, Read, Run}
 use Rattle.cl_program.specs.declared.asked.Options.{Options}
 use Rattle.cl_program.specs.declared.fault.Fault.{Fault}
 use Rattle.cl_program.specs.declared.fault.Fault.TheVariants.{Memory}
-use Rattle.classlink.specs.CommandLine.{IsAsked, file_of}
+use Rattle.classlink.specs.CommandLine.{IsAsked, file_to_read}
 use Rattle.classlink.specs.Endings.{EndsFor, Grows, HelpOf, IsHelped, IsTaken, LacksMemory, Reads, Runs, RunsScript}
 
 pub taken : (entered : Option (Text × List Row)) (input : Option (List ℕ)) (gives : List ℕ → Giving) (o : Outputs) (status : ℕ) (asked : Asked) → IsAsked entered asked
@@ -28,7 +28,7 @@ pub taken : (entered : Option (Text × List Row)) (input : Option (List ℕ)) (g
     → IsTaken entered input gives o status
 taken entered input gives o status (Bundle options) is bundle run read = Runs options is.0 is.1 (bundle options refl)
 taken entered input gives o status (Run words) is bundle run read = RunsScript (wanted_of words) is.0 is.1 (run (wanted_of words) refl)
-taken entered input gives o status (Read path) is bundle run read = Reads is.0 (read (file_of entered) (sym is.1))
+taken entered input gives o status (Read path) is bundle run read = Reads is.0 (read (file_to_read entered) (sym is.1))
 
 -- ---- out of memory
 

@@ -25,7 +25,7 @@ use Rattle.cl_program.specs.Asking.{AsksForBundle, AsksForFile, AsksForRun, Want
 use Rattle.cl_program.specs.declared.asked.Asked.{Asked}
 use Rattle.cl_program.specs.declared.asked.Asked.TheVariants.{Bundle, Read, Run}
 use Rattle.cl_program.specs.declared.asked.Options.{Options}
-use Rattle.classlink.specs.CommandLine.{Answers, AreOptions, AreWordsOf, AskFor, AskToRead, AskToRun, Dashes, End, HasFlag, HasOptions, IsAsked, IsCount, IsCountOf, IsNamed, IsToRead, IsToRun, Workers, file_of, is_plain_word, named_file, program, wrong_words, text_at}
+use Rattle.classlink.specs.CommandLine.{Answers, AreOptions, AreWordsOf, AskFor, AskToRead, AskToRun, Dashes, End, HasFlag, HasOptions, IsAsked, IsCount, IsCountOf, IsNamed, IsToRead, IsToRun, Workers, file_to_read, is_plain_word, named_file, program, wrong_words, text_at}
 use Rattle.classlink.proofs.Orders.{AreFull, Ends, PassesCount, answers_row, full_at_end, leads_on, right_at_end, workers_row}
 use Rattle.classlink.proofs.Steps.{IsNoFlag, finds_at, idle_at, no_flag, passes_to}
 use Rattle.cl_pool.specs.declared.limits.TheConstants.{MOST_WORKERS}
@@ -125,7 +125,7 @@ options_are count words o given is found has =
 -- ---- a path among the words
 
 abbrev Finds : Text → List Text → Type 0
-Finds path words = IsToRead (entered_at words) × (file_of (entered_at words) ≡ path)
+Finds path words = IsToRead (entered_at words) × (file_to_read (entered_at words) ≡ path)
 
 abbrev to_read : Text → List Text
 to_read path = codes "read" ∷ path ∷ []

@@ -132,8 +132,8 @@ abbrev pub named_file : List ℕ → Option (Text × List Row) → Text
 named_file name entered = unwrap_or (option_and_then (λ p. first_of name p.1) entered) []
 
 -- the file of `read`
-abbrev pub file_of : Option (Text × List Row) → Text
-file_of entered = named_file (codes "FILE") entered
+abbrev pub file_to_read : Option (Text × List Row) → Text
+file_to_read entered = named_file (codes "FILE") entered
 
 -- the one text of an argument of this name
 abbrev pub text_at : Option (Text × List Row) → List ℕ → Option Text
@@ -172,4 +172,4 @@ pub record IsWanted (entered : Option (Text × List Row)) (w : Wanted) : Type 0 
 abbrev pub IsAsked : Option (Text × List Row) → Asked → Type 0
 IsAsked entered (Bundle options) = IsForBundle entered × HasOptions entered options
 IsAsked entered (Run words) = IsToRun entered × IsWanted entered (wanted_of words)
-IsAsked entered (Read path) = IsToRead entered × (file_of entered ≡ path.now)
+IsAsked entered (Read path) = IsToRead entered × (file_to_read entered ≡ path.now)

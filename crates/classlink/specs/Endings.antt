@@ -12,7 +12,7 @@ use Rattle.cl_program.specs.ScriptRuns.{IsScriptRun}
 use Rattle.cl_program.specs.declared.asked.Options.{Options}
 use Rattle.cl_program.specs.declared.fault.Fault.{Fault}
 use Rattle.cl_program.specs.declared.fault.Fault.TheVariants.{Memory, Write}
-use Rattle.classlink.specs.CommandLine.{HasOptions, IsForBundle, IsToRead, IsToRun, IsWanted, file_of}
+use Rattle.classlink.specs.CommandLine.{HasOptions, IsForBundle, IsToRead, IsToRun, IsWanted, file_to_read}
 
 -- ---- words that `clap` takes
 
@@ -24,7 +24,7 @@ pub record LacksMemory (o : Outputs) (status : ℕ) : Type 0 where
 -- what `clap` finds in words that it takes is done: the file of `read` is read, a script is run, or a bundle with its options; or memory
 -- was wanting
 pub data IsTaken (entered : Option (Text × List Row)) (input : Option (List ℕ)) (gives : List ℕ → Giving) (o : Outputs) (status : ℕ) : Type 0 where
-  Reads : IsToRead entered → IsReading (gives (file_of entered)) (file_of entered) o status → IsTaken entered input gives o status
+  Reads : IsToRead entered → IsReading (gives (file_to_read entered)) (file_to_read entered) o status → IsTaken entered input gives o status
   RunsScript : (w : Wanted) → IsToRun entered → IsWanted entered w → IsScriptRun gives w o status → IsTaken entered input gives o status
   Runs : (options : Options) → IsForBundle entered → HasOptions entered options → IsRun input options o status → IsTaken entered input gives o status
   Lacks : LacksMemory o status → IsTaken entered input gives o status

@@ -1,5 +1,6 @@
 use Rattle.std.proofs.Common.{◌≡◌, map}
-use Rattle.cl_hierarchy.specs.Imposed.{equal_between, needs_of}
+use Rattle.cl_model.specs.Preparation.{equal_between}
+use Rattle.cl_hierarchy.specs.Imposed.{needs_of}
 use Rattle.cl_members.proofs.naming.equals.Given as goal
 
 abbrev pub invariant-loop-name : goal.invariant-loop-name

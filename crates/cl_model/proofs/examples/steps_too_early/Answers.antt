@@ -2,13 +2,13 @@ use Rattle.std.proofs.Common.{◌≡◌, ◌<◌, List, Some, None, [], ◌∷�
 use Rattle.std.specs.Prelude.{Contains}
 use Rattle.cl_classfile.specs.Files.{File}
 use Rattle.cl_model.specs.declared.class.Class.{Class}
-use Rattle.cl_model.specs.Classes.{AllAtHome, supers, file_of}
+use Rattle.cl_model.specs.Classes.{AllAtHome, supers, read_class}
 use Rattle.cl_model.specs.Lineages.{Kin}
 use Rattle.cl_model.specs.Preparation.{constraints_of}
 use Rattle.cl_model.specs.States.{Verdict, Need, IsLinked, Linkage, Keeps, AllMet, start}
 use Rattle.cl_model.specs.Works.{Made}
 use Rattle.cl_model.specs.Plans.{plan, ending}
-use Rattle.cl_model.specs.Machine.{Imposes, Answers, Prepare, state_after}
+use Rattle.cl_model.specs.Machine.{AreOfRecorded, Answers, Prepare, state_after}
 use Rattle.cl_model.specs.Examples.{app, plug, in_boot, in_app, in_plug, resolve_of, link_of}
 use Rattle.cl_model.specs.ExampleRuns.{overridden_service, serving, loading, of_svc, unsettled, unprepared}
 use Rattle.cl_model.proofs.Planned.{one_lineage, one_resolution}
@@ -20,13 +20,13 @@ pub returns-clause-define : goal.returns-clause-define
 returns-clause-define c h =
     missing
     (subst (λ (f : File). AllAtHome overridden_service (in_app "p/Svc") (Keeps start app) (supers f))
-    (same_file (file_of overridden_service (in_app "p/Svc")) h.has_file refl) h.above).0.holds
+    (same_file (read_class overridden_service (in_app "p/Svc")) h.has_file refl) h.above).0.holds
 
 pub returns-clause-initiate : goal.returns-clause-initiate
 returns-clause-initiate c h = missing h.defined
 
 -- nothing imposes where nothing is recorded
-no_list : (needs : List Need) → Imposes serving start needs → ⊥
+no_list : (needs : List Need) → AreOfRecorded serving start needs → ⊥
 no_list needs (inl i) = missing i.1
 no_list needs (inr i) = missing i.1
 

@@ -1,6 +1,6 @@
 use Rattle.std.proofs.Common.{◌≡◌, List, [], ◌∷◌, ◌++◌, inl, inr, refl, ap, subst}
 use Rattle.cl_model.specs.States.{State, Need, Equal, AllMet, IsNext}
-use Rattle.cl_model.specs.Machine.{Imposes}
+use Rattle.cl_model.specs.Machine.{AreOfRecorded}
 use Rattle.cl_model.proofs.laws.constrains_in_order.Goals as goal
 use Rattle.cl_model.proofs.Aims.{next_right}
 
@@ -12,7 +12,7 @@ place s (x ∷ xs) n (inr h) = let p = place s xs n h.1 in (x ∷ p.0, p.1, ap (
 
 pub returns : goal.returns
 returns c = λ g s name one other. (
-  λ may. let p = place s may.needs (Equal name one other) may.next in (p.0, p.1, subst (λ (ns : List Need). Imposes g s ns) p.2 may.imposes, p.3, may.may_add),
+  λ may. let p = place s may.needs (Equal name one other) may.next in (p.0, p.1, subst (λ (ns : List Need). AreOfRecorded g s ns) p.2 may.imposes, p.3, may.may_add),
   λ h. record {
     needs = h.0 ++ Equal name one other ∷ h.1;
     imposes = h.2;

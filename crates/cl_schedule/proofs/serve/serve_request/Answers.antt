@@ -5,7 +5,7 @@ use Rattle.cl_model.specs.declared.request.Request.{Request}
 use Rattle.cl_model.proofs.Bind.{some_same}
 use Rattle.cl_registry.specs.Posting.{MayPost}
 use Rattle.cl_registry.specs.Tables.{Shown}
-use Rattle.cl_tasks.specs.Turns.{Serves}
+use Rattle.cl_tasks.specs.Turns.{KeepsRequest}
 use Rattle.cl_tasks.specs.declared.turn.Turn.{Turn}
 use Rattle.cl_tasks.specs.declared.turn.Turn.TheVariants as turn
 use Rattle.cl_tasks.specs.Blames.{AnswerBlames}
@@ -71,7 +71,7 @@ post-requires-in-Ok-answer_of-clause-backed g c =
 
 pub post-requires-in-Ok-answer_of-clause-may : goal.post-requires-in-Ok-answer_of-clause-may
 post-requires-in-Ok-answer_of-clause-may g c =
-    let P : Turn g.row.T.Denot → Type 0 = λ w. Serves c.loop-finding.task c.turn.new.self w in
+    let P : Turn g.row.T.Denot → Type 0 = λ w. KeepsRequest c.loop-finding.task c.turn.new.self w in
     let same = some_same c.args.request c.in-Ok-answer_of.finding.request (sym c.loop-finding.invariant.request ∙ subst P c.in-Ok-answer_of.ensures.post c.turn.ensures.serves) in
     subst (λ (r : Request). MayPost c.loop-finding.registry c.args.q r) same (may_still g.T.Told.told c.args.registry.now c.loop-finding.registry c.args.request c.args.q c.loop-finding.invariant.going c.requires.may)
 

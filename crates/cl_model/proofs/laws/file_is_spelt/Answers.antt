@@ -1,5 +1,0 @@
-use Rattle.cl_model.proofs.Reached.{file_is_spelt}
-use Rattle.cl_model.proofs.laws.file_is_spelt.Goals as goal
-
-pub returns : goal.returns
-returns c = file_is_spelt

@@ -31,6 +31,13 @@
   scanned       600 classes of app over one another, each with ten methods that the last of 1,500 superinterfaces of boot has
   described     a class of app over one of boot, each with 7,500 methods of 75 descriptors of 254 parameters of class type, as @hex
   stretched     the same two, each with 8,000 methods that share one descriptor, of one class with a name of 65,000 bytes
+  lengthy       a class that names one interface 65,535 times, whose name has 65,000 bytes; it is loaded
+  unopened      the same interface, which is not public, so that each mention asks for packages
+  mentioned     the same 10,000 times, one link and nine resolutions
+  heaped        two classes over one another that each name it and another such by turns 40,000 times; the last is linked
+  namesakes     a class of 20,000 methods of one name of 65,000 bytes; it is linked
+  typed         the same of one descriptor
+  shadowed      120 classes over one of 8,000 methods of such a name, each of which names an interface with the same; the last is linked
   offered       500 abstract classes of app under a superinterface of boot with 500 methods, none of which a class declares
   crossed       500 classes of app over one another, each of which names a superinterface of boot and declares its method
   fans          1,000 classes of app over one another, the first of which names 1,000 interfaces of boot, all with the same method
@@ -61,6 +68,7 @@ from loads import MANY, OBJECT, TOP, TWO, bundle, section
 
 NAMES = 1000
 LOADERS = [f"l{n}" for n in range(1, 64)]
+LONG = "x" * 65000
 
 
 def with_lines(class_section, lines):
@@ -337,7 +345,7 @@ def described(path, names=100, descriptors=75):
 
 
 def stretched(path, count=8000):
-    overriding_all(path, [(f"m{n}", f"(L{'x' * 65000};)V") for n in range(count)])
+    overriding_all(path, [(f"m{n}", f"(L{LONG};)V") for n in range(count)])
 
 
 def overriding_all(path, methods):
@@ -346,17 +354,70 @@ def overriding_all(path, methods):
     bundle(path, TWO, [TOP, *(f"%class {loader} {name}\n@hex {file.hex()}\n" for loader, name, file in classes)], ["link app p/C\n"])
 
 
-def class_file(name, above, methods):
-    """A public class of version 52.0 with public methods of these names and descriptors."""
-    texts = [*dict.fromkeys([name, above, *(it for method in methods for it in method)])]
+def lengthy(path, count=65535):
+    named_again(path, count, [])
+
+
+def unopened(path, count=65535):
+    named_again(path, count, [], flags="0600")
+
+
+def mentioned(path, count=10000):
+    named_again(path, count, [f"m{n}" for n in range(9)])
+
+
+def heaped(path, count=40000):
+    over = [LONG, LONG[:-1] + "y"]
+    classes = [TOP, *(section("app", name, flags="0601") for name in over)]
+    for name, above in (("C", OBJECT), ("D", "C")):
+        classes.append(f"%class app {name}\n@hex {class_file(name, above, [], [over[place % 2] for place in range(count)]).hex()}\n")
+    bundle(path, TWO, classes, ["link app D\n"])
+
+
+def named_again(path, count, resolved, flags="0601"):
+    """A class that names an interface with a long name so many times; it is loaded, or linked, and these methods are resolved."""
+    file = class_file("C", OBJECT, [], [LONG] * count)
+    classes = [TOP, section("app", LONG, flags=flags), f"%class app C\n@hex {file.hex()}\n"]
+    classes.append(with_lines(section("app", "q/Use"), [f"ref method C {name} ()V" for name in resolved]))
+    asked = [f"resolve app q/Use {place + 1}\n" for place in range(len(resolved))]
+    bundle(path, TWO, classes, ["link app C\n", *asked] if resolved else ["load app C\n"])
+
+
+def namesakes(path, count=20000):
+    linked_alone(path, [(LONG, f"(Lp/T{n};)V") for n in range(count)])
+
+
+def typed(path, count=20000):
+    linked_alone(path, [(f"m{n}", f"(L{LONG};)V") for n in range(count)])
+
+
+def linked_alone(path, methods):
+    file = class_file("p/C", OBJECT, methods)
+    bundle(path, TWO, [TOP, f"%class app p/C\n@hex {file.hex()}\n"], ["link app p/C\n"])
+
+
+def shadowed(path, count=120, methods=8000):
+    own = [(LONG, f"(Lp/T{n};)V") for n in range(methods)]
+    over = class_file("p/I", OBJECT, own, flags=b"\x06\x01", of_each=b"\x04\x01")
+    names = [f"q/C{n}" for n in range(count)]
+    classes = [TOP, f"%class boot p/I\n@hex {over.hex()}\n", f"%class app q/C\n@hex {class_file('q/C', OBJECT, own).hex()}\n"]
+    classes += over_one_another(names, top="q/C", interfaces=["p/I"])
+    bundle(path, TWO, classes, [f"link app {names[-1]}\n"])
+
+
+def class_file(name, above, methods, interfaces=(), flags=b"\x00\x21", of_each=b"\x00\x01"):
+    """A class of version 52.0 with methods of these names and descriptors, a public one with public ones where no flags are given."""
+    texts = [*dict.fromkeys([name, above, *interfaces, *(it for method in methods for it in method)])]
     places = {text: (place + 5).to_bytes(2, "big") for place, text in enumerate(texts[2:])}
     pool = b"".join(b"\x01" + len(it).to_bytes(2, "big") + it.encode() for it in texts)
-    head = b"\xca\xfe\xba\xbe\x00\x00\x00\x34" + (len(texts) + 3).to_bytes(2, "big")
-    # (the two names, then the classes of these names, then the other texts)
+    over = {it: (len(texts) + 3 + place).to_bytes(2, "big") for place, it in enumerate(dict.fromkeys(interfaces))}
+    head = b"\xca\xfe\xba\xbe\x00\x00\x00\x34" + (len(texts) + 3 + len(over)).to_bytes(2, "big")
+    # (the two names, then the classes of these names, then the other texts, then the classes of the interfaces)
     two = len(texts[0]) + len(texts[1]) + 6
-    head += pool[:two] + b"\x07\x00\x01\x07\x00\x02" + pool[two:]
-    members = b"".join(b"\x00\x01" + places[it] + places[text] + b"\x00\x00" for it, text in methods)
-    return head + b"\x00\x21\x00\x03\x00\x04\x00\x00\x00\x00" + len(methods).to_bytes(2, "big") + members + b"\x00\x00"
+    head += pool[:two] + b"\x07\x00\x01\x07\x00\x02" + pool[two:] + b"".join(b"\x07" + places[it] for it in over)
+    head += flags + b"\x00\x03\x00\x04" + len(interfaces).to_bytes(2, "big") + b"".join(over[it] for it in interfaces) + b"\x00\x00"
+    members = b"".join(of_each + places[it] + places[text] + b"\x00\x00" for it, text in methods)
+    return head + len(methods).to_bytes(2, "big") + members + b"\x00\x00"
 
 
 def offered(path, count=500):
@@ -502,7 +563,7 @@ def blocks(path, count=2000):
 
 def main(folder):
     os.makedirs(folder, exist_ok=True)
-    references = methods, settled, constraints, refused, described, stretched
+    references = methods, settled, constraints, refused, described, stretched, lengthy, unopened, mentioned, heaped, namesakes, typed, shadowed
     chains = overriding, repeated, halves, crowned, paired, against, inherits, renamed, hiding, turning, slotted, broad, veiled, draped, lone, uneven, dense, stacked, heads, pairs, differing, scanned, offered, crossed, fans, plain, topped, wide, distinct, many, inherited, naming, interfaces, beside, comb, fringe, twos, combs, blocks
     for make in *references, ladder, links, *chains:
         make(f"{folder}/{make.__name__}")

@@ -73,16 +73,20 @@ def past_generics(text, at):
 
 def body_of(text, at, end):
     """Where the body of the function opens, whose parameters follow `at`, and where it closes; None where it has none."""
-    at = closing(text, text.find("(", past_generics(text, at), end)) + 1
+    at = since = closing(text, text.find("(", past_generics(text, at), end)) + 1
     while True:
-        found = re.compile(r"[{;]").search(text, at, end)
+        found = re.compile(r"[{;\[]").search(text, since, end)
         if not found or found[0] == ";":
             return None
         close = closing(text, found.start())
+        since = close + 1
+        # (a ; in the type of an array ends nothing)
+        if found[0] == "[":
+            continue
         # (each clause is some words and a block of its own)
         if not CLAUSE.search(text[at : found.start()]):
             return found.start(), close
-        at = close + 1
+        at = since
 
 
 def functions(path, text):

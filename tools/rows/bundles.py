@@ -20,16 +20,22 @@ def part(of, text):
     return "-- %s hex\n%s\n" % (of, text.encode().hex())
 
 
-def run(name, pieces, status, out="", err=""):
-    """A row. A piece is a text, or a text and how often it stands."""
-    lines = "== %s\nwords: bundle\nstatus: %d\n" % (name, status)
+def parts(of, pieces):
+    """The parts of a row that pieces are. A piece is a text, or a text and how often it stands."""
+    lines = ""
     for piece in pieces:
         if isinstance(piece, tuple):
-            lines += "-- in times %d\n%s\n" % (piece[1], piece[0].encode().hex())
+            lines += "-- %s times %d\n%s\n" % (of, piece[1], piece[0].encode().hex())
         elif piece:
-            lines += part("in", piece)
+            lines += part(of, piece)
+    return lines
+
+
+def run(name, pieces, status, out="", err=""):
+    """A row. What is on standard output is a text, or pieces as what is given."""
+    lines = "== %s\nwords: bundle\nstatus: %d\n" % (name, status) + parts("in", pieces)
     if out:
-        lines += "-- out any\n" if out == "any" else part("out", out)
+        lines += "-- out any\n" if out == "any" else parts("out", [out] if isinstance(out, str) else out)
     return lines + (part("err", "classlink: %s\n" % err) if err else "") + "\n"
 
 
@@ -271,6 +277,28 @@ def settled_once():
     yield run("one_settle_many_workers, by one worker", pieces, 0, out=history + answers)
 
 
+# A class of boot and its method, both with a long name, and of app a class below it that overrides the method and one that names
+# class and method; * is a long text.
+LONG = "%%class boot %s\nclass 0021 %s -\n" % (TOP, TOP)
+LONG += "%%class boot p/*\nclass 0021 p/* %s\nmethod 0001 * (Lp/*;)V\n" % TOP
+LONG += "%class app p/D\nclass 0021 p/D p/*\nmethod 0001 * (Lp/*;)V\n"
+LONG += "%class app p/B\nclass 0021 p/B p/*\nref class p/*\nref method p/B * (Lp/*;)V\nref method p/B *y (Lp/*;)V\n"
+LONG += "%script\nload app p/B\nload boot p/*\nload app p/*\nload boot p/*y\nlink app p/D\n"
+LONG += "resolve app p/B 1\nresolve app p/B 2\nresolve app p/B 3\n"
+LONG_OUT = "define %s@boot\ndefine p/*@boot\ninitiate p/* boot by app\ndefine p/B@app\ndefine p/D@app\n" % TOP
+LONG_OUT += "prepare %s@boot\nprepare p/*@boot\nconstrain p/* boot app\nprepare p/D@app\n" % TOP
+LONG_OUT += "1 class p/B@app\n2 class p/*@boot\n3 class p/*@boot\n4 ClassNotFoundException p/*y@boot\n5 linked p/D@app\n"
+LONG_OUT += "6 class p/*@boot\n7 method p/*@boot * (Lp/*;)V\n8 NoSuchMethodError p/B@app\n"
+# The names of classes have two bytes more, the descriptors seven: the last are the longest that there are.
+LENGTHS = (249, 250, 253, 254, 255, 256, 257, 65528)
+
+
+def long_names():
+    for length in LENGTHS:
+        bundle, out = ([piece for it in text.split("*") for piece in (it, ("x", length))][:-1] for text in ("%config\n" + FOUR + LONG, LONG_OUT))
+        yield run("names of %d bytes and more" % length, bundle, 0, out=out)
+
+
 def text():
-    made = [*configurations(), *scripts(), *drafts(), *chains(), *supertypes(), *settled_once()]
+    made = [*configurations(), *scripts(), *drafts(), *chains(), *supertypes(), *settled_once(), *long_names()]
     return "# Made by tools/rows/bundles.py.\n\n" + "".join(made)

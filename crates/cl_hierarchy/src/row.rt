@@ -10,7 +10,7 @@ ghost use Rattle.cl_hierarchy.specs.Supertypes.{plain_supertype};
 ghost use Rattle.cl_hierarchy.specs.Trees.{interface_places, interfaces_in};
 
 use crate::draft::Draft;
-use crate::supertype::{Supertype, supertype_of};
+use crate::supertype::{Supertype, first_of_name, supertype_of};
 use cl_classfile::ClassFile;
 use cl_model::{Class, LoaderId, Told};
 use std::alloc::{AllocError, Global};
@@ -115,6 +115,16 @@ impl<T: Told> ClassRow<T> {
                 Some((_, rest)) => rest,
             },
         }
+    }
+
+    /// The place of a direct supertype of the same name and role as the one at a place, which comes first or is that one, as
+    /// a draft tells it. Constant time.
+    pub fn first_of_name(&self, place: usize) -> usize
+        ensures before { result ≤ place }
+        ensures same { slice_get (supers (file_of self.now.file)) result
+            ≡ slice_get (supers (file_of self.now.file)) place }
+    {
+        first_of_name(&self.file, place)
     }
 
     /// The place of a direct superinterface that is the same class as the one at a place, and comes first or is that one. So

@@ -307,7 +307,8 @@ impl<T: Told> Registry<T> {
             (supers (file_of row.now.file))) }
     {
         for at in 0..row.places().len() {
-            if !self.super_prepared(row, at) {
+            // (one that is named again was looked for)
+            if row.first_of_name(at) == at && !self.super_prepared(row, at) {
                 return false;
             }
         }

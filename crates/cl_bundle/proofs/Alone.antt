@@ -12,7 +12,7 @@ use Rattle.cl_writer.specs.Faults.{assemble_text}
 use Rattle.cl_writer.proofs.Alone.{one_answer}
 use Rattle.cl_bundle.specs.Sections.{Part}
 use Rattle.cl_bundle.specs.Contents.{ContentOf, IsRefused, IsSpelledBy, IsTooLong, TextWritten, Written, hex_written, is_hex, stated}
-use Rattle.cl_bundle.specs.Bundles.{AllTell, FirstWrong, StoredAs, StoredBy, StoredOf}
+use Rattle.cl_bundle.specs.Bundles.{AllTell, FirstFault, StoredAs, StoredBy, StoredOf}
 use Rattle.cl_bundle.specs.Faults.{SameAnswer, SameFault, fault_text}
 use Rattle.cl_bundle.specs.declared.fault.BundleFault.{BundleFault}
 use Rattle.cl_bundle.specs.declared.fault.BundleFault.TheVariants.{BadLine, Class}
@@ -150,7 +150,7 @@ one_told names before (p ∷ ps) a b v w =
     let same : v.0 ≡ w.0 = one_stored names before p (Ok v.0) (Ok w.0) v.1 w.1 in
     one_told names (before ++ w.0 ∷ []) ps a b (subst (λ (s : Stored). AllTell names (before ++ s ∷ []) ps a) same v.2) w.2
 
-pub told_or_wrong : (names : List (List ℕ)) (before : Content) (parts : List Part) (a : Content) (f : BundleFault) → AllTell names before parts a → FirstWrong names before parts f → ⊥
+pub told_or_wrong : (names : List (List ℕ)) (before : Content) (parts : List Part) (a : Content) (f : BundleFault) → AllTell names before parts a → FirstFault names before parts f → ⊥
 told_or_wrong names before [] a f v w = w
 told_or_wrong names before (p ∷ ps) a f v w =
     elim w [
@@ -160,7 +160,7 @@ told_or_wrong names before (p ∷ ps) a f v w =
           told_or_wrong names (before ++ x.0 ∷ []) ps a f (subst (λ (s : Stored). AllTell names (before ++ s ∷ []) ps a) same v.2) x.2
     ]
 
-pub one_wrong : (names : List (List ℕ)) (before : Content) (parts : List Part) (f g : BundleFault) → FirstWrong names before parts f → FirstWrong names before parts g → SameFault f g
+pub one_wrong : (names : List (List ℕ)) (before : Content) (parts : List Part) (f g : BundleFault) → FirstFault names before parts f → FirstFault names before parts g → SameFault f g
 one_wrong names before [] f g v w = absurd v
 one_wrong names before (p ∷ ps) f g v w =
     elim v [
@@ -169,6 +169,6 @@ one_wrong names before (p ∷ ps) f g v w =
         | inl y ↦ absurd (one_stored names before p (Ok x.0) (Err g) x.1 y)
         | inr y ↦
             let same : x.0 ≡ y.0 = one_stored names before p (Ok x.0) (Ok y.0) x.1 y.1 in
-            one_wrong names (before ++ y.0 ∷ []) ps f g (subst (λ (s : Stored). FirstWrong names (before ++ s ∷ []) ps f) same x.2) y.2
+            one_wrong names (before ++ y.0 ∷ []) ps f g (subst (λ (s : Stored). FirstFault names (before ++ s ∷ []) ps f) same x.2) y.2
       ]
     ]

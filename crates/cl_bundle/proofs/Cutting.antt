@@ -7,7 +7,7 @@ use Rattle.std.proofs.lemmas.List.Splits.{length-slice_split, join_with_byte-sli
 use Rattle.cl_lines.proofs.LineCuts.{first_part}
 use Rattle.cl_lines.specs.Lines.{CutsLine, Numbered, is_skipped, words_of, lines_in}
 use Rattle.cl_bundle.specs.Sections.{Heading, InnerLine, ClassLine, ScriptLine, WrongLine, Cut, Part, Parts, add_class, add_line, behind_line, cut_from, cut_of, heading_of, is_config, parts_from, with_config}
-use Rattle.cl_bundle.specs.Cuts.{CutOf, HasNumber, IsWrongLine, SectionLineOf, cuts_of, add_front, ended_by, heading_from, parts_of}
+use Rattle.cl_bundle.specs.Cuts.{CutOf, HasNumber, IsWrongLine, SectionLineOf, cuts_of, add_front, ended_by, heading_from, section_parts}
 use Rattle.cl_bundle.specs.declared.fault.BundleFault.{BundleFault}
 use Rattle.cl_bundle.specs.declared.fault.BundleFault.TheVariants.{BadLine, Memory}
 use Rattle.cl_bundle.specs.declared.sections.Sections.{Sections}
@@ -18,7 +18,7 @@ use Rattle.cl_bundle.specs.declared.sections.End.TheVariants as ends
 pub record IsInBody (start : List ℕ) (old new : Numbered) : Type 0 where
   pub front : List ℕ
   pub whole : start ≡ front ++ new.text
-  pub parts : parts_of old ≡ add_front front (parts_of new)
+  pub parts : section_parts old ≡ add_front front (section_parts new)
   pub less : length new.text ≤ length old.text
 
 -- no line, behind the last, is the same as an empty one
@@ -60,7 +60,7 @@ rest_is_less text rest e = rw e (omega (arith, length-drop (position_or_len (λ 
 -- ---- the body of a section, line by line
 
 -- the parts behind a line that was cut off
-parts_behind : (left new line : Numbered) (h : Heading) → CutsLine left line new → heading_of (words_of line.text) ≡ h → parts_of left ≡ behind_line h left.number line.text new.text (parts_of new)
+parts_behind : (left new line : Numbered) (h : Heading) → CutsLine left line new → heading_of (words_of line.text) ≡ h → section_parts left ≡ behind_line h left.number line.text new.text (section_parts new)
 parts_behind left new line h cut e =
     parts_of_line left.number left.text line.text new.text cut.text cut.rest
     ∙ ap (λ (k : Heading). behind_line k left.number line.text new.text (parts_from (left.number + 1) (lines_in new.text))) e
@@ -68,14 +68,14 @@ parts_behind left new line h cut e =
 
 -- the line ends the body
 pub body_found : (start text : List ℕ) (old left new line : Numbered) (end : End) → IsInBody start old left → CutsLine left line new → start ≡ text ++ left.text
-    → SectionLineOf line.number line.text (Ok (Some end)) → parts_of old ≡ add_front text (ended_by end new)
+    → SectionLineOf line.number line.text (Ok (Some end)) → section_parts old ≡ add_front text (ended_by end new)
 body_found start text old left new line end b cut e s =
     let front : b.front ≡ text = append_cancel_right b.front text left.text (sym b.whole ∙ e) in
-    b.parts ∙ ap (λ (f : List ℕ). add_front f (parts_of left)) front ∙ ap (add_front text) (parts_behind left new line (heading_from (Some end)) cut s.0 ∙ ended left new line end cut s.1)
+    b.parts ∙ ap (λ (f : List ℕ). add_front f (section_parts left)) front ∙ ap (add_front text) (parts_behind left new line (heading_from (Some end)) cut s.0 ∙ ended left new line end cut s.1)
   where
     ended : (left new line : Numbered) (end : End) → CutsLine left line new → HasNumber line.number (Some end)
-        → behind_line (heading_from (Some end)) left.number line.text new.text (parts_of new) ≡ ended_by end new
-    ended left new line (ends.Class n loader name) cut e = ap (λ (k : ℕ). add_class k loader.now name (parts_of new)) (sym cut.number ∙ sym e)
+        → behind_line (heading_from (Some end)) left.number line.text new.text (section_parts new) ≡ ended_by end new
+    ended left new line (ends.Class n loader name) cut e = ap (λ (k : ℕ). add_class k loader.now name (section_parts new)) (sym cut.number ∙ sym e)
     ended left new line ends.Script cut e = refl
 
 -- the line belongs to the body
@@ -94,7 +94,7 @@ body_goes_on start old left new line b cut less h =
       | inl e ↦ record {
         front = b.front ++ (line.text ++ 10 ∷ []);
         whole = b.whole ∙ ap (λ (t : List ℕ). b.front ++ t) e ∙ grind (arith, common_steps);
-        parts = parts ∙ more_front b.front line.text (parts_of new);
+        parts = parts ∙ more_front b.front line.text (section_parts new);
         less = omega arith;
       }
       | inr e ↦ record {
@@ -118,7 +118,7 @@ cuts_of_line n text line rest before after =
       | inr e ↦ rw (before, after, e.2, e.1, e.0) refl
     ]
 
-pub opens_at : (left new line : Numbered) → CutsLine left line new → is_skipped line.text ≡ false → is_config (words_of line.text) ≡ true → cuts_of left ≡ with_config (parts_of new)
+pub opens_at : (left new line : Numbered) → CutsLine left line new → is_skipped line.text ≡ false → is_config (words_of line.text) ≡ true → cuts_of left ≡ with_config (section_parts new)
 opens_at left new line cut s k =
     cuts_of_line left.number left.text line.text new.text cut.text cut.rest ∙ rw (s, k, cut.next) refl
 
@@ -145,9 +145,9 @@ pub record IsCutSoFar (text : List ℕ) (config : List ℕ) (done : List Part) (
   pub opened : cut_of text ≡ with_config all
   pub so : all ≡ add_front config (add_parts done (ended_by end left))
 
-pub cut_starts : (text : List ℕ) (config : List ℕ) (end : End) (first left : Numbered) → cut_of text ≡ with_config (parts_of first) → parts_of first ≡ add_front config (ended_by end left)
+pub cut_starts : (text : List ℕ) (config : List ℕ) (end : End) (first left : Numbered) → cut_of text ≡ with_config (section_parts first) → section_parts first ≡ add_front config (ended_by end left)
     → IsCutSoFar text config [] end left
-cut_starts text config end first left o e = record { all = parts_of first; opened = o; so = e ∙ ap (add_front config) (none_yet (ended_by end left)) }
+cut_starts text config end first left o e = record { all = section_parts first; opened = o; so = e ∙ ap (add_front config) (none_yet (ended_by end left)) }
   where
     none_yet : (r : Result Parts ℕ) → r ≡ add_parts [] r
     none_yet (Ok p) = refl
@@ -161,7 +161,7 @@ of_class n m loader name text l k (Err e) = refl
 
 next_part : (n : ℕ) (loader name text : List ℕ) (end : End) (left : Numbered)
     → add_class n loader name (add_front text (ended_by end left)) ≡ add_parts (record { line = n; loader = loader; name = name; body = text } ∷ []) (ended_by end left)
-next_part n loader name text (ends.Class m l k) left = of_class n m loader name text l.now k (parts_of left)
+next_part n loader name text (ends.Class m l k) left = of_class n m loader name text l.now k (section_parts left)
 next_part n loader name text ends.Script left = rw (append-nil text) refl
 
 parts_then : (done more : List Part) (r : Result Parts ℕ) → add_parts done (add_parts more r) ≡ add_parts (done ++ more) r
@@ -169,7 +169,7 @@ parts_then done more (Ok p) = ap (λ (c : List Part). Ok (record { body = p.body
 parts_then done more (Err n) = refl
 
 pub cut_goes_on : (whole : List ℕ) (config : List ℕ) (done : List Part) (n : ℕ) (loader : Bor (List ℕ)) (name text : List ℕ) (end : End) (left new : Numbered)
-    → IsCutSoFar whole config done (ends.Class n loader name) left → parts_of left ≡ add_front text (ended_by end new)
+    → IsCutSoFar whole config done (ends.Class n loader name) left → section_parts left ≡ add_front text (ended_by end new)
     → IsCutSoFar whole config (done ++ record { line = n; loader = loader.now; name = name; body = text } ∷ []) end new
 cut_goes_on whole config done n loader name text end left new s e = record {
   all = s.all;
@@ -193,9 +193,9 @@ same_wrong r s Memory f e = tt
 same_wrong r s fault f e = absurd e
 
 pub cut_wrong : (text : List ℕ) (config : List ℕ) (done : List Part) (n : ℕ) (loader : Bor (List ℕ)) (name : List ℕ) (left : Numbered) (fault : BundleFault)
-    → IsCutSoFar text config done (ends.Class n loader name) left → IsWrongLine (parts_of left) fault → IsWrongLine (cut_of text) fault
+    → IsCutSoFar text config done (ends.Class n loader name) left → IsWrongLine (section_parts left) fault → IsWrongLine (cut_of text) fault
 cut_wrong text config done n loader name left fault s e =
-    same_wrong (parts_of left) (cut_of text) fault (λ m w. s.opened ∙ ap with_config s.so ∙ err_after m n config loader.now name done (parts_of left) w) e
+    same_wrong (section_parts left) (cut_of text) fault (λ m w. s.opened ∙ ap with_config s.so ∙ err_after m n config loader.now name done (section_parts left) w) e
 
 pub cut_err : (text : List ℕ) (r : Result Sections BundleFault) (fault : BundleFault) → IsErrAnd r (λ e. e ≡ fault) → IsWrongLine (cut_of text) fault → CutOf text r
 cut_err text (Ok s) fault e w = absurd e

@@ -10,7 +10,7 @@ use Rattle.cl_config.specs.declared.fault.ConfigFault.{ConfigFault}
 use Rattle.cl_config.specs.declared.script.ScriptFault.{ScriptFault}
 use Rattle.cl_config.specs.declared.script.ScriptFault.TheVariants as scripts
 use Rattle.cl_bundle.specs.Sections.{Cut, cut_of}
-use Rattle.cl_bundle.specs.Bundles.{AllTell, FirstWrong, IsBundle, IsNoBundle, TellsSame, WrongClass, WrongConfig, WrongLine, WrongScript}
+use Rattle.cl_bundle.specs.Bundles.{AllTell, FirstFault, IsBundle, IsNoBundle, TellsSame, WrongClass, WrongConfig, WrongLine, WrongScript}
 use Rattle.cl_bundle.specs.Faults.{IsReason, SameFault}
 use Rattle.cl_bundle.specs.declared.fault.BundleFault.{BundleFault}
 use Rattle.cl_bundle.specs.declared.fault.BundleFault.TheVariants.{BadLine, Config, Script}
@@ -56,15 +56,15 @@ same_told text a b c d x y v w p q =
     let same = same_config text a b c d v w in
     one_told (names_of d) [] b.classes x y (at_same (λ k f. AllTell (names_of f) [] k.classes x) a b c d same.0 same.1 p) q
 
-tells_or_wrong : (text : List ℕ) (a b : Cut) (c d : Configured) (x : Content) (f : BundleFault) → IsCut text a c → IsCut text b d → AllTell (names_of c) [] a.classes x → FirstWrong (names_of d) [] b.classes f → ⊥
+tells_or_wrong : (text : List ℕ) (a b : Cut) (c d : Configured) (x : Content) (f : BundleFault) → IsCut text a c → IsCut text b d → AllTell (names_of c) [] a.classes x → FirstFault (names_of d) [] b.classes f → ⊥
 tells_or_wrong text a b c d x f v w p q =
     let same = same_config text a b c d v w in
     told_or_wrong (names_of d) [] b.classes x f (at_same (λ k f. AllTell (names_of f) [] k.classes x) a b c d same.0 same.1 p) q
 
-same_wrong : (text : List ℕ) (a b : Cut) (c d : Configured) (f g : BundleFault) → IsCut text a c → IsCut text b d → FirstWrong (names_of c) [] a.classes f → FirstWrong (names_of d) [] b.classes g → SameFault f g
+same_wrong : (text : List ℕ) (a b : Cut) (c d : Configured) (f g : BundleFault) → IsCut text a c → IsCut text b d → FirstFault (names_of c) [] a.classes f → FirstFault (names_of d) [] b.classes g → SameFault f g
 same_wrong text a b c d f g v w p q =
     let same = same_config text a b c d v w in
-    one_wrong (names_of d) [] b.classes f g (at_same (λ k e. FirstWrong (names_of e) [] k.classes f) a b c d same.0 same.1 p) q
+    one_wrong (names_of d) [] b.classes f g (at_same (λ k e. FirstFault (names_of e) [] k.classes f) a b c d same.0 same.1 p) q
 
 script_at : (text : List ℕ) (a b : Cut) (c d : Configured) (r : Result Scripted ScriptFault) → IsCut text a c → IsCut text b d → script_of (names_of c) a.script r → script_of (names_of d) b.script r
 script_at text a b c d r v w p =

@@ -8,7 +8,7 @@ use Rattle.cl_source.proofs.Contents.{tells_more}
 use Rattle.cl_config.specs.Views.{loader_named}
 use Rattle.cl_bundle.specs.Sections.{Part}
 use Rattle.cl_bundle.specs.Faults.{UnlessMemory}
-use Rattle.cl_bundle.specs.Bundles.{AllTell, ContentsOf, FirstWrong, StoredAs, StoredBy, StoredOf, TellsSame}
+use Rattle.cl_bundle.specs.Bundles.{AllTell, ContentsOf, FirstFault, StoredAs, StoredBy, StoredOf, TellsSame}
 use Rattle.cl_bundle.specs.declared.fault.BundleFault.{BundleFault}
 use Rattle.cl_bundle.specs.declared.fault.BundleFault.TheVariants.{BadLine}
 use Rattle.cl_bundle.proofs.Refusals.{unless_by}
@@ -18,7 +18,7 @@ pub record IsStored (names : List (List ℕ)) (all left : List Part) (content : 
   pub told : Content
   pub same : TellsSame content told
   pub go_on : (after : Content) → AllTell names told left after → AllTell names [] all after
-  pub stop : (fault : BundleFault) → FirstWrong names told left fault → FirstWrong names [] all fault
+  pub stop : (fault : BundleFault) → FirstFault names told left fault → FirstFault names [] all fault
 
 pub stored_first : (names : List (List ℕ)) (all : List Part) (content : Content) → content ≡ [] → IsStored names all all content
 stored_first names all content e = record { told = []; same = λ l n. rw e refl; go_on = λ after t. t; stop = λ fault w. w }
@@ -70,7 +70,7 @@ stored_more names all after part old new s i w more =
 pub stored_wrong : (names : List (List ℕ)) (all after : List Part) (part : Part) (old : Content) (fault : BundleFault) → IsStored names all (part ∷ after) old
     → UnlessMemory fault (StoredOf names old part (Err fault)) → ContentsOf names all (Err fault)
 stored_wrong names all after part old fault i w =
-    unless_by fault (StoredOf names old part (Err fault)) (FirstWrong names [] all fault) (λ e. i.stop fault (inl (same_stored names old i.told part (Err fault) i.same e))) w
+    unless_by fault (StoredOf names old part (Err fault)) (FirstFault names [] all fault) (λ e. i.stop fault (inl (same_stored names old i.told part (Err fault) i.same e))) w
 
 pub contents_wrong : (names : List (List ℕ)) (all : List Part) (r : Result Content BundleFault) (fault : BundleFault) → IsErrAnd r (λ e. e ≡ fault) → ContentsOf names all (Err fault) → ContentsOf names all r
 contents_wrong names all (Ok x) fault e w = absurd e

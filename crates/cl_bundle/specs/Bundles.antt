@@ -60,12 +60,12 @@ AllTell names before (part ∷ parts) content =
     × AllTell names (before ++ stored ∷ []) parts content
 
 -- the first of class sections that is wrong has this fault
-abbrev pub FirstWrong : List (List ℕ) → Content → List Part → BundleFault → Type 0
-FirstWrong names before [] fault = ⊥
-FirstWrong names before (part ∷ parts) fault =
+abbrev pub FirstFault : List (List ℕ) → Content → List Part → BundleFault → Type 0
+FirstFault names before [] fault = ⊥
+FirstFault names before (part ∷ parts) fault =
     StoredOf names before part (Err fault)
     ⊎ ((stored : Stored) × StoredOf names before part (Ok stored)
-    × FirstWrong names (before ++ stored ∷ []) parts fault)
+    × FirstFault names (before ++ stored ∷ []) parts fault)
 
 -- ---- the whole
 
@@ -77,7 +77,7 @@ TellsSame a b = (loader : ℕ) (name : List ℕ) → content_at a loader name �
 abbrev pub ContentsOf : List (List ℕ) → List Part → Result Content BundleFault → Type 0
 ContentsOf names parts (Ok content) =
     (told : Content) × AllTell names [] parts told × TellsSame content told
-ContentsOf names parts (Err fault) = UnlessMemory fault (FirstWrong names [] parts fault)
+ContentsOf names parts (Err fault) = UnlessMemory fault (FirstFault names [] parts fault)
 
 -- the text is a bundle: its sections are in order, and each part is well formed
 pub record IsBundle (text : List ℕ) (config : Configured) (content : Content) (script : Scripted)
@@ -94,7 +94,7 @@ pub data IsNoBundle (text : List ℕ) (fault : BundleFault) : Type 0 where
   WrongConfig : (cut : Cut) (wrong : ConfigFault) → cut_of text ≡ Ok cut
       → config_of cut.config ≡ Err wrong → fault ≡ Config wrong → IsNoBundle text fault
   WrongClass : (cut : Cut) (config : Configured) → cut_of text ≡ Ok cut
-      → config_of cut.config ≡ Ok config → FirstWrong (names_of config) [] cut.classes fault
+      → config_of cut.config ≡ Ok config → FirstFault (names_of config) [] cut.classes fault
       → IsNoBundle text fault
   WrongScript : (cut : Cut) (config : Configured) (told : Content) (wrong : ScriptFault)
       → cut_of text ≡ Ok cut → config_of cut.config ≡ Ok config

@@ -26,13 +26,13 @@ use Rattle.cl_bundle.specs.declared.sections.End.{End}
 use Rattle.cl_bundle.specs.declared.sections.End.TheVariants as ends
 
 -- a class section that the code cuts, as a part of the text
-abbrev pub part_of : ClassSection → Part
-part_of c = record { line = c.line; loader = c.loader.now; name = c.name; body = c.body.now }
+abbrev pub cut_part : ClassSection → Part
+cut_part c = record { line = c.line; loader = c.loader.now; name = c.name; body = c.body.now }
 
 -- the sections that the code cuts, as those of the text
 abbrev pub sections_of : Sections → Cut
 sections_of s =
-    record { config = s.config.now; classes = map part_of s.classes.items; script = s.script.now }
+    record { config = s.config.now; classes = map cut_part s.classes.items; script = s.script.now }
 
 -- a line that is wrong, or out of memory, of which nothing is said
 abbrev pub IsWrongLine : {A : Type 0} → Result A ℕ → BundleFault → Type 0
@@ -64,12 +64,12 @@ SectionLineOf n line (Err Memory) = ⊤
 SectionLineOf n line (Err _) = ⊥
 
 -- the parts of what is left of a text
-abbrev pub parts_of : Numbered → Result Parts ℕ
-parts_of left = parts_from left.number (lines_in left.text)
+abbrev pub section_parts : Numbered → Result Parts ℕ
+section_parts left = parts_from left.number (lines_in left.text)
 
 -- what the line that ends a section begins, and what is left
 abbrev pub ended_by : End → Numbered → Result Parts ℕ
-ended_by (ends.Class line loader name) left = add_class line loader.now name (parts_of left)
+ended_by (ends.Class line loader name) left = add_class line loader.now name (section_parts left)
 ended_by ends.Script left = Ok (record { body = []; classes = []; script = left.text })
 
 -- bytes before the parts
@@ -80,8 +80,8 @@ add_front front (Err n) = Err n
 
 -- what taking the lines up to the next section line answers
 abbrev pub BodyOf : Numbered → Result Body BundleFault → Numbered → Type 0
-BodyOf old (Ok body) new = parts_of old ≡ add_front body.text.now (ended_by body.end new)
-BodyOf old (Err fault) new = IsWrongLine (parts_of old) fault
+BodyOf old (Ok body) new = section_parts old ≡ add_front body.text.now (ended_by body.end new)
+BodyOf old (Err fault) new = IsWrongLine (section_parts old) fault
 
 -- the sections of what is left of a text, from `%config` on
 abbrev pub cuts_of : Numbered → Result Cut ℕ
@@ -89,5 +89,5 @@ cuts_of left = cut_from left.number (lines_in left.text)
 
 -- what looking for `%config` answers
 abbrev pub OpeningOf : Numbered → Result (Unit {0}) BundleFault → Numbered → Type 0
-OpeningOf old (Ok _) new = cuts_of old ≡ with_config (parts_of new)
+OpeningOf old (Ok _) new = cuts_of old ≡ with_config (section_parts new)
 OpeningOf old (Err fault) new = IsWrongLine (cuts_of old) fault

@@ -5,7 +5,7 @@ ghost use Rattle.cl_lines.specs.Lines.{words_of, stated_lines};
 ghost use Rattle.cl_config.specs.Scripts.{HasLoaders};
 ghost use Rattle.cl_bundle.specs.Bundles.{BundleOf, ConfigFaultOf, ContentsOf, PutOf};
 ghost use Rattle.cl_bundle.specs.Contents.{FaultOf, TextWritten, Written, all_digits, class_text, hex_bytes, is_hex, line_digits};
-ghost use Rattle.cl_bundle.specs.Cuts.{part_of};
+ghost use Rattle.cl_bundle.specs.Cuts.{cut_part};
 ghost use Rattle.cl_bundle.specs.Faults.{UnlessMemory};
 
 use crate::fault::BundleFault;
@@ -61,7 +61,7 @@ fn read_classes(
     config: &Config,
     classes: Vec<ClassSection<'_>>,
 ) -> Result<MemorySource, BundleFault>
-    ensures { ContentsOf (names_of config.now) (map part_of classes.entry.items) result }
+    ensures { ContentsOf (names_of config.now) (map cut_part classes.entry.items) result }
 {
     let mut source = MemorySource::with_hasher(alloc, config.seed());
     for section in classes {
@@ -78,7 +78,7 @@ fn put(
     section: ClassSection<'_>,
     source: &mut MemorySource,
 ) -> Result<(), BundleFault>
-    ensures { PutOf (names_of config.now) (part_of section.entry) source.old result source.new }
+    ensures { PutOf (names_of config.now) (cut_part section.entry) source.old result source.new }
 {
     let line = section.line;
     let Some(loader) = config.loader(section.loader) else {
@@ -103,8 +103,8 @@ fn class_bytes(
     seed: Seed,
     section: &ClassSection<'_>,
 ) -> Result<Vec<u8>, BundleFault>
-    ensures ok { IfOk result (λ bytes. Written (part_of section.now) (Ok bytes.items)) }
-    ensures err { IfErr result (λ fault. UnlessMemory fault (Written (part_of section.now)
+    ensures ok { IfOk result (λ bytes. Written (cut_part section.now) (Ok bytes.items)) }
+    ensures err { IfErr result (λ fault. UnlessMemory fault (Written (cut_part section.now)
         (Err fault))) }
 {
     if !is_hex(section.body) {
@@ -130,8 +130,8 @@ fn is_hex(body: &str) -> bool
 /// The bytes of the class that a section of assembler text describes.
 #[tactic(auto, using(crate::proofs::Refusals::refused_text))]
 fn text_bytes(alloc: Global, seed: Seed, section: &ClassSection<'_>) -> Result<Vec<u8>, BundleFault>
-    ensures ok { IfOk result (λ bytes. TextWritten (part_of section.now) (Ok bytes.items)) }
-    ensures err { IfErr result (λ fault. UnlessMemory fault (TextWritten (part_of section.now)
+    ensures ok { IfOk result (λ bytes. TextWritten (cut_part section.now) (Ok bytes.items)) }
+    ensures err { IfErr result (λ fault. UnlessMemory fault (TextWritten (cut_part section.now)
         (Err fault))) }
 {
     match assemble_with_hasher(alloc, seed, section.body) {
@@ -145,7 +145,7 @@ fn text_bytes(alloc: Global, seed: Seed, section: &ClassSection<'_>) -> Result<V
 
 /// The fault of a section whose assembler text has this one.
 fn class_fault(alloc: Global, section: &ClassSection<'_>, fault: AssembleFault) -> BundleFault
-    ensures { FaultOf (part_of section.now) fault result }
+    ensures { FaultOf (cut_part section.now) fault result }
 {
     match class_text(alloc, section) {
         Ok(class) => BundleFault::Class { class, fault },
@@ -155,7 +155,7 @@ fn class_fault(alloc: Global, section: &ClassSection<'_>, fault: AssembleFault) 
 
 /// The text `N@L` of a section: its name in escaped text, and its loader.
 fn class_text(alloc: Global, section: &ClassSection<'_>) -> Result<String, AllocError>
-    ensures { IfOk result (λ text. string_bytes text ≡ class_text (part_of section.now)) }
+    ensures { IfOk result (λ text. string_bytes text ≡ class_text (cut_part section.now)) }
 {
     let mut text = section.name.text(alloc).map_err(|_| AllocError)?;
     text.push_str("@")?;

@@ -2,7 +2,7 @@
 ghost use Rattle.std.specs.Prelude.{◌≡◌, ℕ, List, Result};
 ghost use Rattle.cl_model.specs.Content.{Content, Stored};
 ghost use Rattle.cl_config.specs.Views.{Configured, Scripted};
-ghost use Rattle.cl_bundle.specs.Bundles.{AllTell, FirstWrong, IsBundle, IsNoBundle, StoredOf, TellsSame};
+ghost use Rattle.cl_bundle.specs.Bundles.{AllTell, FirstFault, IsBundle, IsNoBundle, StoredOf, TellsSame};
 ghost use Rattle.cl_bundle.specs.Contents.{ContentOf};
 ghost use Rattle.cl_bundle.specs.Faults.{IsReason, SameAnswer, SameFault, fault_text};
 ghost use Rattle.cl_bundle.specs.Sections.{Part};
@@ -27,10 +27,10 @@ pub fn sections_tell_one_content()
     ensures same { (names : List (List ℕ)) (before : Content) (parts : List Part) (a b : Content)
         → AllTell names before parts a → AllTell names before parts b → a ≡ b }
     ensures one { (names : List (List ℕ)) (before : Content) (parts : List Part) (a : Content)
-        (fault : BundleFault) → AllTell names before parts a → FirstWrong names before parts fault
+        (fault : BundleFault) → AllTell names before parts a → FirstFault names before parts fault
         → ⊥ }
     ensures fault { (names : List (List ℕ)) (before : Content) (parts : List Part)
-        (f g : BundleFault) → FirstWrong names before parts f → FirstWrong names before parts g
+        (f g : BundleFault) → FirstFault names before parts f → FirstFault names before parts g
         → SameFault f g }
 {}
 

@@ -11,7 +11,7 @@ use Rattle.cl_classfile.specs.declared.entry.Entry.TheVariants.{Utf8, Integer, F
 use Rattle.cl_classfile.specs.declared.fault.Fault.{Fault}
 use Rattle.cl_classfile.specs.declared.fault.Fault.TheVariants.{BadPool}
 use Rattle.cl_classfile.specs.Pool.{EntryFits, is_wide, AreSpaced, at}
-use Rattle.cl_classfile.specs.Members.{Attribute, Member, AllFit, AttributeFits, MemberFits}
+use Rattle.cl_classfile.specs.Members.{Attribute, MemberInfo, AllFit, AttributeFits, MemberFits}
 use Rattle.cl_classfile.specs.Widths.{is_short, is_signed, entry_fits, is_unusable, all_fit, attribute_fits, member_fits}
 use Rattle.cl_classfile.specs.Structure.{PoolFits}
 use Rattle.cl_classfile.specs.Checking.{checked_slots, checked_pool}
@@ -43,7 +43,7 @@ attribute_tells a =
 pub attributes_tell : (attributes : List Attribute) → Decides (all_fit attribute_fits attributes) (AllFit AttributeFits attributes)
 attributes_tell = all_tell attribute_fits AttributeFits attribute_tells
 
-pub member_tells : (m : Member) → Decides (member_fits m) (MemberFits m)
+pub member_tells : (m : MemberInfo) → Decides (member_fits m) (MemberFits m)
 member_tells m =
     let named = Decides-and (is_short m.flags) (is_short m.name_index) (short_tells m.flags) (short_tells m.name_index) in
     let typed = Decides-and (is_short m.flags && is_short m.name_index) (is_short m.descriptor_index) named (short_tells m.descriptor_index) in

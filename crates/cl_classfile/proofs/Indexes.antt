@@ -10,14 +10,14 @@ use Rattle.std.proofs.lemmas.Option.{slice_get_within}
 use Rattle.cl_classfile.specs.declared.entry.Entry.{Entry}
 use Rattle.cl_classfile.specs.declared.numbers.Numbers.{Numbers}
 use Rattle.cl_classfile.specs.declared.index.Places.{Places}
-use Rattle.cl_classfile.specs.Structure.{Member}
+use Rattle.cl_classfile.specs.Structure.{MemberInfo}
 use Rattle.cl_classfile.specs.Members.{AreNew, SameMember, SameText}
 use Rattle.cl_classfile.specs.Pool.{at, IsText}
 use Rattle.cl_classfile.specs.Files.{text_at}
 use Rattle.cl_classfile.specs.Lookups.{is_this, has_texts}
-use Rattle.cl_classfile.specs.Numbers.{IsNumber, IsFirst, IsMemberNoted, number_of}
+use Rattle.cl_classfile.specs.Numbers.{IsNumber, NumbersAreIndexes, IsMemberNoted, number_of}
 use Rattle.cl_classfile.specs.Seen.{pair_cmp}
-use Rattle.cl_classfile.specs.Indexes.{Lead, PutsPlace, StandThere, StandTo, StandsAt, led_to, member_at, pair_of, place_of}
+use Rattle.cl_classfile.specs.Indexes.{Lead, PutsPlace, StandThere, StandTo, StandsAt, led_to, member_in, number_pair, place_of}
 use Rattle.cl_classfile.proofs.Codec.{both}
 use Rattle.cl_classfile.proofs.MemberRows.{named_text, reflexive}
 
@@ -31,31 +31,31 @@ find_none : {A : Type 0} (test : A → Bool) (xs : List A) → ((i : ℕ) (x : A
 find_none test [] h = refl
 find_none test (x ∷ xs) h = rw (h 0 x refl) (find_none test xs (λ i. h (suc i)))
 
-all_at : (P : Member → Type 0) (xs : List Member) (i : ℕ) (m : Member) → slice_get xs i ≡ Some m → AllByRecursion P xs → P m
+all_at : (P : MemberInfo → Type 0) (xs : List MemberInfo) (i : ℕ) (m : MemberInfo) → slice_get xs i ≡ Some m → AllByRecursion P xs → P m
 all_at P [] i m e all = absurd cc
 all_at P (x ∷ xs) zero m e all = let same : x ≡ m = cc in subst P same all.0
 all_at P (x ∷ xs) (suc i) m e all = all_at P xs i m e all.1
 
-abbrev Among : Member → List Member → Type 0
+abbrev Among : MemberInfo → List MemberInfo → Type 0
 Among m [] = ⊥
 Among m (x ∷ xs) = (x ≡ m) ⊎ Among m xs
 
-among_last : (xs : List Member) (m : Member) → Among m (xs ++ m ∷ [])
+among_last : (xs : List MemberInfo) (m : MemberInfo) → Among m (xs ++ m ∷ [])
 among_last [] m = inl refl
 among_last (x ∷ xs) m = inr (among_last xs m)
 
-among_more : (xs : List Member) (m e : Member) → Among e xs → Among e (xs ++ m ∷ [])
+among_more : (xs : List MemberInfo) (m e : MemberInfo) → Among e xs → Among e (xs ++ m ∷ [])
 among_more [] m e h = absurd h
 among_more (x ∷ xs) m e (inl h) = inl h
 among_more (x ∷ xs) m e (inr h) = inr (among_more xs m e h)
 
-all_among : (P : Member → Type 0) (xs : List Member) (e : Member) → AllByRecursion P xs → Among e xs → P e
+all_among : (P : MemberInfo → Type 0) (xs : List MemberInfo) (e : MemberInfo) → AllByRecursion P xs → Among e xs → P e
 all_among P [] e all h = absurd h
 all_among P (x ∷ xs) e all (inl h) = subst P h all.0
 all_among P (x ∷ xs) e all (inr h) = all_among P xs e all.1 h
 
 -- a member agrees with none of those behind it
-apart : (pool : List Entry) (before ms : List Member) (e : Member) (i : ℕ) (m : Member) → AreNew pool before ms → Among e before → slice_get ms i ≡ Some m → SameMember pool e m → ⊥
+apart : (pool : List Entry) (before ms : List MemberInfo) (e : MemberInfo) (i : ℕ) (m : MemberInfo) → AreNew pool before ms → Among e before → slice_get ms i ≡ Some m → SameMember pool e m → ⊥
 apart pool before [] e i m new among stands same = absurd cc
 apart pool before (x ∷ ms) e zero m new among stands same =
     let is : m ≡ x = cc in
@@ -63,7 +63,7 @@ apart pool before (x ∷ ms) e zero m new among stands same =
 apart pool before (x ∷ ms) e (suc i) m new among stands same = apart pool (before ++ x ∷ []) ms e i m new.1 (among_more before x e among) stands same
 
 -- where members that pass agree, the one that passes is found
-find_at : (pool : List Entry) (test : Member → Bool) → ((a b : Member) → test a ≡ true → test b ≡ true → SameMember pool a b) → (before ms : List Member) (i : ℕ) (m : Member)
+find_at : (pool : List Entry) (test : MemberInfo → Bool) → ((a b : MemberInfo) → test a ≡ true → test b ≡ true → SameMember pool a b) → (before ms : List MemberInfo) (i : ℕ) (m : MemberInfo)
     → AreNew pool before ms → slice_get ms i ≡ Some m → test m ≡ true → find test ms ≡ Some m
 find_at pool test agree before [] i m new stands is = absurd cc
 find_at pool test agree before (x ∷ ms) zero m new stands is =
@@ -97,27 +97,27 @@ pair_itself a b e =
 
 -- ---- places, as members are put in
 
-pub starts : (ns : Numbers) (ps : Places) (ms : List Member) → ps.map.entries ≡ [] → StandTo ns ps ms 0
+pub starts : (ns : Numbers) (ps : Places) (ms : List MemberInfo) → ps.map.entries ≡ [] → StandTo ns ps ms 0
 starts ns ps ms e = record {
   each = λ pair i is. absurd (let none : place_of ps pair ≡ None = rw e refl in cc);
   all = λ i m lt stands. absurd (omega (arith, lt));
 }
 
-module _ (ns : Numbers) (old new : Places) (ms : List Member) (i : ℕ) (m : Member) (there : slice_get ms i ≡ Some m) (pair : ℕ × ℕ) (is : pair_of ns m ≡ pair) (puts : PutsPlace old new pair i) (so_far : StandTo ns old ms i) where
+module _ (ns : Numbers) (old new : Places) (ms : List MemberInfo) (i : ℕ) (m : MemberInfo) (there : slice_get ms i ≡ Some m) (pair : ℕ × ℕ) (is : number_pair ns m ≡ pair) (puts : PutsPlace old new pair i) (so_far : StandTo ns old ms i) where
   each_one : (q : ℕ × ℕ) (j : ℕ) (b : Bool) → is_eq (pair_cmp pair q) ≡ b → cond b (Some i) (place_of old q) ≡ Some j → StandsAt ns ms q j
   each_one q j true e place =
       let here : i ≡ j = cc in
       record { member = m; stands = subst (λ (n : ℕ). slice_get ms n ≡ Some m) here there; pair_is = is ∙ pair_same pair q e }
   each_one q j false e place = so_far.each q j place
 
-  earlier : (j : ℕ) (x : Member) → j < i + 1 → slice_get ms j ≡ Some x → is_eq (pair_cmp pair (pair_of ns x)) ≡ false → j < i
+  earlier : (j : ℕ) (x : MemberInfo) → j < i + 1 → slice_get ms j ≡ Some x → is_eq (pair_cmp pair (number_pair ns x)) ≡ false → j < i
   earlier j x lt stands other =
       elim (cases_lt j i) [
         | inl less ↦ less
         | inr ge ↦
             let same : i ≡ j = omega (arith, lt, ge) in
             let one : m ≡ x = (let e : slice_get ms j ≡ Some m = subst (λ (n : ℕ). slice_get ms n ≡ Some m) same there in cc) in
-            let tie : is_eq (pair_cmp pair (pair_of ns x)) ≡ true = pair_itself pair (pair_of ns x) (sym is ∙ ap (pair_of ns) one) in
+            let tie : is_eq (pair_cmp pair (number_pair ns x)) ≡ true = pair_itself pair (number_pair ns x) (sym is ∙ ap (number_pair ns) one) in
             absurd cc
       ]
 
@@ -129,11 +129,11 @@ module _ (ns : Numbers) (old new : Places) (ms : List Member) (i : ℕ) (m : Mem
   one_more = record {
     each = λ q j place. each_one q j (is_eq (pair_cmp pair q)) refl (sym (puts q) ∙ place);
     all = λ j x lt stands.
-        subst IsSome (sym (puts (pair_of ns x)))
-        (has_one (pair_of ns x) (is_eq (pair_cmp pair (pair_of ns x))) (λ other. so_far.all j x (earlier j x lt stands other) stands));
+        subst IsSome (sym (puts (number_pair ns x)))
+        (has_one (number_pair ns x) (is_eq (pair_cmp pair (number_pair ns x))) (λ other. so_far.all j x (earlier j x lt stands other) stands));
   }
 
-pub is_done : (ns : Numbers) (ps : Places) (ms : List Member) (end : ℕ) → length ms ≤ end → StandTo ns ps ms end → StandThere ns ps ms
+pub is_done : (ns : Numbers) (ps : Places) (ms : List MemberInfo) (end : ℕ) → length ms ≤ end → StandTo ns ps ms end → StandThere ns ps ms
 is_done ns ps ms end le to = record {
   each = to.each;
   all = λ i m within stands. to.all i m (omega (arith, within, le)) stands;
@@ -159,7 +159,7 @@ text_says : (of : List ℕ → Option ℕ) (text : List ℕ) (o : Option (List �
 text_says of text None n h is = absurd cc
 text_says of text (Some t) n h is = ap of (sym (same_text t text (sym is))) ∙ h
 
-text_told : (pool : List Entry) (of : List ℕ → Option ℕ) → IsFirst pool of → (text : List ℕ) (o : Option (List ℕ)) (n : ℕ) → IsNumber of o n → of text ≡ Some n → is_this text o ≡ true
+text_told : (pool : List Entry) (of : List ℕ → Option ℕ) → NumbersAreIndexes pool of → (text : List ℕ) (o : Option (List ℕ)) (n : ℕ) → IsNumber of o n → of text ≡ Some n → is_this text o ≡ true
 text_told pool of first text None n h e = absurd (let none : text_at pool 0 ≡ Some text = first text 0 (e ∙ ap Some h) in cc)
 text_told pool of first text (Some t) n h e =
     let same : text ≡ t = one_text (text_at pool n) text t (first text n e) (first t n h) in
@@ -178,7 +178,7 @@ same_texts pool text i j e f = record {
 }
 
 -- members of the same texts agree
-agree : (pool : List Entry) (name descriptor : List ℕ) (a b : Member) → has_texts pool name descriptor a ≡ true → has_texts pool name descriptor b ≡ true → SameMember pool a b
+agree : (pool : List Entry) (name descriptor : List ℕ) (a b : MemberInfo) → has_texts pool name descriptor a ≡ true → has_texts pool name descriptor b ≡ true → SameMember pool a b
 agree pool name descriptor a b e f =
     let one = both (is_this descriptor (text_at pool a.descriptor_index)) (is_this name (text_at pool a.name_index)) e in
     let other = both (is_this descriptor (text_at pool b.descriptor_index)) (is_this name (text_at pool b.name_index)) f in
@@ -189,51 +189,51 @@ agree pool name descriptor a b e f =
 
 -- ---- the member to which the numbers lead
 
-module _ (pool : List Entry) (ns : Numbers) (ps : Places) (ms : List Member) (lead : Lead pool ns ps ms) (new : AreNew pool [] ms) (name descriptor : List ℕ) where
-  abbrev test : Member → Bool
+module _ (pool : List Entry) (ns : Numbers) (ps : Places) (ms : List MemberInfo) (lead : Lead pool ns ps ms) (new : AreNew pool [] ms) (name descriptor : List ℕ) where
+  abbrev test : MemberInfo → Bool
   test m = has_texts pool name descriptor m
 
-  record HasNumbers (m : Member) : Type 0 where
-    named : number_of pool ns name ≡ Some (pair_of ns m).0
-    described : number_of pool ns descriptor ≡ Some (pair_of ns m).1
+  record HasNumbers (m : MemberInfo) : Type 0 where
+    named : number_of pool ns name ≡ Some (number_pair ns m).0
+    described : number_of pool ns descriptor ≡ Some (number_pair ns m).1
 
-  noted : (i : ℕ) (m : Member) → slice_get ms i ≡ Some m → IsMemberNoted pool ns m
+  noted : (i : ℕ) (m : MemberInfo) → slice_get ms i ≡ Some m → IsMemberNoted pool ns m
   noted i m stands = all_at (IsMemberNoted pool ns) ms i m stands lead.noted.each
 
-  numbers_say : (i : ℕ) (m : Member) → slice_get ms i ≡ Some m → test m ≡ true → HasNumbers m
+  numbers_say : (i : ℕ) (m : MemberInfo) → slice_get ms i ≡ Some m → test m ≡ true → HasNumbers m
   numbers_say i m stands is =
       let b = both (is_this descriptor (text_at pool m.descriptor_index)) (is_this name (text_at pool m.name_index)) is in
       let n = noted i m stands in
       record {
-        named = text_says (number_of pool ns) name (text_at pool m.name_index) (pair_of ns m).0 n.0 b.1;
-        described = text_says (number_of pool ns) descriptor (text_at pool m.descriptor_index) (pair_of ns m).1 n.1 b.0;
+        named = text_says (number_of pool ns) name (text_at pool m.name_index) (number_pair ns m).0 n.0 b.1;
+        described = text_says (number_of pool ns) descriptor (text_at pool m.descriptor_index) (number_pair ns m).1 n.1 b.0;
       }
 
-  numbers_told : (i : ℕ) (m : Member) → slice_get ms i ≡ Some m → number_of pool ns name ≡ Some (pair_of ns m).0 → number_of pool ns descriptor ≡ Some (pair_of ns m).1 → test m ≡ true
+  numbers_told : (i : ℕ) (m : MemberInfo) → slice_get ms i ≡ Some m → number_of pool ns name ≡ Some (number_pair ns m).0 → number_of pool ns descriptor ≡ Some (number_pair ns m).1 → test m ≡ true
   numbers_told i m stands e f =
       let n = noted i m stands in
       let first = lead.noted.numbers.first in
-      let by_name : is_this name (text_at pool m.name_index) ≡ true = text_told pool (number_of pool ns) first name (text_at pool m.name_index) (pair_of ns m).0 n.0 e in
-      let by_descriptor : is_this descriptor (text_at pool m.descriptor_index) ≡ true = text_told pool (number_of pool ns) first descriptor (text_at pool m.descriptor_index) (pair_of ns m).1 n.1 f in
+      let by_name : is_this name (text_at pool m.name_index) ≡ true = text_told pool (number_of pool ns) first name (text_at pool m.name_index) (number_pair ns m).0 n.0 e in
+      let by_descriptor : is_this descriptor (text_at pool m.descriptor_index) ≡ true = text_told pool (number_of pool ns) first descriptor (text_at pool m.descriptor_index) (number_pair ns m).1 n.1 f in
       rw (by_descriptor, by_name) refl
 
   place_case : (n d : ℕ) → number_of pool ns name ≡ Some n → number_of pool ns descriptor ≡ Some d → (o : Option ℕ) → place_of ps (n, d) ≡ o → option_and_then (slice_get ms) o ≡ find test ms
   place_case n d e f None g =
       sym (find_none test ms (λ i m stands. never (test m) (λ is.
       let s = numbers_say i m stands is in
-      let pair : pair_of ns m ≡ (n, d) = pairs (pair_of ns m).0 n (pair_of ns m).1 d (some_number (number_of pool ns name) (pair_of ns m).0 n s.named e) (some_number (number_of pool ns descriptor) (pair_of ns m).1 d s.described f) in
+      let pair : number_pair ns m ≡ (n, d) = pairs (number_pair ns m).0 n (number_pair ns m).1 d (some_number (number_of pool ns name) (number_pair ns m).0 n s.named e) (some_number (number_of pool ns descriptor) (number_pair ns m).1 d s.described f) in
       none_there (place_of ps (n, d)) g (subst (λ (p : ℕ × ℕ). IsSome (place_of ps p)) pair (lead.stand.all i m (slice_get_within ms i m stands) stands)))))
   place_case n d e f (Some i) g =
       let s = lead.stand.each (n, d) i g in
       let is = numbers_told i s.member s.stands (e ∙ ap (λ (p : ℕ × ℕ). Some p.0) (sym s.pair_is)) (f ∙ ap (λ (p : ℕ × ℕ). Some p.1) (sym s.pair_is)) in
       s.stands ∙ sym (find_at pool test (agree pool name descriptor) [] ms i s.member new s.stands is)
 
-  descriptor_case : (n : ℕ) → number_of pool ns name ≡ Some n → (o : Option ℕ) → number_of pool ns descriptor ≡ o → option_and_then (λ d. member_at ps ms n d) o ≡ find test ms
-  descriptor_case n e None f = sym (find_none test ms (λ i m stands. never (test m) (λ is. no_number (number_of pool ns descriptor) (pair_of ns m).1 f (numbers_say i m stands is).described)))
+  descriptor_case : (n : ℕ) → number_of pool ns name ≡ Some n → (o : Option ℕ) → number_of pool ns descriptor ≡ o → option_and_then (λ d. member_in ps ms n d) o ≡ find test ms
+  descriptor_case n e None f = sym (find_none test ms (λ i m stands. never (test m) (λ is. no_number (number_of pool ns descriptor) (number_pair ns m).1 f (numbers_say i m stands is).described)))
   descriptor_case n e (Some d) f = place_case n d e f (place_of ps (n, d)) refl
 
-  name_case : (o : Option ℕ) → number_of pool ns name ≡ o → option_and_then (λ n. option_and_then (λ d. member_at ps ms n d) (number_of pool ns descriptor)) o ≡ find test ms
-  name_case None e = sym (find_none test ms (λ i m stands. never (test m) (λ is. no_number (number_of pool ns name) (pair_of ns m).0 e (numbers_say i m stands is).named)))
+  name_case : (o : Option ℕ) → number_of pool ns name ≡ o → option_and_then (λ n. option_and_then (λ d. member_in ps ms n d) (number_of pool ns descriptor)) o ≡ find test ms
+  name_case None e = sym (find_none test ms (λ i m stands. never (test m) (λ is. no_number (number_of pool ns name) (number_pair ns m).0 e (numbers_say i m stands is).named)))
   name_case (Some n) e = descriptor_case n e (number_of pool ns descriptor) refl
 
   pub leads : led_to pool ns ps ms name descriptor ≡ find (has_texts pool name descriptor) ms

@@ -18,7 +18,7 @@ use Rattle.cl_classfile.specs.declared.entry.Entry.TheVariants.{Utf8, Integer, F
 use Rattle.cl_classfile.specs.declared.traits.Special.{Special}
 use Rattle.cl_classfile.specs.declared.traits.Special.TheVariants as names
 use Rattle.cl_classfile.specs.declared.traits.Traits.{Traits}
-use Rattle.cl_classfile.specs.Pool.{at, HasText, HasClass, HasPair, IsNamed, NamesType, MayCall, IsPlain, MayPair, MayHandle, EntryFits, KeepsEntry}
+use Rattle.cl_classfile.specs.Pool.{at, HasText, HasClass, HasPair, IsNameAndType, NamesType, MayCall, HasPlainName, MayPair, MayHandle, EntryFits, KeepsEntry}
 use Rattle.cl_classfile.specs.Rows.{begins_angle, special_of, is_field, is_array, is_call, is_void, traits_of, nothing, entry_traits, traits_at, is_class, pair_of, pair_at, may_call, may_pair, is_plain, is_init, may_handle, keeps_entry}
 use Rattle.cl_classfile.proofs.Codec.{both}
 use Rattle.cl_names.specs.declared.kind.TheConstants.{MOST_TEXT_BYTES}
@@ -281,7 +281,7 @@ pair_told : (trait : Traits → Bool) (Kind : List ℕ → Type 0) → IsTrait t
 pair_told trait Kind t pool i h = ap (λ (o : Option Entry). trait (pair_of (map entry_traits pool) o).1) h.is_entry ∙ text_told trait Kind t pool h.descriptor h.described
 
 -- what its name is
-named : (pool : List Entry) (i : ℕ) (text : List ℕ) → IsNamed pool i text → (pair pool i).0.special ≡ special_of text
+named : (pool : List Entry) (i : ℕ) (text : List ℕ) → IsNameAndType pool i text → (pair pool i).0.special ≡ special_of text
 named pool i text n =
     ap (λ (o : Option Entry). (pair_of (map entry_traits pool) o).0.special) n.is_entry
     ∙ ap (λ (t : Traits). t.special) (traits_are pool n.name)
@@ -289,7 +289,7 @@ named pool i text n =
 
 record Name (pool : List Entry) (i : ℕ) (test : Special → Bool) : Type 0 where
   text : List ℕ
-  is_named : IsNamed pool i text
+  is_named : IsNameAndType pool i text
   passes : test (special_of text) ≡ true
 
 name_in : (test : Special → Bool) → test names.Plain ≡ false → (pool : List Entry) (i name descriptor : ℕ) → at pool i ≡ Some (NameAndType name descriptor) → (o : Option Entry) → at pool name ≡ o → test (option_traits o).special ≡ true → Name pool i test
@@ -353,25 +353,25 @@ call_name_told pool i p m =
 
 -- ---- method handles
 
-plain_says : (pool : List Entry) (i : ℕ) → is_plain (pair pool i).0.special ≡ true → IsPlain pool i
+plain_says : (pool : List Entry) (i : ℕ) → is_plain (pair pool i).0.special ≡ true → HasPlainName pool i
 plain_says pool i h = (
   λ n. differ (is_plain (pair pool i).0.special) h (ap is_plain (named pool i init n)),
   λ n. differ (is_plain (pair pool i).0.special) h (ap is_plain (named pool i clinit n)),
 )
 
-renamed : (pool : List Entry) (i : ℕ) (test : Special → Bool) (text : List ℕ) (n : Name pool i test) → n.text ≡ text → IsNamed pool i text
+renamed : (pool : List Entry) (i : ℕ) (test : Special → Bool) (text : List ℕ) (n : Name pool i test) → n.text ≡ text → IsNameAndType pool i text
 renamed pool i test text n e = record { name = n.is_named.name; descriptor = n.is_named.descriptor; is_entry = n.is_named.is_entry; named = n.is_named.named ∙ ap (λ (t : List ℕ). Some (Utf8 t)) e }
 
-plain_told : (pool : List Entry) (i : ℕ) → IsPlain pool i → (s : Special) → (pair pool i).0.special ≡ s → is_plain s ≡ true
+plain_told : (pool : List Entry) (i : ℕ) → HasPlainName pool i → (s : Special) → (pair pool i).0.special ≡ s → is_plain s ≡ true
 plain_told pool i p names.Plain e = refl
 plain_told pool i p names.Angle e = refl
 plain_told pool i p names.Init e = let n = name_says is_init refl pool i (ap is_init e) in absurd (p.0 (renamed pool i is_init init n (init_says n.text n.passes)))
 plain_told pool i p names.Clinit e = let n = name_says is_clinit refl pool i (ap is_clinit e) in absurd (p.1 (renamed pool i is_clinit clinit n (clinit_says n.text n.passes)))
 
-init_named : (pool : List Entry) (i : ℕ) → is_init (pair pool i).0.special ≡ true → IsNamed pool i init
+init_named : (pool : List Entry) (i : ℕ) → is_init (pair pool i).0.special ≡ true → IsNameAndType pool i init
 init_named pool i h = let n = name_says is_init refl pool i h in renamed pool i is_init init n (init_says n.text n.passes)
 
-init_told : (pool : List Entry) (i : ℕ) → IsNamed pool i init → is_init (pair pool i).0.special ≡ true
+init_told : (pool : List Entry) (i : ℕ) → IsNameAndType pool i init → is_init (pair pool i).0.special ≡ true
 init_told pool i n = ap is_init (named pool i init n)
 
 handle_says : (pool : List Entry) (k : ℕ) (o : Option Entry) → may_handle (map entry_traits pool) pool k o ≡ true → MayHandle pool k o

@@ -7,10 +7,10 @@ use Rattle.std.specs.Cmp.Lexicographic.{bytes_decides}
 use Rattle.std.proofs.lemmas.Bool.Decides.{same_from_decides, Decides-like, Decides-eqb}
 use Rattle.std.proofs.lemmas.List.Folds.{list_any-append}
 use Rattle.cl_classfile.specs.declared.entry.Entry.{Entry}
-use Rattle.cl_classfile.specs.Structure.{Member}
+use Rattle.cl_classfile.specs.Structure.{MemberInfo}
 use Rattle.cl_classfile.specs.Files.{text_at}
-use Rattle.cl_classfile.specs.Numbers.{IsNumber, IsFirst}
-use Rattle.cl_classfile.specs.Checking.{Key, key_of, same_key, same_member}
+use Rattle.cl_classfile.specs.Numbers.{IsNumber, NumbersAreIndexes}
+use Rattle.cl_classfile.specs.Checking.{TextKey, key_of, same_text_key, same_member}
 use Rattle.cl_classfile.specs.Seen.{pair_cmp, HasPairs}
 use Rattle.cl_classfile.specs.declared.index.Places.{Places}
 use Rattle.cl_classfile.specs.Indexes.{place_of, has_place, PutsPlace}
@@ -27,14 +27,14 @@ one_text : (o : Option (List ℕ)) (t u : List ℕ) → o ≡ Some t → o ≡ S
 one_text o t u e f = cc
 
 -- texts are the same where their numbers are
-number_tells : (pool : List Entry) (of : List ℕ → Option ℕ) → IsFirst pool of → (t u : List ℕ) (n m : ℕ) → of t ≡ Some n → of u ≡ Some m → bytes_eq t u ≡ (n == m)
+number_tells : (pool : List Entry) (of : List ℕ → Option ℕ) → NumbersAreIndexes pool of → (t u : List ℕ) (n m : ℕ) → of t ≡ Some n → of u ≡ Some m → bytes_eq t u ≡ (n == m)
 number_tells pool of first t u n m tn um =
     same_from_decides (bytes_eq t u) (n == m)
     (Decides-like (bytes_eq t u) (λ e. one_number (of u) n m (ap of (sym e) ∙ tn) um) (λ e. one_text (text_at pool m) t u (ap (text_at pool) (sym e) ∙ first t n tn) (first u m um)) (bytes_decides t u))
     (Decides-eqb n m)
 
 -- pairs that compare equal are those of the same texts
-tied : (pool : List Entry) (of : List ℕ → Option ℕ) → IsFirst pool of → (k l : Key) (n d m e : ℕ) → of k.0 ≡ Some n → of k.1 ≡ Some d → of l.0 ≡ Some m → of l.1 ≡ Some e
+tied : (pool : List Entry) (of : List ℕ → Option ℕ) → NumbersAreIndexes pool of → (k l : TextKey) (n d m e : ℕ) → of k.0 ≡ Some n → of k.1 ≡ Some d → of l.0 ≡ Some m → of l.1 ≡ Some e
     → bytes_eq k.0 l.0 && bytes_eq k.1 l.1 ≡ is_eq (pair_cmp (n, d) (m, e))
 tied pool of first k l n d m e kn kd lm le =
     both_tied (bytes_eq k.0 l.0) (bytes_eq k.1 l.1) (nat_cmp n m) (nat_cmp d e)
@@ -42,7 +42,7 @@ tied pool of first k l n d m e kn kd lm le =
     (number_tells pool of first k.1 l.1 d e kd le ∙ unsigned_ties d e)
 
 -- 0 is the number of what is no text
-no_text : (pool : List Entry) (of : List ℕ → Option ℕ) → IsFirst pool of → (o : Option (List ℕ)) (n : ℕ) → IsNumber of o n → n ≡ 0 → o ≡ None
+no_text : (pool : List Entry) (of : List ℕ → Option ℕ) → NumbersAreIndexes pool of → (o : Option (List ℕ)) (n : ℕ) → IsNumber of o n → n ≡ 0 → o ≡ None
 no_text pool of first None n h e = refl
 no_text pool of first (Some t) n h e = absurd (let none : text_at pool 0 ≡ Some t = first t 0 (h ∙ ap Some e) in cc)
 
@@ -64,11 +64,11 @@ no_key (Some t) (Some u) e = absurd cc
 -- ---- the set
 
 -- no member has the key of a member that has none
-never : (pool : List Entry) (e : Member) (o : Option Key) → key_of pool e ≡ o → same_key o None ≡ false
+never : (pool : List Entry) (e : MemberInfo) (o : Option TextKey) → key_of pool e ≡ o → same_text_key o None ≡ false
 never pool e (Some k) h = refl
 never pool e None h = refl
 
-none_like : (pool : List Entry) (before : List Member) → list_any (λ e. same_key (key_of pool e) None) before ≡ false
+none_like : (pool : List Entry) (before : List MemberInfo) → list_any (λ e. same_text_key (key_of pool e) None) before ≡ false
 none_like pool [] = refl
 none_like pool (e ∷ before) = rw (never pool e (key_of pool e) refl, none_like pool before) refl
 
@@ -79,32 +79,32 @@ choice false true = refl
 choice false false = refl
 
 -- whether a member among these has the key
-abbrev any_with : List Entry → Key → List Member → Bool
-any_with pool key ms = list_any (λ e. same_key (key_of pool e) (Some key)) ms
+abbrev any_with : List Entry → TextKey → List MemberInfo → Bool
+any_with pool key ms = list_any (λ e. same_text_key (key_of pool e) (Some key)) ms
 
 -- what the set has when a pair was put in
-put : (pool : List Entry) (of : List ℕ → Option ℕ) → IsFirst pool of → (pairs new : ℕ × ℕ → Bool) (k : Key) (n d : ℕ) → of k.0 ≡ Some n → of k.1 ≡ Some d → (m : Member) (before : List Member) → key_of pool m ≡ Some k
+put : (pool : List Entry) (of : List ℕ → Option ℕ) → NumbersAreIndexes pool of → (pairs new : ℕ × ℕ → Bool) (k : TextKey) (n d : ℕ) → of k.0 ≡ Some n → of k.1 ≡ Some d → (m : MemberInfo) (before : List MemberInfo) → key_of pool m ≡ Some k
     → HasPairs pool of pairs before → ((q : ℕ × ℕ) → new q ≡ cond (is_eq (pair_cmp (n, d) q)) true (pairs q)) → HasPairs pool of new (before ++ m ∷ [])
 put pool of first pairs new k n d kn kd m before is has updates l x y lx ly =
-    let here : same_key (key_of pool m) (Some l) ≡ is_eq (pair_cmp (n, d) (x, y)) = ap (λ (o : Option Key). same_key o (Some l)) is ∙ tied pool of first k l n d x y kn kd lx ly in
+    let here : same_text_key (key_of pool m) (Some l) ≡ is_eq (pair_cmp (n, d) (x, y)) = ap (λ (o : Option TextKey). same_text_key o (Some l)) is ∙ tied pool of first k l n d x y kn kd lx ly in
     let all : any_with pool l (before ++ m ∷ []) ≡ any_with pool l before || (is_eq (pair_cmp (n, d) (x, y)) || false) =
-    list_any-append (λ e. same_key (key_of pool e) (Some l)) before (m ∷ []) ∙ ap (λ (b : Bool). any_with pool l before || (b || false)) here in
+    list_any-append (λ e. same_text_key (key_of pool e) (Some l)) before (m ∷ []) ∙ ap (λ (b : Bool). any_with pool l before || (b || false)) here in
     updates (x, y) ∙ ap (cond (is_eq (pair_cmp (n, d) (x, y))) true) (has l x y lx ly) ∙ choice (is_eq (pair_cmp (n, d) (x, y))) (any_with pool l before) ∙ sym all
 
 -- what is known once a member was looked at
-abbrev pub IsSeen : List Entry → (List ℕ → Option ℕ) → Bool → (ℕ × ℕ → Bool) → Member → List Member → Type 0
+abbrev pub IsSeen : List Entry → (List ℕ → Option ℕ) → Bool → (ℕ × ℕ → Bool) → MemberInfo → List MemberInfo → Type 0
 IsSeen pool of added new m before = (added ≡ not (list_any (λ e. same_member pool e m) before)) × HasPairs pool of new (before ++ m ∷ [])
 
 -- a member with a key is new where the set lacks its pair
-pub with_key : (pool : List Entry) (of : List ℕ → Option ℕ) → IsFirst pool of → (pairs new : ℕ × ℕ → Bool) (n d : ℕ) (added : Bool) (m : Member) (before : List Member)
+pub with_key : (pool : List Entry) (of : List ℕ → Option ℕ) → NumbersAreIndexes pool of → (pairs new : ℕ × ℕ → Bool) (n d : ℕ) (added : Bool) (m : MemberInfo) (before : List MemberInfo)
     → IsNumber of (text_at pool m.name_index) n → IsNumber of (text_at pool m.descriptor_index) d → (n ≡ 0 → ⊥) → (d ≡ 0 → ⊥) → HasPairs pool of pairs before
     → added ≡ not (pairs (n, d)) → ((q : ℕ × ℕ) → new q ≡ cond (is_eq (pair_cmp (n, d) q)) true (pairs q)) → IsSeen pool of added new m before
 with_key pool of first pairs new n d added m before is_n is_d some_n some_d has e updates =
     let name = some_text of (text_at pool m.name_index) n is_n some_n in
     let descriptor = some_text of (text_at pool m.descriptor_index) d is_d some_d in
-    let k : Key = (name.text, descriptor.text) in
+    let k : TextKey = (name.text, descriptor.text) in
     let is : key_of pool m ≡ Some k = ap (λ (o : Option (List ℕ)). option_zip o (text_at pool m.descriptor_index)) name.is ∙ ap (option_zip (Some name.text)) descriptor.is in (
-      e ∙ ap not (has k n d name.number descriptor.number) ∙ ap (λ (o : Option Key). not (list_any (λ e. same_key (key_of pool e) o) before)) (sym is),
+      e ∙ ap not (has k n d name.number descriptor.number) ∙ ap (λ (o : Option TextKey). not (list_any (λ e. same_text_key (key_of pool e) o) before)) (sym is),
       put pool of first pairs new k n d name.number descriptor.number m before is has updates,
     )
 
@@ -116,19 +116,19 @@ or_false false = refl
 other_pair : (p q : ℕ × ℕ) → is_eq (pair_cmp p q) ≡ false → (x y : Bool) → x ≡ cond (is_eq (pair_cmp p q)) true y → x ≡ y
 other_pair p q none x y e = e ∙ ap (λ (b : Bool). cond b true y) none
 
-passed : (pool : List Entry) (of : List ℕ → Option ℕ) (pairs new : ℕ × ℕ → Bool) (p : ℕ × ℕ) (m : Member) (before : List Member) → key_of pool m ≡ None
-    → ((l : Key) (x y : ℕ) → of l.0 ≡ Some x → of l.1 ≡ Some y → is_eq (pair_cmp p (x, y)) ≡ false) → HasPairs pool of pairs before
+passed : (pool : List Entry) (of : List ℕ → Option ℕ) (pairs new : ℕ × ℕ → Bool) (p : ℕ × ℕ) (m : MemberInfo) (before : List MemberInfo) → key_of pool m ≡ None
+    → ((l : TextKey) (x y : ℕ) → of l.0 ≡ Some x → of l.1 ≡ Some y → is_eq (pair_cmp p (x, y)) ≡ false) → HasPairs pool of pairs before
     → ((q : ℕ × ℕ) → new q ≡ cond (is_eq (pair_cmp p q)) true (pairs q)) → IsSeen pool of true new m before
 passed pool of pairs new p m before is none has updates = (
-  ap not (sym (none_like pool before)) ∙ ap (λ (o : Option Key). not (list_any (λ e. same_key (key_of pool e) o) before)) (sym is),
+  ap not (sym (none_like pool before)) ∙ ap (λ (o : Option TextKey). not (list_any (λ e. same_text_key (key_of pool e) o) before)) (sym is),
   λ l x y lx ly.
       let all : any_with pool l (before ++ m ∷ []) ≡ any_with pool l before || (false || false) =
-      list_any-append (λ e. same_key (key_of pool e) (Some l)) before (m ∷ []) ∙ ap (λ (o : Option Key). any_with pool l before || (same_key o (Some l) || false)) is in
+      list_any-append (λ e. same_text_key (key_of pool e) (Some l)) before (m ∷ []) ∙ ap (λ (o : Option TextKey). any_with pool l before || (same_text_key o (Some l) || false)) is in
       other_pair p (x, y) (none l x y lx ly) (new (x, y)) (pairs (x, y)) (updates (x, y)) ∙ has l x y lx ly ∙ sym (all ∙ or_false (any_with pool l before)),
 )
 
 -- no text has the number 0
-no_zero : (pool : List Entry) (of : List ℕ → Option ℕ) → IsFirst pool of → (t : List ℕ) (n x : ℕ) → n ≡ 0 → of t ≡ Some x → (b : Bool) → (n == x) ≡ b → b ≡ false
+no_zero : (pool : List Entry) (of : List ℕ → Option ℕ) → NumbersAreIndexes pool of → (t : List ℕ) (n x : ℕ) → n ≡ 0 → of t ≡ Some x → (b : Bool) → (n == x) ≡ b → b ≡ false
 no_zero pool of first t n x zero_is e false f = refl
 no_zero pool of first t n x zero_is e true f = absurd (
     let one : n ≡ x = eqb-true n x f in
@@ -146,13 +146,13 @@ other_descriptor : (n d x y : ℕ) → (d == y) ≡ false → is_eq (pair_cmp (n
 other_descriptor n d x y e = sym (both_tied (n == x) (d == y) (nat_cmp n x) (nat_cmp d y) (unsigned_ties n x) (unsigned_ties d y)) ∙ last_false (n == x) (d == y) e
 
 -- a member without a key is new, and changes nothing
-pub without_name : (pool : List Entry) (of : List ℕ → Option ℕ) → IsFirst pool of → (pairs new : ℕ × ℕ → Bool) (n d : ℕ) (m : Member) (before : List Member)
+pub without_name : (pool : List Entry) (of : List ℕ → Option ℕ) → NumbersAreIndexes pool of → (pairs new : ℕ × ℕ → Bool) (n d : ℕ) (m : MemberInfo) (before : List MemberInfo)
     → IsNumber of (text_at pool m.name_index) n → n ≡ 0 → HasPairs pool of pairs before → ((q : ℕ × ℕ) → new q ≡ cond (is_eq (pair_cmp (n, d) q)) true (pairs q)) → IsSeen pool of true new m before
 without_name pool of first pairs new n d m before is_n none has =
     passed pool of pairs new (n, d) m before (ap (λ (o : Option (List ℕ)). option_zip o (text_at pool m.descriptor_index)) (no_text pool of first (text_at pool m.name_index) n is_n none))
     (λ l x y lx ly. other_name n d x y (no_zero pool of first l.0 n x none lx (n == x) refl)) has
 
-pub without_descriptor : (pool : List Entry) (of : List ℕ → Option ℕ) → IsFirst pool of → (pairs new : ℕ × ℕ → Bool) (n d : ℕ) (m : Member) (before : List Member)
+pub without_descriptor : (pool : List Entry) (of : List ℕ → Option ℕ) → NumbersAreIndexes pool of → (pairs new : ℕ × ℕ → Bool) (n d : ℕ) (m : MemberInfo) (before : List MemberInfo)
     → IsNumber of (text_at pool m.descriptor_index) d → d ≡ 0 → HasPairs pool of pairs before → ((q : ℕ × ℕ) → new q ≡ cond (is_eq (pair_cmp (n, d) q)) true (pairs q)) → IsSeen pool of true new m before
 without_descriptor pool of first pairs new n d m before is_d none has =
     passed pool of pairs new (n, d) m before (no_key (text_at pool m.name_index) (text_at pool m.descriptor_index) (no_text pool of first (text_at pool m.descriptor_index) d is_d none))
@@ -179,7 +179,7 @@ placed old new pair i puts q = ap is_some (puts q) ∙ choose (is_eq (pair_cmp p
     choose false = refl
 
 -- what is known once a member was placed, of whatever numbers
-pub is_seen : (pool : List Entry) (of : List ℕ → Option ℕ) → IsFirst pool of → (pairs new : ℕ × ℕ → Bool) (n d : ℕ) (first : Bool) (m : Member) (before : List Member)
+pub is_seen : (pool : List Entry) (of : List ℕ → Option ℕ) → NumbersAreIndexes pool of → (pairs new : ℕ × ℕ → Bool) (n d : ℕ) (first : Bool) (m : MemberInfo) (before : List MemberInfo)
     → IsNumber of (text_at pool m.name_index) n → IsNumber of (text_at pool m.descriptor_index) d → HasPairs pool of pairs before
     → first ≡ not (pairs (n, d)) → ((q : ℕ × ℕ) → new q ≡ cond (is_eq (pair_cmp (n, d) q)) true (pairs q))
     → (a b : Bool) → (n == 0) ≡ a → (d == 0) ≡ b → IsSeen pool of ((a || b) || first) new m before

@@ -6,7 +6,7 @@ use Rattle.cl_descriptors.specs.declared.types.Descriptor.TheVariants as descrip
 use Rattle.cl_descriptors.specs.Reading.{whole_field, whole_method}
 use Rattle.cl_descriptors.proofs.Methods.{whole_field_again, whole_method_again}
 use Rattle.cl_classfile.specs.declared.entry.Entry.{Entry}
-use Rattle.cl_classfile.specs.Structure.{Structure, Member, IsClassFile}
+use Rattle.cl_classfile.specs.Structure.{Structure, MemberInfo, IsClassFile}
 use Rattle.cl_classfile.specs.declared.numbers.Numbers.{Numbers}
 use Rattle.cl_classfile.specs.declared.index.Places.{Places}
 use Rattle.cl_classfile.specs.Indexes.{Lead, led_to}
@@ -19,7 +19,7 @@ use Rattle.cl_classfile.proofs.KeyTexts.{Reads, reads_fields, reads_methods}
 use Rattle.cl_classfile.proofs.Indexes.{leads}
 
 -- a member's texts, and the key that they are
-record IsKeyed (read : Name → Name → Option Key) (pool : List Entry) (m : Member) : Type 0 where
+record IsKeyed (read : Name → Name → Option Key) (pool : List Entry) (m : MemberInfo) : Type 0 where
   name : Name
   descriptor : Name
   key : Key
@@ -38,50 +38,50 @@ no_both false b e = refl
 no_both true b e = absurd cc
 
 module _ (read : Name → Name → Option Key) (reads : Reads read) (pool : List Entry) (name descriptor : Name) where
-  declared_is : (m : Member) (k : IsKeyed read pool m) → declared_by read pool m ≡ Some (record { flags = m.flags; key = k.key })
+  declared_is : (m : MemberInfo) (k : IsKeyed read pool m) → declared_by read pool m ≡ Some (record { flags = m.flags; key = k.key })
   declared_is m k = rw (k.named, k.described, k.read_is) refl
 
-  test_is : (m : Member) (k : IsKeyed read pool m) (key : Key) → read name descriptor ≡ Some key → has_texts pool name descriptor m ≡ same_key k.key key
+  test_is : (m : MemberInfo) (k : IsKeyed read pool m) (key : Key) → read name descriptor ≡ Some key → has_texts pool name descriptor m ≡ same_key k.key key
   test_is m k key e =
       let texts : has_texts pool name descriptor m ≡ same_name k.descriptor descriptor && same_name k.name name = rw (k.named, k.described) refl in
       texts ∙ swap (same_name k.descriptor descriptor) (same_name k.name name) ∙ sym (reads.same k.name k.descriptor name descriptor k.key key k.read_is e)
 
-  test_none : (m : Member) (k : IsKeyed read pool m) → read name descriptor ≡ None → has_texts pool name descriptor m ≡ false
+  test_none : (m : MemberInfo) (k : IsKeyed read pool m) → read name descriptor ≡ None → has_texts pool name descriptor m ≡ false
   test_none m k e =
       let texts : has_texts pool name descriptor m ≡ same_name k.descriptor descriptor && same_name k.name name = rw (k.named, k.described) refl in
       texts ∙ no_both (same_name k.descriptor descriptor) (same_name k.name name) (reads.other k.name k.descriptor name descriptor k.key k.read_is e)
 
-  abbrev found : List Member → Option (Option files.Member)
+  abbrev found : List MemberInfo → Option (Option files.Member)
   found ms = option_map (declared_by read pool) (find (has_texts pool name descriptor) ms)
 
-  abbrev meant : Option Key → List Member → Option (Option files.Member)
+  abbrev meant : Option Key → List MemberInfo → Option (Option files.Member)
   meant o ms = option_map (λ m. Some m) (option_and_then (member (filter_map (declared_by read pool) ms)) o)
 
-  one_more : (m : Member) (k : IsKeyed read pool m) (key : Key) (ms : List Member) (b : Bool) → has_texts pool name descriptor m ≡ b → same_key k.key key ≡ b
+  one_more : (m : MemberInfo) (k : IsKeyed read pool m) (key : Key) (ms : List MemberInfo) (b : Bool) → has_texts pool name descriptor m ≡ b → same_key k.key key ≡ b
       → found ms ≡ meant (Some key) ms → found (m ∷ ms) ≡ meant (Some key) (m ∷ ms)
   one_more m k key ms true t e others = rw (t, declared_is m k, e) refl
   one_more m k key ms false t e others = rw (t, declared_is m k, e) others
 
-  none_more : (m : Member) (ms : List Member) → has_texts pool name descriptor m ≡ false → found ms ≡ None → found (m ∷ ms) ≡ None
+  none_more : (m : MemberInfo) (ms : List MemberInfo) → has_texts pool name descriptor m ≡ false → found ms ≡ None → found (m ∷ ms) ≡ None
   none_more m ms t others = rw t others
 
-  found_is : (key : Key) → read name descriptor ≡ Some key → (ms : List Member) → AllByRecursion (IsKeyed read pool) ms → found ms ≡ meant (Some key) ms
+  found_is : (key : Key) → read name descriptor ≡ Some key → (ms : List MemberInfo) → AllByRecursion (IsKeyed read pool) ms → found ms ≡ meant (Some key) ms
   found_is key e [] all = refl
   found_is key e (m ∷ ms) all =
       let t : has_texts pool name descriptor m ≡ same_key all.0.key key = test_is m all.0 key e in
       one_more m all.0 key ms (same_key all.0.key key) t refl (found_is key e ms all.1)
 
-  none_is : read name descriptor ≡ None → (ms : List Member) → AllByRecursion (IsKeyed read pool) ms → found ms ≡ None
+  none_is : read name descriptor ≡ None → (ms : List MemberInfo) → AllByRecursion (IsKeyed read pool) ms → found ms ≡ None
   none_is e [] all = refl
   none_is e (m ∷ ms) all = none_more m ms (test_none m all.0 e) (none_is e ms all.1)
 
-  either_is : (o : Option Key) → read name descriptor ≡ o → (ms : List Member) → AllByRecursion (IsKeyed read pool) ms → found ms ≡ meant o ms
+  either_is : (o : Option Key) → read name descriptor ≡ o → (ms : List MemberInfo) → AllByRecursion (IsKeyed read pool) ms → found ms ≡ meant o ms
   either_is (Some key) e ms all = found_is key e ms all
   either_is None e ms all = none_is e ms all
 
 -- ---- the members of a class file
 
-field_keyed : (pool : List Entry) (b : Bool) (m : Member) → KeepsField pool b m → IsKeyed field_of pool m
+field_keyed : (pool : List Entry) (b : Bool) (m : MemberInfo) → KeepsField pool b m → IsKeyed field_of pool m
 field_keyed pool b m k =
     let read : whole_field k.descriptor.text ≡ Some k.descriptor.kind.0 = whole_field_again k.descriptor.text k.descriptor.kind.0 k.descriptor.kind.1 in
     record {
@@ -93,7 +93,7 @@ field_keyed pool b m k =
       read_is = rw read refl;
     }
 
-method_keyed : (pool : List Entry) (b : Bool) (m : Member) → KeepsMethod pool b m → IsKeyed method_of pool m
+method_keyed : (pool : List Entry) (b : Bool) (m : MemberInfo) → KeepsMethod pool b m → IsKeyed method_of pool m
 method_keyed pool b m k =
     let read : whole_method k.descriptor.text ≡ Some k.descriptor.kind.0 = whole_method_again k.descriptor.text k.descriptor.kind.0 k.descriptor.kind.1 in
     record {
@@ -105,7 +105,7 @@ method_keyed pool b m k =
       read_is = rw read refl;
     }
 
-each : {P Q : Member → Type 0} → ((m : Member) → P m → Q m) → (ms : List Member) → AllByRecursion P ms → AllByRecursion Q ms
+each : {P Q : MemberInfo → Type 0} → ((m : MemberInfo) → P m → Q m) → (ms : List MemberInfo) → AllByRecursion P ms → AllByRecursion Q ms
 each f [] all = tt
 each f (m ∷ ms) all = (f m all.0, each f ms all.1)
 
@@ -128,13 +128,13 @@ map_after : {A B C : Type 0} (f : A → B) (g : B → C) (o : Option A) (r : Opt
 map_after f g None r e = ap (option_map g) e
 map_after f g (Some a) r e = ap (option_map g) e
 
-module _ {A B : Type 0} (now : A → Member) (g : Member → B) (pool : List Entry) (ms shown : List Member) (same : shown ≡ ms) (name descriptor : Name) (r : Option A) where
+module _ {A B : Type 0} (now : A → MemberInfo) (g : MemberInfo → B) (pool : List Entry) (ms shown : List MemberInfo) (same : shown ≡ ms) (name descriptor : Name) (r : Option A) where
   abbrev IsFound : Type 0
   IsFound = option_map (λ m. g (now m)) r ≡ option_map g (find (has_texts pool name descriptor) ms)
 
   pub by_index : (from : List Entry) → from ≡ pool → (ns : Numbers) (ps : Places) → Lead pool ns ps ms → AreNew pool [] ms → option_map now r ≡ led_to from ns ps shown name descriptor → IsFound
   by_index from pools ns ps lead new e =
-      map_after now g r _ (e ∙ ap (λ (es : List Entry). led_to es ns ps shown name descriptor) pools ∙ ap (λ (it : List Member). led_to pool ns ps it name descriptor) same ∙ leads pool ns ps ms lead new name descriptor)
+      map_after now g r _ (e ∙ ap (λ (es : List Entry). led_to es ns ps shown name descriptor) pools ∙ ap (λ (it : List MemberInfo). led_to pool ns ps it name descriptor) same ∙ leads pool ns ps ms lead new name descriptor)
 
   pub by_look : (from : List Entry) → from ≡ pool → option_map now r ≡ find (has_texts from name descriptor) shown → IsFound
   by_look from pools e =

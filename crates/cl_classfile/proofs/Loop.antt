@@ -5,7 +5,7 @@ use Rattle.cl_classfile.specs.declared.fault.Fault.{Fault}
 use Rattle.cl_classfile.specs.declared.fault.ReadError.{ReadError}
 use Rattle.cl_classfile.specs.declared.fault.ReadError.TheVariants as errors
 use Rattle.cl_names.specs.Steps.{◌>>=◌}
-use Rattle.cl_classfile.specs.Checking.{Fails}
+use Rattle.cl_classfile.specs.Checking.{GivesFault}
 use Rattle.cl_classfile.specs.Reading.{Reader, many_at, each_at}
 
 -- what was read before, and what is still read
@@ -62,7 +62,7 @@ all_end r f front count i bytes total lt h so_far = ends {C = ℕ} (λ i. r) (λ
 pub all_done : {A : Type 0} (r : Reader A) (front : List A) (count i : ℕ) (bytes : List ℕ) (total : Result (List A × List ℕ) Fault) → count ≤ i → with_front front (each_at r (count - i) bytes) ≡ total → total ≡ Ok (front, bytes)
 all_done r front count i bytes total le so_far = is_done {C = ℕ} (λ i. r) (λ i a. i) front count i 0 bytes total le so_far
 
-pub all_fail : {A : Type 0} (r : Reader A) (e : ReadError) (front : List A) (count i : ℕ) (bytes : List ℕ) (total : Result (List A × List ℕ) Fault) → i < count → Fails e (r bytes)
-    → with_front front (each_at r (count - i) bytes) ≡ total → Fails e total
+pub all_fail : {A : Type 0} (r : Reader A) (e : ReadError) (front : List A) (count i : ℕ) (bytes : List ℕ) (total : Result (List A × List ℕ) Fault) → i < count → GivesFault e (r bytes)
+    → with_front front (each_at r (count - i) bytes) ≡ total → GivesFault e total
 all_fail r errors.Memory front count i bytes total lt h so_far = tt
 all_fail r (errors.Fault f) front count i bytes total lt h so_far = all_end r f front count i bytes total lt h so_far

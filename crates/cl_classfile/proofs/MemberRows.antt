@@ -21,11 +21,11 @@ use Rattle.cl_classfile.specs.declared.traits.Special.TheVariants as names
 use Rattle.cl_classfile.specs.declared.traits.Traits.{Traits}
 use Rattle.cl_classfile.specs.Flags.{has, static, is_field_flags, is_method_flags, is_init_flags}
 use Rattle.cl_classfile.specs.Pool.{at, IsText, HasText}
-use Rattle.cl_classfile.specs.Members.{Member, AllFit, MemberFits, KeepsField, TakesUnits, KeepsMethod, SameMember, AreNew, KeepMembers}
+use Rattle.cl_classfile.specs.Members.{MemberInfo, AllFit, MemberFits, KeepsField, TakesUnits, KeepsMethod, SameMember, AreNew, KeepMembers}
 use Rattle.cl_classfile.specs.Widths.{is_short, member_fits}
 use Rattle.cl_classfile.specs.Rows.{special_of, is_field, is_init, entry_traits, traits_at}
 use Rattle.cl_classfile.specs.Files.{text_of, text_at}
-use Rattle.cl_classfile.specs.Checking.{keeps_field, has_room, keeps_method_flags, keeps_method, Key, key_of, same_key, same_member, checked_members, keeps_member, checked_list}
+use Rattle.cl_classfile.specs.Checking.{keeps_field, has_room, keeps_method_flags, keeps_method, TextKey, key_of, same_text_key, same_member, checked_members, keeps_member, checked_list}
 use Rattle.cl_classfile.proofs.Codec.{both}
 use Rattle.cl_classfile.proofs.Judging.{tests, differ, all, IsTrait, field, unqualified, method, option_traits, traits_are, text_says, text_told, is_clinit, init_says, clinit_says}
 use Rattle.cl_classfile.proofs.Fitting.{short_tells, choice_ok, member_tells}
@@ -56,10 +56,10 @@ room of_class = record { never = refl; says = λ text. room_says of_class text (
 abbrev traits : List Entry → ℕ → Traits
 traits pool i = traits_at (map entry_traits pool) i
 
-abbrev keeps_fields : List Entry → Bool → Member → Bool
+abbrev keeps_fields : List Entry → Bool → MemberInfo → Bool
 keeps_fields pool of_interface m = keeps_field (map entry_traits pool) of_interface m
 
-field_says : (pool : List Entry) (of_interface : Bool) (m : Member) → keeps_fields pool of_interface m ≡ true → KeepsField pool of_interface m
+field_says : (pool : List Entry) (of_interface : Bool) (m : MemberInfo) → keeps_fields pool of_interface m ≡ true → KeepsField pool of_interface m
 field_says pool of_interface m h =
     let name = (traits pool m.name_index).unqualified in
     let form = is_field (traits pool m.descriptor_index).form in
@@ -71,7 +71,7 @@ field_says pool of_interface m h =
       descriptor = text_says (λ t. is_field t.form) IsFieldDescriptor field pool m.descriptor_index a.1;
     }
 
-field_told : (pool : List Entry) (of_interface : Bool) (m : Member) → KeepsField pool of_interface m → keeps_fields pool of_interface m ≡ true
+field_told : (pool : List Entry) (of_interface : Bool) (m : MemberInfo) → KeepsField pool of_interface m → keeps_fields pool of_interface m ≡ true
 field_told pool of_interface m k =
     all _ _
     (all _ _ k.flags (text_told (λ t. t.unqualified) (IsNameOf IsUnqualified) unqualified pool m.name_index k.name))
@@ -108,10 +108,10 @@ flags_told names.Init of_interface flags p q = all (is_method_flags of_interface
 flags_told names.Clinit of_interface flags p q = refl
 flags_told names.Angle of_interface flags p q = p refl
 
-abbrev keeps_methods : List Entry → Bool → Member → Bool
+abbrev keeps_methods : List Entry → Bool → MemberInfo → Bool
 keeps_methods pool of_interface m = keeps_method (map entry_traits pool) of_interface m
 
-method_says : (pool : List Entry) (of_interface : Bool) (m : Member) → keeps_methods pool of_interface m ≡ true → KeepsMethod pool of_interface m
+method_says : (pool : List Entry) (of_interface : Bool) (m : MemberInfo) → keeps_methods pool of_interface m ≡ true → KeepsMethod pool of_interface m
 method_says pool of_interface m h =
     let name = traits pool m.name_index in
     let flags = keeps_method_flags name.special of_interface m.flags in
@@ -129,7 +129,7 @@ method_says pool of_interface m h =
       descriptor = text_says (λ t. has_room (has m.flags static) t.units) (TakesUnits (has m.flags static)) (room (has m.flags static)) pool m.descriptor_index a.1;
     }
 
-method_told : (pool : List Entry) (of_interface : Bool) (m : Member) → KeepsMethod pool of_interface m → keeps_methods pool of_interface m ≡ true
+method_told : (pool : List Entry) (of_interface : Bool) (m : MemberInfo) → KeepsMethod pool of_interface m → keeps_methods pool of_interface m ≡ true
 method_told pool of_interface m k =
     let name = traits pool m.name_index in
     let flags : keeps_method_flags name.special of_interface m.flags ≡ true = flags_told name.special of_interface m.flags
@@ -150,25 +150,25 @@ reflexive [] = refl
 reflexive (b ∷ bytes) = all (eqb b b) (bytes_eq bytes bytes) (eq-eqb b b refl) (reflexive bytes)
 
 -- a key is that of two texts
-both_are : (o p : Option (List ℕ)) (k : Key) → option_zip o p ≡ Some k → (o ≡ Some k.0) × (p ≡ Some k.1)
-both_are (Some a) (Some b) k e = let same : (let x : Key = (a, b) in x) ≡ k = cc in (ap (λ (x : Key). Some x.0) same, ap (λ (x : Key). Some x.1) same)
+both_are : (o p : Option (List ℕ)) (k : TextKey) → option_zip o p ≡ Some k → (o ≡ Some k.0) × (p ≡ Some k.1)
+both_are (Some a) (Some b) k e = let same : (let x : TextKey = (a, b) in x) ≡ k = cc in (ap (λ (x : TextKey). Some x.0) same, ap (λ (x : TextKey). Some x.1) same)
 both_are (Some a) None k e = absurd cc
 both_are None p k e = absurd cc
 
-record HasKey (pool : List Entry) (m : Member) (k : Key) : Type 0 where
+record HasKey (pool : List Entry) (m : MemberInfo) (k : TextKey) : Type 0 where
   name : IsText pool m.name_index k.0
   descriptor : IsText pool m.descriptor_index k.1
 
-key_says : (pool : List Entry) (m : Member) (k : Key) → key_of pool m ≡ Some k → HasKey pool m k
+key_says : (pool : List Entry) (m : MemberInfo) (k : TextKey) → key_of pool m ≡ Some k → HasKey pool m k
 key_says pool m k e =
     let b = both_are (text_at pool m.name_index) (text_at pool m.descriptor_index) k e in
     record { name = named_text (at pool m.name_index) k.0 b.0; descriptor = named_text (at pool m.descriptor_index) k.1 b.1 }
 
-key_told : (pool : List Entry) (m : Member) (name descriptor : List ℕ) → IsText pool m.name_index name → IsText pool m.descriptor_index descriptor → key_of pool m ≡ Some (name, descriptor)
+key_told : (pool : List Entry) (m : MemberInfo) (name descriptor : List ℕ) → IsText pool m.name_index name → IsText pool m.descriptor_index descriptor → key_of pool m ≡ Some (name, descriptor)
 key_told pool m name descriptor n d =
     ap (λ (o : Option Entry). option_zip (text_of o) (text_at pool m.descriptor_index)) n ∙ ap (λ (o : Option Entry). option_zip (Some name) (text_of o)) d
 
-same_by : (pool : List Entry) (a b : Member) (o p : Option Key) → key_of pool a ≡ o → key_of pool b ≡ p → same_key o p ≡ true → SameMember pool a b
+same_by : (pool : List Entry) (a b : MemberInfo) (o p : Option TextKey) → key_of pool a ≡ o → key_of pool b ≡ p → same_text_key o p ≡ true → SameMember pool a b
 same_by pool a b (Some k) (Some l) e f h =
     let t = both (bytes_eq k.0 l.0) (bytes_eq k.1 l.1) h in
     let first = key_says pool a k e in
@@ -182,27 +182,27 @@ same_by pool a b (Some k) (Some l) e f h =
 same_by pool a b (Some k) None e f h = absurd cc
 same_by pool a b None p e f h = absurd cc
 
-same_says : (pool : List Entry) (a b : Member) → same_member pool a b ≡ true → SameMember pool a b
+same_says : (pool : List Entry) (a b : MemberInfo) → same_member pool a b ≡ true → SameMember pool a b
 same_says pool a b h = same_by pool a b (key_of pool a) (key_of pool b) refl refl h
 
-same_told : (pool : List Entry) (a b : Member) → SameMember pool a b → same_member pool a b ≡ true
+same_told : (pool : List Entry) (a b : MemberInfo) → SameMember pool a b → same_member pool a b ≡ true
 same_told pool a b s =
-    let k : Key = (s.name.text, s.descriptor.text) in
-    ap (λ (o : Option Key). same_key o (key_of pool b)) (key_told pool a s.name.text s.descriptor.text s.name.first s.descriptor.first)
-    ∙ ap (λ (o : Option Key). same_key (Some k) o) (key_told pool b s.name.text s.descriptor.text s.name.second s.descriptor.second)
+    let k : TextKey = (s.name.text, s.descriptor.text) in
+    ap (λ (o : Option TextKey). same_text_key o (key_of pool b)) (key_told pool a s.name.text s.descriptor.text s.name.first s.descriptor.first)
+    ∙ ap (λ (o : Option TextKey). same_text_key (Some k) o) (key_told pool b s.name.text s.descriptor.text s.name.second s.descriptor.second)
     ∙ all (bytes_eq k.0 k.0) (bytes_eq k.1 k.1) (reflexive k.0) (reflexive k.1)
 
 neither : (a b : Bool) → a || b ≡ false → (a ≡ false) × (b ≡ false)
 neither true b h = absurd cc
 neither false b h = (refl, h)
 
-none_says : (pool : List Entry) (m : Member) (before : List Member) → list_any (λ e. same_member pool e m) before ≡ false → AllByRecursion (λ e. SameMember pool e m → ⊥) before
+none_says : (pool : List Entry) (m : MemberInfo) (before : List MemberInfo) → list_any (λ e. same_member pool e m) before ≡ false → AllByRecursion (λ e. SameMember pool e m → ⊥) before
 none_says pool m [] h = tt
 none_says pool m (e ∷ before) h =
     let k = neither (same_member pool e m) (list_any (λ e. same_member pool e m) before) h in
     (λ s. differ (same_member pool e m) (same_told pool e m s) k.0, none_says pool m before k.1)
 
-none_told : (pool : List Entry) (m : Member) (before : List Member) → AllByRecursion (λ e. SameMember pool e m → ⊥) before → list_any (λ e. same_member pool e m) before ≡ false
+none_told : (pool : List Entry) (m : MemberInfo) (before : List MemberInfo) → AllByRecursion (λ e. SameMember pool e m → ⊥) before → list_any (λ e. same_member pool e m) before ≡ false
 none_told pool m [] h = refl
 none_told pool m (e ∷ before) h =
     elim (tests (same_member pool e m)) [
@@ -217,7 +217,7 @@ kept_ok true true rest u h = absurd cc
 kept_ok true false rest u h = (refl, refl, h)
 kept_ok false among rest u h = absurd cc
 
-each_says : (keeps : Member → Bool) (Keeps : Member → Type 0) → ((m : Member) → keeps m ≡ true → Keeps m) → (pool : List Entry) (before ms : List Member) (u : Unit {0})
+each_says : (keeps : MemberInfo → Bool) (Keeps : MemberInfo → Type 0) → ((m : MemberInfo) → keeps m ≡ true → Keeps m) → (pool : List Entry) (before ms : List MemberInfo) (u : Unit {0})
     → checked_members keeps pool before ms ≡ Ok u → AllByRecursion Keeps ms × AreNew pool before ms
 unfolding checked_members
 each_says keeps Keeps says pool before [] u h = (tt, tt)
@@ -226,26 +226,26 @@ each_says keeps Keeps says pool before (m ∷ ms) u h =
     let others = each_says keeps Keeps says pool (before ++ m ∷ []) ms u k.2 in
     ((says m k.0, others.0), (none_says pool m before k.1, others.1))
 
-each_told : (keeps : Member → Bool) (Keeps : Member → Type 0) → ((m : Member) → Keeps m → keeps m ≡ true) → (pool : List Entry) (before ms : List Member)
+each_told : (keeps : MemberInfo → Bool) (Keeps : MemberInfo → Type 0) → ((m : MemberInfo) → Keeps m → keeps m ≡ true) → (pool : List Entry) (before ms : List MemberInfo)
     → AllByRecursion Keeps ms → AreNew pool before ms → checked_members keeps pool before ms ≡ Ok tt
 unfolding checked_members
 each_told keeps Keeps told pool before [] h new = refl
 each_told keeps Keeps told pool before (m ∷ ms) h new = rw (told m h.0, none_told pool m before new.0, each_told keeps Keeps told pool (before ++ m ∷ []) ms h.1 new.1) refl
 
-both_of : (A B : Member → Type 0) (ms : List Member) → AllByRecursion (λ m. A m × B m) ms → AllByRecursion A ms × AllByRecursion B ms
+both_of : (A B : MemberInfo → Type 0) (ms : List MemberInfo) → AllByRecursion (λ m. A m × B m) ms → AllByRecursion A ms × AllByRecursion B ms
 both_of A B [] h = (tt, tt)
 both_of A B (m ∷ ms) h = let others = both_of A B ms h.1 in ((h.0.0, others.0), (h.0.1, others.1))
 
-of_both : (A B : Member → Type 0) (ms : List Member) → AllByRecursion A ms → AllByRecursion B ms → AllByRecursion (λ m. A m × B m) ms
+of_both : (A B : MemberInfo → Type 0) (ms : List MemberInfo) → AllByRecursion A ms → AllByRecursion B ms → AllByRecursion (λ m. A m × B m) ms
 of_both A B [] p q = tt
 of_both A B (m ∷ ms) p q = ((p.0, q.0), of_both A B ms p.1 q.1)
 
 -- a list of members that passed the tests
-pub record IsList (Keeps : Member → Type 0) (pool : List Entry) (ms : List Member) : Type 0 where
+pub record IsList (Keeps : MemberInfo → Type 0) (pool : List Entry) (ms : List MemberInfo) : Type 0 where
   pub fits : AllFit MemberFits ms
   pub kept : KeepMembers Keeps pool ms
 
-list_says : (kind : Kind) (of_interface : Bool) (pool : List Entry) (Keeps : Member → Type 0) → ((m : Member) → keeps_member kind (map entry_traits pool) of_interface m ≡ true → MemberFits m × Keeps m) → (ms : List Member) (u : Unit {0})
+list_says : (kind : Kind) (of_interface : Bool) (pool : List Entry) (Keeps : MemberInfo → Type 0) → ((m : MemberInfo) → keeps_member kind (map entry_traits pool) of_interface m ≡ true → MemberFits m × Keeps m) → (ms : List MemberInfo) (u : Unit {0})
     → checked_list kind (map entry_traits pool) of_interface pool ms ≡ Ok u → IsList Keeps pool ms
 unfolding checked_list
 list_says kind of_interface pool Keeps says ms u h =
@@ -255,67 +255,67 @@ list_says kind of_interface pool Keeps says ms u h =
     let parts = both_of MemberFits Keeps ms each.0 in
     record { fits = (ltb-true (length ms) (2 ^ 16) k.0, parts.0); kept = record { each = parts.1; new = each.1 } }
 
-list_told : (kind : Kind) (of_interface : Bool) (pool : List Entry) (Keeps : Member → Type 0) → ((m : Member) → MemberFits m × Keeps m → keeps_member kind (map entry_traits pool) of_interface m ≡ true) → (ms : List Member)
+list_told : (kind : Kind) (of_interface : Bool) (pool : List Entry) (Keeps : MemberInfo → Type 0) → ((m : MemberInfo) → MemberFits m × Keeps m → keeps_member kind (map entry_traits pool) of_interface m ≡ true) → (ms : List MemberInfo)
     → AllFit MemberFits ms → KeepMembers Keeps pool ms → checked_list kind (map entry_traits pool) of_interface pool ms ≡ Ok tt
 unfolding checked_list
 list_told kind of_interface pool Keeps told ms fits kept =
     let keeps = keeps_member kind (map entry_traits pool) of_interface in
     rw ((short_tells (length ms)).1 fits.0) (each_told keeps (λ m. MemberFits m × Keeps m) told pool [] ms (of_both MemberFits Keeps ms fits.1 kept.each) kept.new)
 
-pub fields_say : (pool : List Entry) (of_interface : Bool) (ms : List Member) (u : Unit {0}) → checked_list kinds.Field (map entry_traits pool) of_interface pool ms ≡ Ok u → IsList (KeepsField pool of_interface) pool ms
+pub fields_say : (pool : List Entry) (of_interface : Bool) (ms : List MemberInfo) (u : Unit {0}) → checked_list kinds.Field (map entry_traits pool) of_interface pool ms ≡ Ok u → IsList (KeepsField pool of_interface) pool ms
 fields_say pool of_interface =
     list_says kinds.Field of_interface pool (KeepsField pool of_interface) (λ m h. let k = both (member_fits m) (keeps_fields pool of_interface m) h in ((member_tells m).0 k.0, field_says pool of_interface m k.1))
 
-pub fields_told : (pool : List Entry) (of_interface : Bool) (ms : List Member) → AllFit MemberFits ms → KeepMembers (KeepsField pool of_interface) pool ms → checked_list kinds.Field (map entry_traits pool) of_interface pool ms ≡ Ok tt
+pub fields_told : (pool : List Entry) (of_interface : Bool) (ms : List MemberInfo) → AllFit MemberFits ms → KeepMembers (KeepsField pool of_interface) pool ms → checked_list kinds.Field (map entry_traits pool) of_interface pool ms ≡ Ok tt
 fields_told pool of_interface =
     list_told kinds.Field of_interface pool (KeepsField pool of_interface) (λ m h. all (member_fits m) (keeps_fields pool of_interface m) ((member_tells m).1 h.0) (field_told pool of_interface m h.1))
 
-pub methods_say : (pool : List Entry) (of_interface : Bool) (ms : List Member) (u : Unit {0}) → checked_list kinds.Method (map entry_traits pool) of_interface pool ms ≡ Ok u → IsList (KeepsMethod pool of_interface) pool ms
+pub methods_say : (pool : List Entry) (of_interface : Bool) (ms : List MemberInfo) (u : Unit {0}) → checked_list kinds.Method (map entry_traits pool) of_interface pool ms ≡ Ok u → IsList (KeepsMethod pool of_interface) pool ms
 methods_say pool of_interface =
     list_says kinds.Method of_interface pool (KeepsMethod pool of_interface) (λ m h. let k = both (member_fits m) (keeps_methods pool of_interface m) h in ((member_tells m).0 k.0, method_says pool of_interface m k.1))
 
-pub methods_told : (pool : List Entry) (of_interface : Bool) (ms : List Member) → AllFit MemberFits ms → KeepMembers (KeepsMethod pool of_interface) pool ms → checked_list kinds.Method (map entry_traits pool) of_interface pool ms ≡ Ok tt
+pub methods_told : (pool : List Entry) (of_interface : Bool) (ms : List MemberInfo) → AllFit MemberFits ms → KeepMembers (KeepsMethod pool of_interface) pool ms → checked_list kinds.Method (map entry_traits pool) of_interface pool ms ≡ Ok tt
 methods_told pool of_interface =
     list_told kinds.Method of_interface pool (KeepsMethod pool of_interface) (λ m h. all (member_fits m) (keeps_methods pool of_interface m) ((member_tells m).1 h.0) (method_told pool of_interface m h.1))
 
 -- ---- one after the other, as a loop does
 
 -- a count can say how many there are
-pub counted : (kind : Kind) (traits : List Traits) (of_interface : Bool) (pool : List Entry) (ms : List Member) → length ms ≤ MOST_COUNTED
+pub counted : (kind : Kind) (traits : List Traits) (of_interface : Bool) (pool : List Entry) (ms : List MemberInfo) → length ms ≤ MOST_COUNTED
     → checked_list kind traits of_interface pool ms ≡ checked_members (keeps_member kind traits of_interface) pool [] ms
 unfolding checked_list
 counted kind traits of_interface pool ms le = rw ((short_tells (length ms)).1 (omega arith)) refl
 
 -- the members from i on are still to be looked at
-abbrev pub AreLookedAt : (Member → Bool) → List Entry → List Member → ℕ → Type 0
+abbrev pub AreLookedAt : (MemberInfo → Bool) → List Entry → List MemberInfo → ℕ → Type 0
 AreLookedAt keeps pool ms i = checked_members keeps pool (take i ms) (drop i ms) ≡ checked_members keeps pool [] ms
 
-pub front : (ms : List Member) (i : ℕ) (m : Member) → i < length ms → m ≡ get_or ms i m → take (i + 1) ms ≡ take i ms ++ m ∷ []
-front ms i m lt is = rw add-one (take-suc ms i m lt ∙ ap (λ (x : Member). take i ms ++ x ∷ []) (sym is))
+pub front : (ms : List MemberInfo) (i : ℕ) (m : MemberInfo) → i < length ms → m ≡ get_or ms i m → take (i + 1) ms ≡ take i ms ++ m ∷ []
+front ms i m lt is = rw add-one (take-suc ms i m lt ∙ ap (λ (x : MemberInfo). take i ms ++ x ∷ []) (sym is))
 
 -- the member at i, behind those before it
-next : (keeps : Member → Bool) (pool : List Entry) (ms : List Member) (i : ℕ) (m : Member) → i < length ms → m ≡ get_or ms i m
+next : (keeps : MemberInfo → Bool) (pool : List Entry) (ms : List MemberInfo) (i : ℕ) (m : MemberInfo) → i < length ms → m ≡ get_or ms i m
     → checked_members keeps pool (take i ms) (drop i ms) ≡ cond (keeps m) (cond (list_any (λ e. same_member pool e m) (take i ms)) (Err Duplicate) (checked_members keeps pool (take (i + 1) ms) (drop (i + 1) ms))) (Err BadMember)
 unfolding checked_members
 next keeps pool ms i m lt is =
-    let back : drop i ms ≡ m ∷ drop (i + 1) ms = drop-cons ms i m lt ∙ ap (λ (x : Member). x ∷ drop (suc i) ms) (sym is) ∙ rw add-one refl in
+    let back : drop i ms ≡ m ∷ drop (i + 1) ms = drop-cons ms i m lt ∙ ap (λ (x : MemberInfo). x ∷ drop (suc i) ms) (sym is) ∙ rw add-one refl in
     rw (back, front ms i m lt is) refl
 
-pub goes_on : (keeps : Member → Bool) (pool : List Entry) (ms : List Member) (i : ℕ) (m : Member) → i < length ms → m ≡ get_or ms i m → keeps m ≡ true → list_any (λ e. same_member pool e m) (take i ms) ≡ false
+pub goes_on : (keeps : MemberInfo → Bool) (pool : List Entry) (ms : List MemberInfo) (i : ℕ) (m : MemberInfo) → i < length ms → m ≡ get_or ms i m → keeps m ≡ true → list_any (λ e. same_member pool e m) (take i ms) ≡ false
     → AreLookedAt keeps pool ms i → AreLookedAt keeps pool ms (i + 1)
 goes_on keeps pool ms i m lt is kept new so_far =
     let one : checked_members keeps pool (take i ms) (drop i ms) ≡ checked_members keeps pool (take (i + 1) ms) (drop (i + 1) ms) = next keeps pool ms i m lt is ∙ rw (kept, new) refl in
     sym one ∙ so_far
 
-pub refuses : (keeps : Member → Bool) (pool : List Entry) (ms : List Member) (i : ℕ) (m : Member) → i < length ms → m ≡ get_or ms i m → keeps m ≡ false
+pub refuses : (keeps : MemberInfo → Bool) (pool : List Entry) (ms : List MemberInfo) (i : ℕ) (m : MemberInfo) → i < length ms → m ≡ get_or ms i m → keeps m ≡ false
     → AreLookedAt keeps pool ms i → checked_members keeps pool [] ms ≡ Err BadMember
 refuses keeps pool ms i m lt is bad so_far = sym so_far ∙ next keeps pool ms i m lt is ∙ rw bad refl
 
-pub repeats : (keeps : Member → Bool) (pool : List Entry) (ms : List Member) (i : ℕ) (m : Member) → i < length ms → m ≡ get_or ms i m → keeps m ≡ true → list_any (λ e. same_member pool e m) (take i ms) ≡ true
+pub repeats : (keeps : MemberInfo → Bool) (pool : List Entry) (ms : List MemberInfo) (i : ℕ) (m : MemberInfo) → i < length ms → m ≡ get_or ms i m → keeps m ≡ true → list_any (λ e. same_member pool e m) (take i ms) ≡ true
     → AreLookedAt keeps pool ms i → checked_members keeps pool [] ms ≡ Err Duplicate
 repeats keeps pool ms i m lt is kept old so_far = sym so_far ∙ next keeps pool ms i m lt is ∙ rw (kept, old) refl
 
-pub is_done : (keeps : Member → Bool) (pool : List Entry) (ms : List Member) (i : ℕ) → length ms ≤ i → AreLookedAt keeps pool ms i → checked_members keeps pool [] ms ≡ Ok tt
+pub is_done : (keeps : MemberInfo → Bool) (pool : List Entry) (ms : List MemberInfo) (i : ℕ) → length ms ≤ i → AreLookedAt keeps pool ms i → checked_members keeps pool [] ms ≡ Ok tt
 unfolding checked_members
 is_done keeps pool ms i le so_far =
     let none : drop i ms ≡ [] = nil_from_length _ (omega (arith, length-drop i ms)) in

@@ -11,7 +11,7 @@ use Rattle.cl_classfile.specs.declared.entry.Entry.{Entry}
 use Rattle.cl_classfile.specs.declared.entry.Entry.TheVariants.{Utf8, Integer, Float, Long, Double, Unusable, Class, String, Fieldref, Methodref, InterfaceMethodref, NameAndType, MethodHandle, MethodType, InvokeDynamic}
 use Rattle.cl_classfile.specs.declared.fault.Fault.{Fault}
 use Rattle.cl_classfile.specs.declared.fault.Fault.TheVariants.{BadPool}
-use Rattle.cl_classfile.specs.Pool.{entry_spelling, two, EntryFits, IsIndex, is_wide, AreSpaced}
+use Rattle.cl_classfile.specs.Pool.{entry_spelling, two_indices, EntryFits, IsIndex, is_wide, AreSpaced}
 use Rattle.cl_classfile.specs.Structure.{pool_spelling, PoolFits}
 use Rattle.cl_classfile.specs.Tags as tags
 use Rattle.cl_classfile.specs.Reading.{Reader, number_at, test_at, map_at, text_at, byte_at, signed_at, two_at, handle_at, tagged_at, entry_at, slot_at, next_place, entries_at, pool_at}
@@ -45,7 +45,7 @@ signed32 = signed w32 number32
 signed64 : IsCodec (signed_at w64) (λ z. to_be_bytes w64 (cast_unsigned w64 z)) (FitsSigned w64)
 signed64 = signed w64 number64
 
-pair : IsCodec two_at (λ p. two p.0 p.1) (λ p. IsIndex p.0 × IsIndex p.1)
+pair : IsCodec two_at (λ p. two_indices p.0 p.1) (λ p. IsIndex p.0 × IsIndex p.1)
 unfolding two_at
 pair = also (number_at w16) (number_at w16) _ _ _ _ number16 number16
 

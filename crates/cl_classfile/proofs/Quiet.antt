@@ -9,14 +9,14 @@ use Rattle.cl_classfile.specs.declared.fault.Fault.TheVariants.{BadMagic, Versio
 use Rattle.cl_classfile.specs.Flags.{has, interface, is_class_flags}
 use Rattle.cl_classfile.specs.declared.members.Kind.{Kind}
 use Rattle.cl_classfile.specs.declared.members.Kind.TheVariants as kinds
-use Rattle.cl_classfile.specs.Structure.{Structure, Member, Attribute}
+use Rattle.cl_classfile.specs.Structure.{Structure, MemberInfo, Attribute}
 use Rattle.cl_classfile.specs.Widths.{is_short, all_fit, attribute_fits}
 use Rattle.cl_classfile.specs.Tags as tags
 use Rattle.cl_classfile.specs.Files.{class_name}
 use Rattle.cl_classfile.specs.Rows.{entry_traits, keeps_entry}
 use Rattle.cl_names.specs.Steps.{◌>>=◌}
 use Rattle.cl_classfile.specs.Checking.{kept_entry, checked_entries, keeps_names, keeps_interfaces, checked_class, keeps_member, same_member, checked_members, checked_list, checked_tables, kept_file}
-use Rattle.cl_classfile.specs.Reading.{Reader, number_at, bytes_at, then_at, test_at, map_at, sized_at, many_at, counted_at, header_at, text_at, byte_at, signed_at, two_at, handle_at, wide_at, tagged_at, entry_at, slot_at, next_place, entries_at, pool_at, class_at, interfaces_at, attribute_at, attributes_at, member_at, members_at, tables_at, Parts, parts_at, structure_of, structure_at, whole_of, read_of}
+use Rattle.cl_classfile.specs.Reading.{Reader, number_at, bytes_at, then_at, test_at, map_at, sized_at, many_at, counted_at, header_at, text_at, byte_at, signed_at, two_at, handle_at, wide_at, tagged_at, entry_at, slot_at, next_place, entries_at, pool_at, class_at, interfaces_at, attribute_at, attributes_at, member_at, members_at, tables_at, FileParts, parts_at, structure_of, structure_at, whole_of, read_of}
 use Rattle.cl_classfile.proofs.Judging.{differ}
 
 -- the header's own faults
@@ -176,14 +176,14 @@ class_tables f =
     choice (is_short f.flags && is_class_flags f.flags) _ (Err BadFlags)
     (choice (keeps_names f.pool (has f.flags interface) f.super_class (class_name f.pool f.this_class) && keeps_interfaces f.pool f.interfaces) (Ok tt) (Err BadSupertype) (ok tt) (err BadSupertype refl)) (err BadFlags refl)
 
-each_member : (keeps : Member → Bool) (entries : List Entry) (before ms : List Member) → IsQuiet (checked_members keeps entries before ms)
+each_member : (keeps : MemberInfo → Bool) (entries : List Entry) (before ms : List MemberInfo) → IsQuiet (checked_members keeps entries before ms)
 unfolding checked_members
 each_member keeps entries before [] = ok tt
 each_member keeps entries before (m ∷ ms) =
     choice (keeps m) _ (Err BadMember)
     (choice (list_any (λ e. same_member entries e m) before) (Err Duplicate) _ (err Duplicate refl) (each_member keeps entries (before ++ m ∷ []) ms)) (err BadMember refl)
 
-all_members : (kind : Kind) (f : Structure) (ms : List Member) → IsQuiet (checked_list kind (map entry_traits f.pool) (has f.flags interface) f.pool ms)
+all_members : (kind : Kind) (f : Structure) (ms : List MemberInfo) → IsQuiet (checked_list kind (map entry_traits f.pool) (has f.flags interface) f.pool ms)
 unfolding checked_list
 all_members kind f ms = choice (is_short (length ms)) _ (Err BadMember) (each_member (keeps_member kind (map entry_traits f.pool) (has f.flags interface)) f.pool [] ms) (err BadMember refl)
 
@@ -201,7 +201,7 @@ file f = bind (checked_entries f.pool 1 f.pool) _ (rows f.pool 1 f.pool) (λ ent
 
 -- ---- the whole
 
-rest_at : Reader (List Entry × ((ℕ × (ℕ × ℕ)) × (List ℕ × (List Member × (List Member × List Attribute)))))
+rest_at : Reader (List Entry × ((ℕ × (ℕ × ℕ)) × (List ℕ × (List MemberInfo × (List MemberInfo × List Attribute)))))
 rest_at = then_at pool_at (λ pool. then_at class_at (λ class. then_at interfaces_at (λ interfaces. tables_at)))
 
 rest : Quiet rest_at
@@ -212,7 +212,7 @@ rest = also pool_at _ pool (λ p. also class_at _ class (λ c. also interfaces_a
 abbrev Header : Type 0
 Header = (ℕ × (ℕ × ℕ)) × List ℕ
 
-parts_behind : Header → Result (Parts × List ℕ) Fault
+parts_behind : Header → Result (FileParts × List ℕ) Fault
 parts_behind x = rest_at x.1 >>= λ y. Ok ((x.0, y.0), y.1)
 
 structure_behind : Header → Result (Structure × List ℕ) Fault

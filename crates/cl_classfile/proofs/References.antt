@@ -11,7 +11,7 @@ use Rattle.cl_classfile.specs.declared.entry.Entry.TheVariants.{Class, Fieldref,
 use Rattle.cl_classfile.specs.Pool.{at, HasText, HasClass, HasPair, NamesType, MayPair, KeepsEntry}
 use Rattle.cl_classfile.specs.Rows.{is_field, is_call}
 use Rattle.cl_classfile.specs.Structure.{Structure}
-use Rattle.cl_classfile.specs.Files.{Reference, Symbol, Cited, text_of, type_of, type_name, pair_name, pair_descriptor, symbol_at, cited, typed, reference_of, references_from, file_of, reference}
+use Rattle.cl_classfile.specs.Files.{Reference, Symbol, Citation, text_of, type_of, type_name, pair_name, pair_descriptor, symbol_at, cited, typed, reference_of, references_from, file_of, reference}
 use Rattle.cl_classfile.specs.References.{refers, IsFieldSymbol, IsMethodSymbol, IsCited}
 use Rattle.cl_classfile.proofs.Judging.{field_is, call_is}
 use Rattle.cl_classfile.proofs.Classes.{Rows, row_at}
@@ -107,21 +107,21 @@ method_right pool rows class pair c p =
     record { symbol = record { class = t.text; name = n.text; descriptor = p.described.text }; is = symbol_is pool class pair c (IsNameOf IsMethod) IsMethodDescriptor p t n; right = record { class = t.kind; name = n.kind; descriptor = p.described.kind } }
 
 -- what is cited where an entry is a reference: it is there, and each text is of its kind
-record IsSound (o : Option Cited) (b : Bool) : Type 0 where
+record IsSound (o : Option Citation) (b : Bool) : Type 0 where
   some : is_some o ≡ b
-  sound : (r : Cited) → o ≡ Some r → IsCited r
+  sound : (r : Citation) → o ≡ Some r → IsCited r
 
 nothing : IsSound None false
 nothing = record { some = refl; sound = λ r e. absurd cc }
 
-something : (o : Option Cited) (r : Cited) → o ≡ Some r → IsCited r → IsSound o true
+something : (o : Option Citation) (r : Citation) → o ≡ Some r → IsCited r → IsSound o true
 something o r e h = record { some = ap is_some e; sound = λ q f. let same : r ≡ q = cc in subst IsCited same h }
 
 entry_sound : (pool : List Entry) → Rows pool → (e : Entry) → KeepsEntry pool e → IsSound (cited pool e) (refers (Some e))
-entry_sound pool rows (Class text) k = something _ _ (ap (λ (o : Option Entry). option_map (λ name. Cited.CitesClass name) (text_of o)) k.is_text) k.kind
-entry_sound pool rows (Fieldref class pair) k = let r = field_right pool rows class pair k.0 k.1 in something _ _ (ap (option_map (λ s. Cited.CitesField s)) r.is) r.right
-entry_sound pool rows (Methodref class pair) k = let r = method_right pool rows class pair k.0 k.1 in something _ _ (ap (option_map (λ s. Cited.CitesMethod s)) r.is) r.right
-entry_sound pool rows (InterfaceMethodref class pair) k = let r = method_right pool rows class pair k.0 k.1 in something _ _ (ap (option_map (λ s. Cited.CitesInterfaceMethod s)) r.is) r.right
+entry_sound pool rows (Class text) k = something _ _ (ap (λ (o : Option Entry). option_map (λ name. Citation.CitesClass name) (text_of o)) k.is_text) k.kind
+entry_sound pool rows (Fieldref class pair) k = let r = field_right pool rows class pair k.0 k.1 in something _ _ (ap (option_map (λ s. Citation.CitesField s)) r.is) r.right
+entry_sound pool rows (Methodref class pair) k = let r = method_right pool rows class pair k.0 k.1 in something _ _ (ap (option_map (λ s. Citation.CitesMethod s)) r.is) r.right
+entry_sound pool rows (InterfaceMethodref class pair) k = let r = method_right pool rows class pair k.0 k.1 in something _ _ (ap (option_map (λ s. Citation.CitesInterfaceMethod s)) r.is) r.right
 entry_sound pool rows _ k = nothing
 
 at_sound : (pool : List Entry) → Rows pool → (i : ℕ) (o : Option Entry) → at pool i ≡ o → IsSound (option_and_then (cited pool) o) (refers o)
@@ -131,7 +131,7 @@ at_sound pool rows i (Some x) e = entry_sound pool rows x (row_at pool i x rows 
 pub some_is : (pool : List Entry) → Rows pool → (i : ℕ) → is_some (option_and_then (cited pool) (at pool i)) ≡ refers (at pool i)
 some_is pool rows i = (at_sound pool rows i (at pool i) refl).some
 
-pub sound_is : (pool : List Entry) → Rows pool → (i : ℕ) (r : Cited) → option_and_then (cited pool) (at pool i) ≡ Some r → IsCited r
+pub sound_is : (pool : List Entry) → Rows pool → (i : ℕ) (r : Citation) → option_and_then (cited pool) (at pool i) ≡ Some r → IsCited r
 sound_is pool rows i r e = (at_sound pool rows i (at pool i) refl).sound r e
 
 -- ---- for the call
@@ -140,6 +140,6 @@ pub map_some : {A B : Type 0} (f : A → B) (o : Option A) → is_some (option_m
 map_some f None = refl
 map_some f (Some x) = refl
 
-pub each_sound : {A : Type 0} (f : A → Cited) (o : Option A) (p : Option Cited) → option_map f o ≡ p → ((r : Cited) → p ≡ Some r → IsCited r) → IfSome o (λ r. IsCited (f r))
+pub each_sound : {A : Type 0} (f : A → Citation) (o : Option A) (p : Option Citation) → option_map f o ≡ p → ((r : Citation) → p ≡ Some r → IsCited r) → IfSome o (λ r. IsCited (f r))
 each_sound f None p e h = tt
 each_sound f (Some x) p e h = h (f x) (sym e)

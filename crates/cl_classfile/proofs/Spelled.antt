@@ -5,7 +5,7 @@ use Rattle.std.specs.List.{flat_map}
 use Rattle.std.proofs.lemmas.Bool.{eqb-true}
 use Rattle.cl_classfile.specs.declared.fault.Fault.TheVariants.{BadMagic, Version}
 use Rattle.cl_classfile.specs.Structure.{Structure, counted, pool_spelling, member_spelling, attribute_spelling, magic, version, spelling, AllFit, PoolFits, AttributeFits, MemberFits, Fits}
-use Rattle.cl_classfile.specs.Reading.{Reader, number_at, then_at, sized_at, each_at, counted_at, magic_at, version_at, header_at, pool_at, class_at, interfaces_at, attribute_at, attributes_at, member_at, members_at, tables_at, Parts, parts_at, structure_of, structure_at, two_at}
+use Rattle.cl_classfile.specs.Reading.{Reader, number_at, then_at, sized_at, each_at, counted_at, magic_at, version_at, header_at, pool_at, class_at, interfaces_at, attribute_at, attributes_at, member_at, members_at, tables_at, FileParts, parts_at, structure_of, structure_at, two_at}
 use Rattle.cl_classfile.proofs.Codec.{both, bind_ok, Takes, Takes-then, IsCodec, number16, number32, also, sized, tested, mapped, many, EachFits, each_of_all, all_of_each}
 use Rattle.cl_classfile.proofs.Pooled.{pool}
 
@@ -93,10 +93,10 @@ tables : IsCodec tables_at (λ p. counted member_spelling p.0 ++ (counted member
 unfolding tables_at
 tables = also members_at (then_at members_at (λ methods. attributes_at)) _ _ _ _ members (also members_at attributes_at _ _ _ _ members attributes)
 
-abbrev PartsFit : Parts → Type 0
+abbrev PartsFit : FileParts → Type 0
 PartsFit p = HeaderFits p.0 × (PoolFits p.1.0 × (ClassFits p.1.1.0 × (AllFit (λ i. i < 2 ^ 16) p.1.1.1.0 × (AllFit MemberFits p.1.1.1.1.0 × (AllFit MemberFits p.1.1.1.1.1.0 × AllFit AttributeFits p.1.1.1.1.1.1)))))
 
-abbrev parts_spelling : Parts → List ℕ
+abbrev parts_spelling : FileParts → List ℕ
 parts_spelling p =
     header_spelling p.0
     ++ (pool_spelling p.1.0
@@ -108,19 +108,19 @@ parts : IsCodec parts_at parts_spelling PartsFit
 unfolding parts_at
 parts = also header_at _ _ _ _ _ header (also pool_at _ _ _ _ _ pool (also class_at _ _ _ _ _ class (also interfaces_at tables_at _ _ _ _ interfaces tables)))
 
-abbrev parts_of : Structure → Parts
+abbrev parts_of : Structure → FileParts
 parts_of f = ((0xcafebabe, (0, 52)), (f.pool, ((f.flags, (f.this_class, f.super_class)), (f.interfaces, (f.fields, (f.methods, f.attributes))))))
 
 joined : (header pool flags this super rest : List ℕ) → header ≡ magic ++ version → header ++ (pool ++ ((flags ++ (this ++ super)) ++ rest)) ≡ magic ++ (version ++ (pool ++ (flags ++ (this ++ (super ++ rest)))))
 joined header pool flags this super rest e = rw e (simp append_assoc)
 
 -- the parts' spelling is the file's
-there : (p : Parts) → HeaderFits p.0 → parts_spelling p ≡ spelling (structure_of p)
+there : (p : FileParts) → HeaderFits p.0 → parts_spelling p ≡ spelling (structure_of p)
 there p h =
     joined (header_spelling p.0) (pool_spelling p.1.0) (to_be_bytes w16 p.1.1.0.0) (to_be_bytes w16 p.1.1.0.1.0) (to_be_bytes w16 p.1.1.0.1.1)
     (counted (to_be_bytes w16) p.1.1.1.0 ++ (counted member_spelling p.1.1.1.1.0 ++ (counted member_spelling p.1.1.1.1.1.0 ++ counted attribute_spelling p.1.1.1.1.1.1))) (header_says p.0 h)
 
-says : (p : Parts) → PartsFit p → Fits (structure_of p)
+says : (p : FileParts) → PartsFit p → Fits (structure_of p)
 says p h = record {
   pool = h.1.0;
   flags = h.1.1.0.0;

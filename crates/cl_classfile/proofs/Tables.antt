@@ -13,7 +13,7 @@ use Rattle.cl_classfile.specs.declared.fault.Fault.{Fault}
 use Rattle.cl_classfile.specs.declared.fault.Fault.TheVariants.{BadFlags, BadMember, BadSupertype}
 use Rattle.cl_classfile.specs.Flags.{has, interface, is_class_flags}
 use Rattle.cl_classfile.specs.Pool.{EntryFits, KeepsEntry}
-use Rattle.cl_classfile.specs.Structure.{Structure, PoolFits, Fits, object, NamesClass, KeepsSuper, KeepsInterface, Keeps, IsClassFile}
+use Rattle.cl_classfile.specs.Structure.{Structure, PoolFits, Fits, object, NamesClass, KeepsSuper, KeepsInterface, KeepsTables, IsClassFile}
 use Rattle.cl_classfile.specs.Members.{AllFit, AttributeFits, MemberFits}
 use Rattle.cl_classfile.specs.Widths.{is_short, all_fit, attribute_fits}
 use Rattle.cl_classfile.specs.Files.{class_name}
@@ -123,7 +123,7 @@ methods_checked f = checked_list kinds.Method (map entry_traits f.pool) (has f.f
 
 -- a file whose tests were passed keeps the tables, and what stands behind its pool fits its widths
 pub record IsTested (f : Structure) : Type 0 where
-  pub kept : Keeps f
+  pub kept : KeepsTables f
   pub flags : f.flags < 2 ^ 16
   pub interfaces : length f.interfaces < 2 ^ 16
   pub fields : AllFit MemberFits f.fields
@@ -177,7 +177,7 @@ file_says f g h =
     let b = bind_ok (checked_tables (map entry_traits f.pool) f.pool f) (λ tables. Ok f) g a.2 in
     (ok_is f g b.2, tables_say f a.0 b.0 a.1 b.1)
 
-pub file_told : (f : Structure) → Fits f → Keeps f → kept_file f ≡ Ok f
+pub file_told : (f : Structure) → Fits f → KeepsTables f → kept_file f ≡ Ok f
 unfolding kept_file checked_tables
 file_told f fits kept =
     let of_interface = has f.flags interface in
@@ -212,10 +212,10 @@ parts_say f g h =
     let b = file_says f g a.2 in
     (b.0, record { fits = fitting f (pool_says f.pool a.0 a.1) b.1; kept = b.1.kept })
 
-pub parts_told : (f : Structure) → Fits f → Keeps f → parts_of f ≡ Ok f
+pub parts_told : (f : Structure) → Fits f → KeepsTables f → parts_of f ≡ Ok f
 unfolding parts_of
 parts_told f fits kept = rw (pool_told f.pool fits.pool) (file_told f fits kept)
 
 -- what a class of the pool is called is a class's name
-pub named_well : (f : Structure) → Keeps f → (i : ℕ) (name : List ℕ) → class_name f.pool i ≡ Some name → IsNameOf IsClass name
+pub named_well : (f : Structure) → KeepsTables f → (i : ℕ) (name : List ℕ) → class_name f.pool i ≡ Some name → IsNameOf IsClass name
 named_well f kept i name h = (class_says f.pool i name kept.pool h).is_name

@@ -54,7 +54,7 @@ use Rattle.cl_classfile.specs.Flags.{
   is_init_flags,
 }
 use Rattle.cl_classfile.specs.Pool.{is_wide}
-use Rattle.cl_classfile.specs.Structure.{Structure, Member, Attribute, object}
+use Rattle.cl_classfile.specs.Structure.{Structure, MemberInfo, Attribute, object}
 use Rattle.cl_classfile.specs.Widths.{
   is_short,
   entry_fits,
@@ -70,14 +70,14 @@ use Rattle.std.specs.Option.{option_zip}
 use Rattle.cl_names.specs.Steps.{◌>>=◌}
 
 -- a function that takes memory found this fault, unless memory ran out
-abbrev pub Fails : {Y : Type 0} → ReadError → Result Y Fault → Type 0
-Fails errors.Memory read = Unit {0}
-Fails (errors.Fault f) read = read ≡ Err f
+abbrev pub GivesFault : {Y : Type 0} → ReadError → Result Y Fault → Type 0
+GivesFault errors.Memory read = Unit {0}
+GivesFault (errors.Fault f) read = read ≡ Err f
 
 -- what a function that takes memory returned is this value or fault, unless memory ran out
 abbrev pub Gives : {X Y : Type 0} → (X → Y) → Result X ReadError → Result Y Fault → Type 0
 Gives view (Ok x) read = read ≡ Ok (view x)
-Gives view (Err e) read = Fails e read
+Gives view (Err e) read = GivesFault e read
 
 -- the entry at index i, where it keeps its row of the table (JVMS SE 8, 4.4)
 abbrev pub kept_entry : List Entry → ℕ → Entry → Result Entry Fault
@@ -123,7 +123,7 @@ checked_class pool flags this super interfaces =
 -- ---- members (JVMS SE 8, 4.5, 4.6)
 
 -- a field keeps its table (4.5)
-abbrev pub keeps_field : List Traits → Bool → Member → Bool
+abbrev pub keeps_field : List Traits → Bool → MemberInfo → Bool
 keeps_field traits of_interface m =
     is_field_flags of_interface m.flags && (traits_at traits m.name_index).unqualified
     && is_field (traits_at traits m.descriptor_index).form
@@ -142,38 +142,39 @@ keeps_method_flags names.Plain of_interface flags = is_method_flags of_interface
 keeps_method_flags names.Angle of_interface flags = is_method_flags of_interface flags
 
 -- a method keeps its table (4.6)
-abbrev pub keeps_method : List Traits → Bool → Member → Bool
+abbrev pub keeps_method : List Traits → Bool → MemberInfo → Bool
 keeps_method traits of_interface m =
     keeps_method_flags (traits_at traits m.name_index).special of_interface m.flags
     && (traits_at traits m.name_index).method
     && has_room (has m.flags static) (traits_at traits m.descriptor_index).units
 
 -- a field, or a method, fits its widths and keeps its table (4.5, 4.6)
-abbrev pub keeps_member : Kind → List Traits → Bool → Member → Bool
+abbrev pub keeps_member : Kind → List Traits → Bool → MemberInfo → Bool
 keeps_member kinds.Field traits of_interface m = member_fits m && keeps_field traits of_interface m
 keeps_member kinds.Method traits of_interface m =
     member_fits m && keeps_method traits of_interface m
 
 -- the texts of a name and of a descriptor (4.5, 4.6)
-abbrev pub Key : Type 0
-Key = List ℕ × List ℕ
+abbrev pub TextKey : Type 0
+TextKey = List ℕ × List ℕ
 
 -- what no two fields, and no two methods, may have in common (4.5, 4.6)
-abbrev pub key_of : List Entry → Member → Option Key
+abbrev pub key_of : List Entry → MemberInfo → Option TextKey
 key_of pool m = option_zip (text_at pool m.name_index) (text_at pool m.descriptor_index)
 
 -- two keys are the same (4.5, 4.6)
-abbrev pub same_key : Option Key → Option Key → Bool
-same_key (Some a) (Some b) = bytes_eq a.0 b.0 && bytes_eq a.1 b.1
-same_key (Some a) None = false
-same_key None other = false
+abbrev pub same_text_key : Option TextKey → Option TextKey → Bool
+same_text_key (Some a) (Some b) = bytes_eq a.0 b.0 && bytes_eq a.1 b.1
+same_text_key (Some a) None = false
+same_text_key None other = false
 
 -- the members agree in name and descriptor (4.5, 4.6)
-abbrev pub same_member : List Entry → Member → Member → Bool
-same_member pool a b = same_key (key_of pool a) (key_of pool b)
+abbrev pub same_member : List Entry → MemberInfo → MemberInfo → Bool
+same_member pool a b = same_text_key (key_of pool a) (key_of pool b)
 
 -- each member keeps its row, and agrees with none before it, nor with one of these (4.5, 4.6)
-unfoldable pub checked_members : (Member → Bool) → List Entry → List Member → List Member
+unfoldable pub checked_members : (MemberInfo → Bool) → List Entry → List MemberInfo
+    → List MemberInfo
     → Result (Unit {0}) Fault
 checked_members keeps pool before [] = Ok tt
 checked_members keeps pool before (m ∷ ms) =
@@ -184,7 +185,7 @@ checked_members keeps pool before (m ∷ ms) =
     else Err BadMember
 
 -- a count can say how many members there are, and each is looked at (4.1, 4.5, 4.6)
-unfoldable pub checked_list : Kind → List Traits → Bool → List Entry → List Member
+unfoldable pub checked_list : Kind → List Traits → Bool → List Entry → List MemberInfo
     → Result (Unit {0}) Fault
 checked_list kind traits of_interface pool ms =
     if is_short (length ms)

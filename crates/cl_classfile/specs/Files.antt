@@ -131,11 +131,11 @@ pub record Symbol : Type 0 where
   pub descriptor : Name
 
 -- what a reference says (4.4.1, 4.4.2)
-pub data Cited : Type 0 where
-  CitesClass : (name : Name) → Cited
-  CitesField : (symbol : Symbol) → Cited
-  CitesMethod : (symbol : Symbol) → Cited
-  CitesInterfaceMethod : (symbol : Symbol) → Cited
+pub data Citation : Type 0 where
+  CitesClass : (name : Name) → Citation
+  CitesField : (symbol : Symbol) → Citation
+  CitesMethod : (symbol : Symbol) → Citation
+  CitesInterfaceMethod : (symbol : Symbol) → Citation
 
 -- three texts, where each is there (4.4.2)
 abbrev pub symbol_of : Option Name → Option Name → Option Name → Option Symbol
@@ -160,7 +160,7 @@ symbol_at pool class pair =
     (pair_descriptor pool (at pool pair))
 
 -- the texts of an entry that refers to a class or a member (4.4.1, 4.4.2)
-abbrev pub cited : List Entry → Entry → Option Cited
+abbrev pub cited : List Entry → Entry → Option Citation
 cited pool (Class text) = option_map (λ name. CitesClass name) (text_at pool text)
 cited pool (Fieldref class pair) = option_map (λ s. CitesField s) (symbol_at pool class pair)
 cited pool (Methodref class pair) = option_map (λ s. CitesMethod s) (symbol_at pool class pair)
@@ -195,7 +195,7 @@ typed_by make (Some target) (Some key) = Some (make target key)
 typed_by make _ _ = None
 
 -- a reference with its descriptors read (4.3, 4.4.2)
-abbrev pub typed : Cited → Option Reference
+abbrev pub typed : Citation → Option Reference
 typed (CitesClass name) = option_map (λ t. ToClass t) (named_type name)
 typed (CitesField s) = typed_by ToField (named_type s.class) (field_key s)
 typed (CitesMethod s) = typed_by ToMethod (named_type s.class) (method_key s)
@@ -219,7 +219,8 @@ keyed key flags (Some name) (Some descriptor) =
 keyed key flags _ _ = None
 
 -- what linking looks at of a member of the structure (4.5, 4.6)
-abbrev pub declared_by : (Name → Name → Option Key) → List Entry → structure.Member → Option Member
+abbrev pub declared_by : (Name → Name → Option Key) → List Entry → structure.MemberInfo
+    → Option Member
 declared_by key pool m =
     keyed key m.flags (text_at pool m.name_index) (text_at pool m.descriptor_index)
 

@@ -34,7 +34,7 @@ pub record Attribute : Type 0 where
   pub bytes : List ℕ
 
 -- a field or a method (4.5, 4.6)
-pub record Member : Type 0 where
+pub record MemberInfo : Type 0 where
   pub flags : ℕ
   pub name_index : ℕ
   pub descriptor_index : ℕ
@@ -51,7 +51,7 @@ abbrev pub attribute_spelling : Attribute → List ℕ
 attribute_spelling a = to_be_bytes w16 a.name_index ++ (to_be_bytes w32 (length a.bytes) ++ a.bytes)
 
 -- the bytes of a field or a method (4.5, 4.6)
-abbrev pub member_spelling : Member → List ℕ
+abbrev pub member_spelling : MemberInfo → List ℕ
 member_spelling m =
     to_be_bytes w16 m.flags
     ++ (to_be_bytes w16 m.name_index
@@ -69,7 +69,7 @@ pub record AttributeFits (a : Attribute) : Type 0 where
   pub bytes : length a.bytes < 2 ^ 32
 
 -- each item of a field or a method is such as its width can say (4.5, 4.6)
-pub record MemberFits (m : Member) : Type 0 where
+pub record MemberFits (m : MemberInfo) : Type 0 where
   pub flags : m.flags < 2 ^ 16
   pub name_index : m.name_index < 2 ^ 16
   pub descriptor_index : m.descriptor_index < 2 ^ 16
@@ -78,7 +78,7 @@ pub record MemberFits (m : Member) : Type 0 where
 -- ---- what the tables ask
 
 -- a field's name is unqualified (4.5)
-pub record KeepsField (pool : List Entry) (of_interface : Bool) (m : Member) : Type 0 where
+pub record KeepsField (pool : List Entry) (of_interface : Bool) (m : MemberInfo) : Type 0 where
   pub flags : IsTrue (is_field_flags of_interface m.flags)
   pub name : HasText pool m.name_index (IsNameOf IsUnqualified)
   pub descriptor : HasText pool m.descriptor_index IsFieldDescriptor
@@ -87,11 +87,11 @@ pub record KeepsField (pool : List Entry) (of_interface : Bool) (m : Member) : T
 -- (4.3.3)
 abbrev pub TakesUnits : Bool → List ℕ → Type 0
 TakesUnits of_class text =
-    descriptors.IsMethod text
+    descriptors.SpellsSomeMethod text
     (λ m. descriptors.IsMethodType m × (units_of_method m + (if of_class then 0 else 1) ≤ MOST_UNITS))
 
 -- the flags of <clinit> are not looked at; those of <init> are more narrow (4.6)
-pub record KeepsMethod (pool : List Entry) (of_interface : Bool) (m : Member) : Type 0 where
+pub record KeepsMethod (pool : List Entry) (of_interface : Bool) (m : MemberInfo) : Type 0 where
   pub flags : (IsText pool m.name_index clinit → ⊥) → IsTrue (is_method_flags of_interface m.flags)
   pub init_flags : IsText pool m.name_index init → IsTrue (is_init_flags m.flags)
   pub name : HasText pool m.name_index (IsNameOf IsMethod)
@@ -104,18 +104,18 @@ pub record SameText (pool : List Entry) (i j : ℕ) : Type 0 where
   pub second : IsText pool j text
 
 -- two members agree in name and descriptor (4.5, 4.6)
-pub record SameMember (pool : List Entry) (a b : Member) : Type 0 where
+pub record SameMember (pool : List Entry) (a b : MemberInfo) : Type 0 where
   pub name : SameText pool a.name_index b.name_index
   pub descriptor : SameText pool a.descriptor_index b.descriptor_index
 
 -- none of the members agrees with one before it, nor with one of these (4.5, 4.6)
-abbrev pub AreNew : List Entry → List Member → List Member → Type 0
+abbrev pub AreNew : List Entry → List MemberInfo → List MemberInfo → Type 0
 AreNew pool before [] = Unit {0}
 AreNew pool before (m ∷ ms) =
     AllByRecursion (λ e. SameMember pool e m → ⊥) before × AreNew pool (before ++ m ∷ []) ms
 
 -- each member keeps its table, and no two agree (4.5, 4.6)
-pub record KeepMembers (Keeps : Member → Type 0) (pool : List Entry) (ms : List Member)
+pub record KeepMembers (Keeps : MemberInfo → Type 0) (pool : List Entry) (ms : List MemberInfo)
     : Type 0 where
   pub each : AllByRecursion Keeps ms
   pub new : AreNew pool [] ms

@@ -56,8 +56,8 @@ use Rattle.cl_descriptors.specs.Answers.{
 -- ---- the one spelling of each: its tag, and what follows it (table 4.4-A)
 
 -- two indices, one after the other (4.4)
-abbrev pub two : ℕ → ℕ → List ℕ
-two a b = to_be_bytes w16 a ++ to_be_bytes w16 b
+abbrev pub two_indices : ℕ → ℕ → List ℕ
+two_indices a b = to_be_bytes w16 a ++ to_be_bytes w16 b
 
 -- the tag of an entry, and what follows it (4.4)
 abbrev pub entry_spelling : Entry → List ℕ
@@ -69,13 +69,13 @@ entry_spelling (Double bits) = tags.double ∷ to_be_bytes w64 bits
 entry_spelling Unusable = []
 entry_spelling (Class text) = tags.class ∷ to_be_bytes w16 text
 entry_spelling (String text) = tags.string ∷ to_be_bytes w16 text
-entry_spelling (Fieldref class pair) = tags.fieldref ∷ two class pair
-entry_spelling (Methodref class pair) = tags.methodref ∷ two class pair
-entry_spelling (InterfaceMethodref class pair) = tags.interface_methodref ∷ two class pair
-entry_spelling (NameAndType name descriptor) = tags.name_and_type ∷ two name descriptor
+entry_spelling (Fieldref class pair) = tags.fieldref ∷ two_indices class pair
+entry_spelling (Methodref class pair) = tags.methodref ∷ two_indices class pair
+entry_spelling (InterfaceMethodref class pair) = tags.interface_methodref ∷ two_indices class pair
+entry_spelling (NameAndType name descriptor) = tags.name_and_type ∷ two_indices name descriptor
 entry_spelling (MethodHandle kind reference) = tags.method_handle ∷ kind ∷ to_be_bytes w16 reference
 entry_spelling (MethodType descriptor) = tags.method_type ∷ to_be_bytes w16 descriptor
-entry_spelling (InvokeDynamic bootstrap pair) = tags.invoke_dynamic ∷ two bootstrap pair
+entry_spelling (InvokeDynamic bootstrap pair) = tags.invoke_dynamic ∷ two_indices bootstrap pair
 
 -- ---- what the widths hold
 
@@ -144,7 +144,7 @@ pub record HasPair (pool : List Entry) (i : ℕ) (Kind : List ℕ → Type 0) : 
   pub described : HasText pool descriptor Kind
 
 -- it is a name and type of this name (4.4.6)
-pub record IsNamed (pool : List Entry) (i : ℕ) (text : List ℕ) : Type 0 where
+pub record IsNameAndType (pool : List Entry) (i : ℕ) (text : List ℕ) : Type 0 where
   pub name : ℕ
   pub descriptor : ℕ
   pub is_entry : at pool i ≡ Some (NameAndType name descriptor)
@@ -159,12 +159,12 @@ NamesType text = IsNameOf IsClass text ⊎ IsArrayDescriptor text
 -- the name, if it begins with <, is <init>, and the descriptor returns nothing (4.4.2)
 abbrev pub MayCall : List Entry → ℕ → Type 0
 MayCall pool i =
-    (rest : List ℕ) → IsNamed pool i (0x3c ∷ rest)
+    (rest : List ℕ) → IsNameAndType pool i (0x3c ∷ rest)
     → (0x3c ∷ rest ≡ init) × HasPair pool i IsVoidDescriptor
 
 -- it is a name that a programmer may write (4.4.8)
-abbrev pub IsPlain : List Entry → ℕ → Type 0
-IsPlain pool i = (IsNamed pool i init → ⊥) × (IsNamed pool i clinit → ⊥)
+abbrev pub HasPlainName : List Entry → ℕ → Type 0
+HasPlainName pool i = (IsNameAndType pool i init → ⊥) × (IsNameAndType pool i clinit → ⊥)
 
 -- a name and its descriptor go together (4.4.6)
 abbrev pub MayPair : List Entry → ℕ → ℕ → Type 0
@@ -176,10 +176,10 @@ MayPair pool name descriptor =
 abbrev pub MayHandle : List Entry → ℕ → Option Entry → Type 0
 MayHandle pool kind (Some (Fieldref class pair)) = (1 ≤ kind) × (kind ≤ 4)
 MayHandle pool kind (Some (Methodref class pair)) =
-    (((kind ≡ 5) ⊎ ((kind ≡ 6) ⊎ (kind ≡ 7))) × IsPlain pool pair)
-    ⊎ ((kind ≡ 8) × IsNamed pool pair init)
+    (((kind ≡ 5) ⊎ ((kind ≡ 6) ⊎ (kind ≡ 7))) × HasPlainName pool pair)
+    ⊎ ((kind ≡ 8) × IsNameAndType pool pair init)
 MayHandle pool kind (Some (InterfaceMethodref class pair)) =
-    ((kind ≡ 6) ⊎ ((kind ≡ 7) ⊎ (kind ≡ 9))) × IsPlain pool pair
+    ((kind ≡ 6) ⊎ ((kind ≡ 7) ⊎ (kind ≡ 9))) × HasPlainName pool pair
 MayHandle pool kind _ = ⊥
 
 -- what the table of entries asks of each (4.4)

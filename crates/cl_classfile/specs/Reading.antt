@@ -52,7 +52,7 @@ use Rattle.cl_classfile.specs.declared.fault.Fault.TheVariants.{
 }
 use Rattle.cl_classfile.specs.Pool.{is_wide}
 use Rattle.cl_classfile.specs.Tags as tags
-use Rattle.cl_classfile.specs.Structure.{Structure, Member, Attribute}
+use Rattle.cl_classfile.specs.Structure.{Structure, MemberInfo, Attribute}
 use Rattle.cl_names.specs.Steps.{◌>>=◌}
 use Rattle.cl_classfile.specs.Checking.{kept_file}
 
@@ -217,7 +217,7 @@ unfoldable pub attributes_at : Reader (List Attribute)
 attributes_at = counted_at attribute_at
 
 -- a field or a method (JVMS SE 8, 4.5, 4.6)
-unfoldable pub member_at : Reader Member
+unfoldable pub member_at : Reader MemberInfo
 member_at =
     map_at
     (then_at (number_at w16)
@@ -227,28 +227,29 @@ member_at =
     { flags = p.0; name_index = p.1.0; descriptor_index = p.1.1.0; attributes = p.1.1.1 })
 
 -- fields or methods (4.5, 4.6)
-unfoldable pub members_at : Reader (List Member)
+unfoldable pub members_at : Reader (List MemberInfo)
 members_at = counted_at member_at
 
 -- the fields, the methods and the class's attributes (4.1)
-unfoldable pub tables_at : Reader (List Member × (List Member × List Attribute))
+unfoldable pub tables_at : Reader (List MemberInfo × (List MemberInfo × List Attribute))
 tables_at = then_at members_at (λ fields. then_at members_at (λ methods. attributes_at))
 
 -- what is read in order: the header, the pool, the class, the interfaces, the tables (4.1)
-abbrev pub Parts : Type 0
-Parts =
+abbrev pub FileParts : Type 0
+FileParts =
     (ℕ × (ℕ × ℕ))
-    × (List Entry × ((ℕ × (ℕ × ℕ)) × (List ℕ × (List Member × (List Member × List Attribute)))))
+    × (List Entry
+    × ((ℕ × (ℕ × ℕ)) × (List ℕ × (List MemberInfo × (List MemberInfo × List Attribute)))))
 
 -- the same, read (4.1)
-unfoldable pub parts_at : Reader Parts
+unfoldable pub parts_at : Reader FileParts
 parts_at =
     then_at header_at
     (λ header. then_at pool_at
     (λ pool. then_at class_at (λ class. then_at interfaces_at (λ interfaces. tables_at))))
 
 -- these as a class file (4.1)
-abbrev pub structure_of : Parts → Structure
+abbrev pub structure_of : FileParts → Structure
 structure_of p = record {
   pool = p.1.0;
   flags = p.1.1.0.0;

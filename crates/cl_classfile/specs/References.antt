@@ -14,7 +14,7 @@ use Rattle.cl_classfile.specs.declared.reference.Reference.TheVariants as refere
 use Rattle.cl_classfile.specs.Pool.{NamesType}
 use Rattle.cl_classfile.specs.Files.{
   Symbol,
-  Cited,
+  Citation,
   CitesClass,
   CitesField,
   CitesMethod,
@@ -27,7 +27,7 @@ abbrev pub plain_symbol : code.Symbol → Symbol
 plain_symbol s = record { class = s.class.now; name = s.name.now; descriptor = s.descriptor.now }
 
 -- a reference without where its texts lie (4.4.1, 4.4.2)
-abbrev pub plain_reference : Reference → Cited
+abbrev pub plain_reference : Reference → Citation
 plain_reference (references.Class name) = CitesClass name.now
 plain_reference (references.Field s) = CitesField (plain_symbol s)
 plain_reference (references.Method s) = CitesMethod (plain_symbol s)
@@ -54,7 +54,7 @@ pub record IsMethodSymbol (s : Symbol) : Type 0 where
   pub descriptor : IsMethodDescriptor s.descriptor
 
 -- each name is of its kind (4.4.1, 4.4.2)
-abbrev pub IsCited : Cited → Type 0
+abbrev pub IsCited : Citation → Type 0
 IsCited (CitesClass name) = NamesType name
 IsCited (CitesField s) = IsFieldSymbol s
 IsCited (CitesMethod s) = IsMethodSymbol s

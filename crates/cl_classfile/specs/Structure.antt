@@ -32,7 +32,7 @@ pub use Rattle.cl_classfile.specs.Pool.{at}
 use Rattle.cl_classfile.specs.Flags.{has, interface, is_class_flags}
 pub use Rattle.cl_classfile.specs.Members.{
   Attribute,
-  Member,
+  MemberInfo,
   counted,
   attribute_spelling,
   member_spelling,
@@ -51,8 +51,8 @@ pub record Structure : Type 0 where
   pub this_class : ℕ
   pub super_class : ℕ
   pub interfaces : List ℕ
-  pub fields : List Member
-  pub methods : List Member
+  pub fields : List MemberInfo
+  pub methods : List MemberInfo
   pub attributes : List Attribute
 
 -- ---- the one spelling of each
@@ -125,7 +125,7 @@ abbrev pub KeepsInterface : List Entry → ℕ → Type 0
 KeepsInterface pool i = (name : List ℕ) × NamesClass pool i name
 
 -- the file keeps the tables of entries, flags, supertypes and members (4.1, 4.4 to 4.6)
-pub record Keeps (f : Structure) : Type 0 where
+pub record KeepsTables (f : Structure) : Type 0 where
   pub pool : AllByRecursion (KeepsEntry f.pool) f.pool
   pub flags : IsTrue (is_class_flags f.flags)
   pub name : List ℕ
@@ -138,7 +138,7 @@ pub record Keeps (f : Structure) : Type 0 where
 -- what a class file that was read is (4.1)
 pub record IsClassFile (f : Structure) : Type 0 where
   pub fits : Fits f
-  pub kept : Keeps f
+  pub kept : KeepsTables f
 
 -- the numbers are those of bytes (4)
 abbrev pub AreBytes : List ℕ → Type 0

@@ -19,7 +19,7 @@ use Rattle.cl_classfile.specs.declared.entry.Entry.TheVariants.{
   MethodType,
   InvokeDynamic,
 }
-use Rattle.cl_classfile.specs.Members.{Attribute, Member}
+use Rattle.cl_classfile.specs.Members.{Attribute, MemberInfo}
 
 -- ---- the pool
 
@@ -66,7 +66,7 @@ abbrev pub attribute_fits : Attribute → Bool
 attribute_fits a = is_short a.name_index && nat_lt (length a.bytes) (2 ^ 32)
 
 -- each item of a field or a method is such as its width can say (4.5, 4.6)
-abbrev pub member_fits : Member → Bool
+abbrev pub member_fits : MemberInfo → Bool
 member_fits m =
     is_short m.flags && is_short m.name_index && is_short m.descriptor_index
     && all_fit attribute_fits m.attributes

@@ -1,11 +1,11 @@
 //! Where the members of a class stand, by their names and descriptors: made once for a class of many members, as it is read.
 
 ghost use Rattle.std.specs.Prelude.{◌≡◌, ℕ, List, [], true, not, IfOk};
-ghost use Rattle.cl_classfile.specs.Structure.{Member};
+ghost use Rattle.cl_classfile.specs.Structure.{MemberInfo};
 ghost use Rattle.std.specs.Option.{option_map};
 ghost use Rattle.cl_classfile.specs.declared.entry.Entry.{Entry};
 ghost use Rattle.cl_classfile.specs.Numbers.{AreNoted};
-ghost use Rattle.cl_classfile.specs.Indexes.{AreFew, Leads, StandThere, PutsPlace, has_place, led_to, member_at};
+ghost use Rattle.cl_classfile.specs.Indexes.{MembersAreFew, IndexLeads, StandThere, PutsPlace, has_place, led_to, member_in};
 
 use crate::entry::Entry;
 use crate::member::Member;
@@ -33,16 +33,16 @@ pub struct Index {
 
 /// Whether these members are so few that they have no index.
 pub fn are_few(fields: &[Member], methods: &[Member]) -> bool
-    ensures { result ≡ true → AreFew fields.now methods.now }
+    ensures { result ≡ true → MembersAreFew fields.now methods.now }
 {
     fields.len() <= FEW && methods.len() <= FEW
 }
 
 /// The index of members that have these numbers and stand at these places.
 pub fn index_of(numbers: Numbers, fields: Places, methods: Places) -> Index
-    ensures { (pool : List Entry) (fs ms : List Member) → AreNoted pool numbers fs
+    ensures { (pool : List Entry) (fs ms : List MemberInfo) → AreNoted pool numbers fs
         → AreNoted pool numbers ms → StandThere numbers fields fs → StandThere numbers methods ms
-        → Leads pool result fs ms }
+        → IndexLeads pool result fs ms }
 {
     Index {
         numbers,
@@ -71,7 +71,7 @@ impl Places {
 
     /// The member of these numbers.
     fn member<'a>(&self, members: &'a [Member], name: u16, descriptor: u16) -> Option<&'a Member>
-        ensures { option_map (λ m. m.now) result ≡ member_at self.now members.now name descriptor }
+        ensures { option_map (λ m. m.now) result ≡ member_in self.now members.now name descriptor }
     {
         let place = self.map.get(&(name, descriptor))?;
         members.get(*place)

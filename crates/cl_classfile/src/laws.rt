@@ -1,6 +1,6 @@
 //! Laws of the grammar, each the contract of a function that does nothing.
 ghost use Rattle.std.specs.Prelude.{◌≡◌, ◌↔◌, ℕ, List, Ok};
-ghost use Rattle.cl_classfile.specs.Structure.{Structure, AreBytes, Fits, Keeps, Spells, spelling};
+ghost use Rattle.cl_classfile.specs.Structure.{Structure, AreBytes, Fits, KeepsTables, Spells, spelling};
 ghost use Rattle.cl_classfile.specs.Checking.{parts_of};
 ghost use Rattle.cl_classfile.specs.Reading.{read_of};
 
@@ -11,7 +11,7 @@ pub fn spells_one_file()
 
 /// A class file that fits its widths and keeps the tables has one spelling.
 pub fn has_one_spelling()
-    ensures some { (f : Structure) → Fits f → Keeps f → (bytes : List ℕ) × Spells bytes f }
+    ensures some { (f : Structure) → Fits f → KeepsTables f → (bytes : List ℕ) × Spells bytes f }
     ensures one { (f : Structure) (bytes other : List ℕ) → Spells bytes f → Spells other f
         → bytes ≡ other }
 {}

@@ -20,7 +20,7 @@ pub struct Member {
 impl Model for Member {
     ghost use Rattle.cl_classfile.specs.Structure as structure;
 
-    ghost Value = { structure.Member };
+    ghost Value = { structure.MemberInfo };
 
     ghost view = { λ m. record { flags = m.flags; name_index = m.name_index; descriptor_index = m.descriptor_index; attributes = m.attributes.items } };
 }

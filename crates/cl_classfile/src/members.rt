@@ -2,7 +2,7 @@
 
 ghost use Rattle.std.specs.Prelude.{◌≡◌, ◌+◌, List, [], ◌∷◌, ◌++◌, not, Some, slice_get, IfOk};
 ghost use Rattle.std.specs.List.{list_any};
-ghost use Rattle.cl_classfile.specs.Members.{Member};
+ghost use Rattle.cl_classfile.specs.Members.{MemberInfo};
 ghost use Rattle.cl_names.specs.Steps.{Finds};
 ghost use Rattle.cl_classfile.specs.Checking.{Gives, keeps_field, has_room, keeps_method_flags, keeps_method, keeps_member, same_member, checked_list};
 ghost use Rattle.cl_classfile.specs.Numbers.{AreNumbers, AreNoted, IsMemberNoted, number_of};
@@ -140,13 +140,13 @@ fn is_new(
     member: &Member,
     place: usize,
 ) -> Result<bool, AllocError>
-    ensures seen { (pool : List Entry) (before : List Member) → AreNumbers pool numbers.now
+    ensures seen { (pool : List Entry) (before : List MemberInfo) → AreNumbers pool numbers.now
         → IsMemberNoted pool numbers.now member.now
         → HasPairs pool (number_of pool numbers.now) (has_place places.old) before
         → IfOk result (λ new. (new ≡ not (list_any (λ e. same_member pool e member.now) before))
         × HasPairs pool (number_of pool numbers.now) (has_place places.new)
         (before ++ member.now ∷ [])) }
-    ensures placed { (members : List Member) → slice_get members place ≡ Some member.now
+    ensures placed { (members : List MemberInfo) → slice_get members place ≡ Some member.now
         → StandTo numbers.now places.old members place
         → IfOk result (λ _. StandTo numbers.now places.new members (place + 1)) }
 {

@@ -4,7 +4,7 @@
 ghost use Rattle.std.specs.Prelude.{◌≡◌, List, true, false, Some, None, IfOk, bit_and};
 ghost use Rattle.cl_classfile.specs.declared.entry.Entry.{Entry};
 ghost use Rattle.cl_classfile.specs.Files.{text_at};
-ghost use Rattle.cl_classfile.specs.Numbers.{IsNumber, AreNumbers, AreNoted, Notes, Grows, NotesAll, Puts, Takes, rank_of, slot_at, found, number_of, number_at, with_number};
+ghost use Rattle.cl_classfile.specs.Numbers.{IsNumber, AreNumbers, AreNoted, Notes, KeepsNumbers, NotesAll, PutsNumber, TakesSlot, rank_of, number_in_slot, found_number, number_of, noted_at, with_number};
 
 use crate::checking::{is_text, text_at};
 use crate::entry::Entry;
@@ -75,7 +75,7 @@ pub fn numbers_of(
 impl Numbers {
     /// The number of the text at an index, or 0 where it is none or was not asked for.
     pub fn at(&self, index: u16) -> u16
-        ensures { result ≡ number_at self.now.noted.items index }
+        ensures { result ≡ noted_at self.now.noted.items index }
     {
         match item_at(self.noted.as_slice(), index) {
             Some(number) => *number,
@@ -93,7 +93,7 @@ impl Numbers {
 
     /// The number of the text of this rank.
     fn found(&self, pool: &[Entry], rank: usize, text: &Name) -> Option<u16>
-        ensures { result ≡ found pool.now self.now rank text.now }
+        ensures { result ≡ found_number pool.now self.now rank text.now }
     {
         let number = self.slot(rank);
         if is_text(pool, number, text) {
@@ -104,7 +104,7 @@ impl Numbers {
 
     /// The number that the slot of this rank has, or 0.
     fn slot(&self, rank: usize) -> u16
-        ensures { result ≡ slot_at self.now.slots.items (bit_and rank self.now.mask) }
+        ensures { result ≡ number_in_slot self.now.slots.items (bit_and rank self.now.mask) }
     {
         self.slots.get(rank & self.mask).copied().unwrap_or(0)
     }
@@ -144,7 +144,7 @@ impl Numbers {
         ensures is { IfOk result
             (λ n. IsNumber (number_of pool.now self.new) (text_at pool.now index) n) }
         ensures numbers { IfOk result (λ _. AreNumbers pool.now self.new) }
-        ensures grows { IfOk result (λ _. Grows pool.now self.old self.new) }
+        ensures grows { IfOk result (λ _. KeepsNumbers pool.now self.old self.new) }
         ensures noted { self.new.noted.items ≡ self.old.noted.items }
     {
         let Some(text) = text_at(pool, index) else {
@@ -169,7 +169,7 @@ impl Numbers {
         requires { rank ≡ rank_of text.now }
         ensures met { (pool : List Entry) → text_at pool number ≡ Some text.now
             → number_of pool self.old text.now ≡ None
-            → IfOk result (λ _. Puts pool self.old self.new text.now number) }
+            → IfOk result (λ _. PutsNumber pool self.old self.new text.now number) }
         ensures noted { self.new.noted.items ≡ self.old.noted.items }
     {
         if self.take_slot(rank & self.mask, number) {
@@ -182,7 +182,7 @@ impl Numbers {
     /// Puts a number into a slot, if it is free.
     fn take_slot(&mut self, place: usize, number: u16) -> bool
         ensures took { result ≡ true
-            → Takes self.old.slots.items self.new.slots.items place number }
+            → TakesSlot self.old.slots.items self.new.slots.items place number }
         ensures left { result ≡ false → self.new.slots ≡ self.old.slots }
         ensures mask { self.new.mask ≡ self.old.mask }
         ensures others { self.new.others ≡ self.old.others }

@@ -7,7 +7,7 @@ use Rattle.toml.specs.declared.value.Value.{Value}
 use Rattle.cl_config.specs.declared.fault.ConfigFault.{ConfigFault}
 use Rattle.cl_config.specs.declared.fault.ConfigError.{ConfigError}
 use Rattle.cl_config.specs.declared.fault.ConfigError.TheVariants as errors
-use Rattle.cl_config.specs.Steps.{◌>>=◌, Fails}
+use Rattle.cl_config.specs.Steps.{◌>>=◌, AgreesOnFault}
 use Rattle.cl_config.specs.Fields.{each_from, list_from}
 
 -- how one is read, behind those before it
@@ -40,8 +40,8 @@ goes_on {B = B} one front new xs i x y total lt is read grown so_far = rw grown 
   rest = sym (rw read at (opened one front xs i x lt is)) ∙ so_far.rest;
 })
 
-pub ends : {A B : Type 0} (one : One A B) (e : ConfigError) (front : List B) (xs : List A) (i : ℕ) (x : A) (total : Result (List B) ConfigFault) → i < length xs → x ≡ get_or xs i x → Fails e (one front x)
-    → IsSoFar one front i xs total → Fails e total
+pub ends : {A B : Type 0} (one : One A B) (e : ConfigError) (front : List B) (xs : List A) (i : ℕ) (x : A) (total : Result (List B) ConfigFault) → i < length xs → x ≡ get_or xs i x → AgreesOnFault e (one front x)
+    → IsSoFar one front i xs total → AgreesOnFault e total
 ends one errors.Memory front xs i x total lt is read so_far = tt
 ends one (errors.Fault f) front xs i x total lt is read so_far = sym so_far.rest ∙ rw read at (opened one front xs i x lt is)
 

@@ -16,7 +16,7 @@ use Rattle.cl_config.specs.declared.script.Action.TheVariants as actions
 use Rattle.cl_config.specs.declared.script.Said.{Said}
 use Rattle.cl_config.specs.declared.script.Said.TheVariants.{Ask, Then}
 use Rattle.cl_config.specs.Views.{Scripted, loader_named}
-use Rattle.cl_config.specs.Scripts.{HasLoader, HasLoaders, HasWords, IsRequest, IsThen, WritesIndex, AsksFor, Asks, Says, AllSay, requests_in, rounds_in, thens_in, Fits, StopsAt, Tells, IsOver, IsScript}
+use Rattle.cl_config.specs.Scripts.{HasLoader, HasLoaders, HasWords, IsRequest, IsThen, WritesIndex, AsksFor, ScriptAsks, ScriptSays, ScriptSaysAll, requests_in, rounds_in, thens_in, ScriptFits, ScriptStopsAt, TellsScript, IsTooMany, IsScript}
 use Rattle.cl_names.specs.Name.{WritesClass}
 use Rattle.cl_config.specs.declared.limits.TheConstants.{MOST_REQUESTS, MOST_THENS}
 
@@ -83,7 +83,7 @@ request_is_no_round line a loader name t u = words_no_round line a loader t.text
 
 -- ---- one thing more is said
 
-all_say_more : (names : List (List ℕ)) (front : List Numbered) (xs : List Said) (line : Numbered) (x : Said) → AllSay names front xs → Says names line.text x → AllSay names (front ++ line ∷ []) (xs ++ x ∷ [])
+all_say_more : (names : List (List ℕ)) (front : List Numbered) (xs : List Said) (line : Numbered) (x : Said) → ScriptSaysAll names front xs → ScriptSays names line.text x → ScriptSaysAll names (front ++ line ∷ []) (xs ++ x ∷ [])
 all_say_more names [] [] line x all here = (here, tt)
 all_say_more names [] (y ∷ ys) line x all here = absurd all
 all_say_more names (l ∷ ls) [] line x all here = absurd all
@@ -130,8 +130,8 @@ pub record IsRead (names : List (List ℕ)) (lines left : List Numbered) (reques
   pub front : List Numbered
   pub said : List Said
   pub cut : lines ≡ front ++ left
-  pub says : AllSay names front said
-  pub fits : Fits said
+  pub says : ScriptSaysAll names front said
+  pub fits : ScriptFits said
   pub requests_are : requests ≡ requests_in said
   pub rounds_are : rounds_of ≡ rounds_in 0 said
   pub round_is : round ≡ thens_in said
@@ -141,7 +141,7 @@ none_read names lines = record { front = []; said = []; cut = refl; says = tt; f
 
 -- one more line asks for a request
 pub more_asked : (names : List (List ℕ)) (lines left rest : List Numbered) (requests more : List Request) (rounds_of more_rounds : List ℕ) (round : ℕ) (line : Numbered) (request : Request) (count : ℕ)
-    → IsRead names lines left requests rounds_of round → left ≡ line ∷ rest → Asks names line.text request → more ≡ requests ++ request ∷ [] → more_rounds ≡ rounds_of ++ round ∷ []
+    → IsRead names lines left requests rounds_of round → left ≡ line ∷ rest → ScriptAsks names line.text request → more ≡ requests ++ request ∷ [] → more_rounds ≡ rounds_of ++ round ∷ []
     → count ≡ length requests → (count ≡ MOST_REQUESTS → ⊥) → IsRead names lines rest more more_rounds round
 more_asked names lines left rest requests more rounds_of more_rounds round line request count t first here grown longer counted room = record {
   front = t.front ++ line ∷ [];
@@ -176,7 +176,7 @@ more_begun names lines left rest requests rounds_of round next line t first here
 
 -- a line stops the reading
 pub stops_here : (names : List (List ℕ)) (lines left rest : List Numbered) (requests : List Request) (rounds_of : List ℕ) (round : ℕ) (line : Numbered) (P : List Said → Numbered → Type 0)
-    → (t : IsRead names lines left requests rounds_of round) → left ≡ line ∷ rest → P t.said line → StopsAt names lines P
+    → (t : IsRead names lines left requests rounds_of round) → left ≡ line ∷ rest → P t.said line → ScriptStopsAt names lines P
 stops_here names lines left rest requests rounds_of round line P t first here = record {
   front = t.front;
   line = line;
@@ -190,9 +190,9 @@ stops_here names lines left rest requests rounds_of round line P t first here = 
 
 -- a request more than there may be
 pub one_request_over : (names : List (List ℕ)) (lines left rest : List Numbered) (requests : List Request) (rounds_of : List ℕ) (round : ℕ) (line : Numbered) (request : Request) (count : ℕ)
-    → IsRead names lines left requests rounds_of round → left ≡ line ∷ rest → Asks names line.text request → count ≡ length requests → count ≡ MOST_REQUESTS → StopsAt names lines (IsOver names)
+    → IsRead names lines left requests rounds_of round → left ≡ line ∷ rest → ScriptAsks names line.text request → count ≡ length requests → count ≡ MOST_REQUESTS → ScriptStopsAt names lines (IsTooMany names)
 one_request_over names lines left rest requests rounds_of round line request count t first here counted many =
-    stops_here names lines left rest requests rounds_of round line (IsOver names) t first (record {
+    stops_here names lines left rest requests rounds_of round line (IsTooMany names) t first (record {
       one = Ask request;
       says = here;
       over = λ f. let g = rw (requests_more t.said request) at f.requests in absurd (omega (arith, g, length-append {A = Request}, ap length t.requests_are));
@@ -200,9 +200,9 @@ one_request_over names lines left rest requests rounds_of round line request cou
 
 -- a round more than there may be
 pub one_round_over : (names : List (List ℕ)) (lines left rest : List Numbered) (requests : List Request) (rounds_of : List ℕ) (round : ℕ) (line : Numbered)
-    → IsRead names lines left requests rounds_of round → left ≡ line ∷ rest → IsThen line.text → round ≡ MOST_THENS → StopsAt names lines (IsOver names)
+    → IsRead names lines left requests rounds_of round → left ≡ line ∷ rest → IsThen line.text → round ≡ MOST_THENS → ScriptStopsAt names lines (IsTooMany names)
 one_round_over names lines left rest requests rounds_of round line t first here many =
-    stops_here names lines left rest requests rounds_of round line (IsOver names) t first (record {
+    stops_here names lines left rest requests rounds_of round line (IsTooMany names) t first (record {
       one = Then;
       says = here;
       over = λ f. let g = rw (thens_more t.said) at f.thens in absurd (omega (arith, g, t.round_is));
@@ -213,10 +213,10 @@ scripted rs ns n = record { requests = rs; rounds_of = ns; rounds = n }
 
 -- no line is left
 pub whole_read : (names : List (List ℕ)) (lines left : List Numbered) (requests : List Request) (rounds_of : List ℕ) (round rounds : ℕ)
-    → IsRead names lines left requests rounds_of round → left ≡ [] → rounds ≡ round + 1 → Tells names lines (record { requests = requests; rounds_of = rounds_of; rounds = rounds })
+    → IsRead names lines left requests rounds_of round → left ≡ [] → rounds ≡ round + 1 → TellsScript names lines (record { requests = requests; rounds_of = rounds_of; rounds = rounds })
 whole_read names lines left requests rounds_of round rounds t none is = record {
   said = t.said;
-  says = subst (λ ls. AllSay names ls t.said) (sym (t.cut ∙ ap (λ l. t.front ++ l) none ∙ append-nil t.front)) t.says;
+  says = subst (λ ls. ScriptSaysAll names ls t.said) (sym (t.cut ∙ ap (λ l. t.front ++ l) none ∙ append-nil t.front)) t.says;
   fits = t.fits;
   is = same t.requests_are t.rounds_are (is ∙ ap (λ n. n + 1) t.round_is);
 }
@@ -231,19 +231,19 @@ within : (b : Bool) (n count l : ℕ) → b ≡ nat_lt n count → cond b (Some 
 within true n count l e f = let same : n ≡ l = cc in grind (arith, nat_tests)
 within false n count l e f = absurd cc
 
-has_loader : (names : List (List ℕ)) (line : List ℕ) (request : Request) → Asks names line request → HasLoader (length names) request
+has_loader : (names : List (List ℕ)) (line : List ℕ) (request : Request) → ScriptAsks names line request → HasLoader (length names) request
 has_loader names line (Load loader name) t = within _ (position_or_len (λ name. pointwise nat_eq name t.word) names) (length names) loader refl t.known
 has_loader names line (Resolve loader name index) t = within _ (position_or_len (λ name. pointwise nat_eq name t.word) names) (length names) loader refl t.known
 has_loader names line (Link loader name) t = within _ (position_or_len (λ name. pointwise nat_eq name t.word) names) (length names) loader refl t.known
 
-have_loaders : (names : List (List ℕ)) (lines : List Numbered) (xs : List Said) → AllSay names lines xs → HasLoaders (length names) (requests_in xs)
+have_loaders : (names : List (List ℕ)) (lines : List Numbered) (xs : List Said) → ScriptSaysAll names lines xs → HasLoaders (length names) (requests_in xs)
 have_loaders names [] [] t = All-nil (HasLoader (length names))
 have_loaders names [] (x ∷ xs) t = absurd t
 have_loaders names (l ∷ ls) [] t = absurd t
 have_loaders names (l ∷ ls) (Ask r ∷ xs) t = All-cons (HasLoader (length names)) r (requests_in xs) (has_loader names l.text r t.0) (have_loaders names ls xs t.1)
 have_loaders names (l ∷ ls) (Then ∷ xs) t = have_loaders names ls xs t.1
 
-pub script_loaders : (names : List (List ℕ)) (lines : List Numbered) (s : Scripted) → Tells names lines s → HasLoaders (length names) s.requests
+pub script_loaders : (names : List (List ℕ)) (lines : List Numbered) (s : Scripted) → TellsScript names lines s → HasLoaders (length names) s.requests
 script_loaders names lines s t = subst (λ (s : Scripted). HasLoaders (length names) s.requests) (sym t.is) (have_loaders names lines t.said t.says)
 
 rounds_above : (n : ℕ) (xs : List Said) (q m : ℕ) → slice_get (rounds_in n xs) q ≡ Some m → n ≤ m
@@ -270,7 +270,7 @@ rounds_below n top [] h = All-nil (λ m. m < top)
 rounds_below n top (Ask r ∷ xs) h = All-cons (λ m. m < top) n (rounds_in n xs) (omega arith) (rounds_below n top xs h)
 rounds_below n top (Then ∷ xs) h = rounds_below (n + 1) top xs (omega arith)
 
-pub tells_script : (names : List (List ℕ)) (lines : List Numbered) (s : Scripted) → Tells names lines s → IsScript s
+pub tells_script : (names : List (List ℕ)) (lines : List Numbered) (s : Scripted) → TellsScript names lines s → IsScript s
 tells_script names lines s t = subst (λ (s : Scripted). IsScript s) (sym t.is) (record {
   few = t.fits.requests;
   each = each_has_round 0 t.said;
@@ -295,7 +295,7 @@ one_call names line a b l m n o t u =
     let one = one_asked line a b t.word u.word n o t.request u.request in
     record { actions = one.actions; loaders = some_same (sym t.known ∙ ap (loader_named names) one.loaders ∙ u.known); names = one.names }
 
-one_request : (names : List (List ℕ)) (line : List ℕ) (r s : Request) → Asks names line r → Asks names line s → r ≡ s
+one_request : (names : List (List ℕ)) (line : List ℕ) (r s : Request) → ScriptAsks names line r → ScriptAsks names line s → r ≡ s
 one_request names line (Load l n) (Load m o) t u = let one = one_call names line _ _ l m n o t u in cc
 one_request names line (Load l n) (Resolve m o i) t u = let one = (one_call names line _ _ l m n o t u).actions in absurd cc
 one_request names line (Load l n) (Link m o) t u = let one = (one_call names line _ _ l m n o t u).actions in absurd cc
@@ -306,18 +306,18 @@ one_request names line (Link l n) (Load m o) t u = let one = (one_call names lin
 one_request names line (Link l n) (Resolve m o i) t u = let one = (one_call names line _ _ l m n o t u).actions in absurd cc
 one_request names line (Link l n) (Link m o) t u = let one = one_call names line _ _ l m n o t u in cc
 
-no_round : (names : List (List ℕ)) (line : List ℕ) (r : Request) → Asks names line r → IsThen line → ⊥
+no_round : (names : List (List ℕ)) (line : List ℕ) (r : Request) → ScriptAsks names line r → IsThen line → ⊥
 no_round names line (Load l n) t u = request_is_no_round line _ t.word n t.request u
 no_round names line (Resolve l n i) t u = request_is_no_round line _ t.word n t.request u
 no_round names line (Link l n) t u = request_is_no_round line _ t.word n t.request u
 
-pub one_said : (names : List (List ℕ)) (line : List ℕ) (x y : Said) → Says names line x → Says names line y → x ≡ y
+pub one_said : (names : List (List ℕ)) (line : List ℕ) (x y : Said) → ScriptSays names line x → ScriptSays names line y → x ≡ y
 one_said names line (Ask r) (Ask s) t u = ap (λ q. Ask q) (one_request names line r s t u)
 one_said names line (Ask r) Then t u = absurd (no_round names line r t u)
 one_said names line Then (Ask s) t u = absurd (no_round names line s u t)
 one_said names line Then Then t u = refl
 
-pub all_one_said : (names : List (List ℕ)) (lines : List Numbered) (xs ys : List Said) → AllSay names lines xs → AllSay names lines ys → xs ≡ ys
+pub all_one_said : (names : List (List ℕ)) (lines : List Numbered) (xs ys : List Said) → ScriptSaysAll names lines xs → ScriptSaysAll names lines ys → xs ≡ ys
 all_one_said names [] [] [] t u = refl
 all_one_said names [] [] (y ∷ ys) t u = absurd u
 all_one_said names [] (x ∷ xs) ys t u = absurd t

@@ -8,7 +8,7 @@ use Rattle.cl_config.specs.declared.script.Said.{Said}
 use Rattle.cl_config.specs.declared.script.Said.TheVariants.{Ask, Then}
 use Rattle.cl_config.specs.declared.script.ScriptFault.TheVariants.{Memory, BadLine, UnknownLoader, TooMany}
 use Rattle.cl_config.specs.Views.{Scripted, loader_named}
-use Rattle.cl_config.specs.Scripts.{AsksFor, IsBad, LacksLoader, Asks, Says, AllSay, requests_in, thens_in, Fits, script_from, StopsAt, Tells, IsOver, script_of}
+use Rattle.cl_config.specs.Scripts.{AsksFor, IsBad, LacksLoader, ScriptAsks, ScriptSays, ScriptSaysAll, requests_in, thens_in, ScriptFits, script_from, ScriptStopsAt, TellsScript, IsTooMany, script_of}
 use Rattle.cl_config.specs.ScriptLaws.{ScriptHasOneFault, ScriptOrItsFault}
 use Rattle.cl_config.proofs.Requests.{one_asked, request_is_no_round, one_said, all_one_said}
 
@@ -16,9 +16,9 @@ use Rattle.cl_config.proofs.Requests.{one_asked, request_is_no_round, one_said, 
 
 -- a line that says nothing
 SaysNot : List (List ℕ) → Numbered → Type 0
-SaysNot names line = (x : Said) → Says names line.text x → ⊥
+SaysNot names line = (x : Said) → ScriptSays names line.text x → ⊥
 
-bad_asks_not : (names : List (List ℕ)) (line : Numbered) (r : Request) → IsBad line.text → Asks names line.text r → ⊥
+bad_asks_not : (names : List (List ℕ)) (line : Numbered) (r : Request) → IsBad line.text → ScriptAsks names line.text r → ⊥
 bad_asks_not names line (Load l n) bad t = bad.request _ t.word n t.request
 bad_asks_not names line (Resolve l n i) bad t = bad.request _ t.word n t.request
 bad_asks_not names line (Link l n) bad t = bad.request _ t.word n t.request
@@ -36,7 +36,7 @@ lacks_calls_not names line a l n v t =
     let one = one_asked line v.action a v.word t.word v.name n v.request t.request in
     none_or_some (loader_named names v.word) l v.unknown (ap (loader_named names) one.loaders ∙ t.known)
 
-lacks_asks_not : (names : List (List ℕ)) (line : Numbered) (r : Request) → LacksLoader names line.text → Asks names line.text r → ⊥
+lacks_asks_not : (names : List (List ℕ)) (line : Numbered) (r : Request) → LacksLoader names line.text → ScriptAsks names line.text r → ⊥
 lacks_asks_not names line (Load l n) v t = lacks_calls_not names line.text _ l n v t
 lacks_asks_not names line (Resolve l n i) v t = lacks_calls_not names line.text _ l n v t
 lacks_asks_not names line (Link l n) v t = lacks_calls_not names line.text _ l n v t
@@ -54,10 +54,10 @@ pub record IsSplit (names : List (List ℕ)) (front : List Numbered) (line : Num
   pub here : Said
   pub after : List Said
   pub is : xs ≡ before ++ here ∷ after
-  pub first : AllSay names front before
-  pub says : Says names line.text here
+  pub first : ScriptSaysAll names front before
+  pub says : ScriptSays names line.text here
 
-split : (names : List (List ℕ)) (front : List Numbered) (line : Numbered) (behind : List Numbered) (xs : List Said) → AllSay names (front ++ line ∷ behind) xs → IsSplit names front line behind xs
+split : (names : List (List ℕ)) (front : List Numbered) (line : Numbered) (behind : List Numbered) (xs : List Said) → ScriptSaysAll names (front ++ line ∷ behind) xs → IsSplit names front line behind xs
 split names [] line behind [] t = absurd t
 split names [] line behind (x ∷ xs) t = record { before = []; here = x; after = xs; is = refl; first = tt; says = t.0 }
 split names (l ∷ ls) line behind [] t = absurd t
@@ -103,16 +103,16 @@ cut_of (l ∷ ls) (m ∷ ms) line other behind other_behind e = one_more l m ls 
 -- ---- stops
 
 -- where two stops of one text stand
-stops_cut : (names : List (List ℕ)) (lines : List Numbered) (P Q : List Said → Numbered → Type 0) (v : StopsAt names lines P) (w : StopsAt names lines Q) → Cut v.front v.line w.front w.line
+stops_cut : (names : List (List ℕ)) (lines : List Numbered) (P Q : List Said → Numbered → Type 0) (v : ScriptStopsAt names lines P) (w : ScriptStopsAt names lines Q) → Cut v.front v.line w.front w.line
 stops_cut names lines P Q v w = cut_of v.front w.front v.line w.line v.behind w.behind (sym v.cut ∙ w.cut)
 
 -- what stands before a stop says something
-before_says : (names : List (List ℕ)) (front : List Numbered) (line : Numbered) (other : List Numbered) (xs : List Said) → IsBefore front line other → AllSay names other xs → SaysNot names line → ⊥
+before_says : (names : List (List ℕ)) (front : List Numbered) (line : Numbered) (other : List Numbered) (xs : List Said) → IsBefore front line other → ScriptSaysAll names other xs → SaysNot names line → ⊥
 unfolding SaysNot
-before_says names front line other xs b t none = let s = split names front line b.behind xs (subst (λ ls. AllSay names ls xs) b.is t) in none s.here s.says
+before_says names front line other xs b t none = let s = split names front line b.behind xs (subst (λ ls. ScriptSaysAll names ls xs) b.is t) in none s.here s.says
 
 -- two lines that say nothing and where the reading stops are one
-same_line : (names : List (List ℕ)) (lines : List Numbered) (P Q : List Said → Numbered → Type 0) (v : StopsAt names lines P) (w : StopsAt names lines Q) → SaysNot names v.line → SaysNot names w.line → v.line ≡ w.line
+same_line : (names : List (List ℕ)) (lines : List Numbered) (P Q : List Said → Numbered → Type 0) (v : ScriptStopsAt names lines P) (w : ScriptStopsAt names lines Q) → SaysNot names v.line → SaysNot names w.line → v.line ≡ w.line
 unfolding Cut
 same_line names lines P Q v w none neither =
     elim (stops_cut names lines P Q v w) [
@@ -133,35 +133,35 @@ thens_front [] ys = omega arith
 thens_front (Ask r ∷ xs) ys = thens_front xs ys
 thens_front (Then ∷ xs) ys = let rest = thens_front xs ys in omega arith
 
-front_fits : (xs ys : List Said) → Fits (xs ++ ys) → Fits xs
+front_fits : (xs ys : List Said) → ScriptFits (xs ++ ys) → ScriptFits xs
 front_fits xs ys f = record { requests = omega (arith, requests_front xs ys, f.requests); thens = omega (arith, thens_front xs ys, f.thens) }
 
 -- a line with which there are too many stands before none that fits
-over_before : (names : List (List ℕ)) (front : List Numbered) (line : Numbered) (behind : List Numbered) (said xs : List Said) → AllSay names front said → IsOver names said line
-    → AllSay names (front ++ line ∷ behind) xs → Fits xs → ⊥
+over_before : (names : List (List ℕ)) (front : List Numbered) (line : Numbered) (behind : List Numbered) (said xs : List Said) → ScriptSaysAll names front said → IsTooMany names said line
+    → ScriptSaysAll names (front ++ line ∷ behind) xs → ScriptFits xs → ⊥
 over_before names front line behind said xs t o u f =
     let s = split names front line behind xs u in
     let same_front : s.before ≡ said = all_one_said names front s.before said s.first t in
     let same_here : s.here ≡ o.one = one_said names line.text s.here o.one s.says o.says in
     let whole : xs ≡ (said ++ o.one ∷ []) ++ s.after = s.is ∙ ap (λ ys. ys ++ s.here ∷ s.after) same_front ∙ ap (λ x. said ++ x ∷ s.after) same_here ∙ sym (append_assoc said (o.one ∷ []) s.after) in
-    o.over (front_fits (said ++ o.one ∷ []) s.after (subst (λ ys. Fits ys) whole f))
+    o.over (front_fits (said ++ o.one ∷ []) s.after (subst (λ ys. ScriptFits ys) whole f))
 
 -- a line that says nothing is not one too many, and stands elsewhere than where there are
-wrong_or_over : (names : List (List ℕ)) (lines : List Numbered) (P : List Said → Numbered → Type 0) (v : StopsAt names lines P) → SaysNot names v.line → StopsAt names lines (IsOver names) → ⊥
+wrong_or_over : (names : List (List ℕ)) (lines : List Numbered) (P : List Said → Numbered → Type 0) (v : ScriptStopsAt names lines P) → SaysNot names v.line → ScriptStopsAt names lines (IsTooMany names) → ⊥
 unfolding Cut SaysNot
 wrong_or_over names lines P v none w =
-    elim (stops_cut names lines P (IsOver names) v w) [
-      | inl h ↦ none w.here.one (subst (λ (l : Numbered). Says names l.text w.here.one) (sym h.lines) w.here.says)
+    elim (stops_cut names lines P (IsTooMany names) v w) [
+      | inl h ↦ none w.here.one (subst (λ (l : Numbered). ScriptSays names l.text w.here.one) (sym h.lines) w.here.says)
       | inr (inl h) ↦ before_says names v.front v.line w.front w.said h w.says none
-      | inr (inr h) ↦ over_before names w.front w.line h.behind w.said v.said w.says w.here (subst (λ ls. AllSay names ls v.said) h.is v.says) v.fits
+      | inr (inr h) ↦ over_before names w.front w.line h.behind w.said v.said w.says w.here (subst (λ ls. ScriptSaysAll names ls v.said) h.is v.says) v.fits
     ]
 
 -- ---- the laws
 
-bad_not : (names : List (List ℕ)) (lines : List Numbered) (n : ℕ) (v : StopsAt names lines (λ said line. (n ≡ line.number) × IsBad line.text)) → SaysNot names v.line
+bad_not : (names : List (List ℕ)) (lines : List Numbered) (n : ℕ) (v : ScriptStopsAt names lines (λ said line. (n ≡ line.number) × IsBad line.text)) → SaysNot names v.line
 bad_not names lines n v = bad_says_not names v.line v.here.1
 
-lacks_not : (names : List (List ℕ)) (lines : List Numbered) (n : ℕ) (v : StopsAt names lines (λ said line. (n ≡ line.number) × LacksLoader names line.text)) → SaysNot names v.line
+lacks_not : (names : List (List ℕ)) (lines : List Numbered) (n : ℕ) (v : ScriptStopsAt names lines (λ said line. (n ≡ line.number) × LacksLoader names line.text)) → SaysNot names v.line
 lacks_not names lines n v = lacks_says_not names v.line v.here.1
 
 one_number : (m n : ℕ) (a b : Numbered) → m ≡ a.number → n ≡ b.number → a ≡ b → m ≡ n
@@ -191,11 +191,11 @@ script_has_one_fault names text TooMany (UnknownLoader n) v w some other = absur
 script_has_one_fault names text TooMany TooMany v w some other = refl
 
 -- lines that all say something stop at none that says nothing
-tells_or_wrong : (names : List (List ℕ)) (lines : List Numbered) (P : List Said → Numbered → Type 0) (s : Scripted) → Tells names lines s → (w : StopsAt names lines P) → SaysNot names w.line → ⊥
+tells_or_wrong : (names : List (List ℕ)) (lines : List Numbered) (P : List Said → Numbered → Type 0) (s : Scripted) → TellsScript names lines s → (w : ScriptStopsAt names lines P) → SaysNot names w.line → ⊥
 tells_or_wrong names lines P s t w none = before_says names w.front w.line lines t.said (record { behind = w.behind; is = w.cut }) t.says none
 
-tells_or_over : (names : List (List ℕ)) (lines : List Numbered) (s : Scripted) → Tells names lines s → StopsAt names lines (IsOver names) → ⊥
-tells_or_over names lines s t w = over_before names w.front w.line w.behind w.said t.said w.says w.here (subst (λ ls. AllSay names ls t.said) w.cut t.says) t.fits
+tells_or_over : (names : List (List ℕ)) (lines : List Numbered) (s : Scripted) → TellsScript names lines s → ScriptStopsAt names lines (IsTooMany names) → ⊥
+tells_or_over names lines s t w = over_before names w.front w.line w.behind w.said t.said w.says w.here (subst (λ ls. ScriptSaysAll names ls t.said) w.cut t.says) t.fits
 
 pub script_or_its_fault : ScriptOrItsFault
 script_or_its_fault names text s Memory v w some = some refl

@@ -10,7 +10,7 @@ use Rattle.cl_names.proofs.Grammars.{class_from_test, class_test_of}
 use Rattle.cl_config.specs.declared.script.Action.{Action}
 use Rattle.cl_config.specs.declared.script.Action.TheVariants as actions
 use Rattle.cl_config.specs.Scripts.{HasWords, WritesIndex, IsRequest, IsBad, LacksLoader}
-use Rattle.cl_config.specs.Examples.{two, Makes}
+use Rattle.cl_config.specs.Examples.{two, LineMakes}
 use Rattle.cl_config.proofs.Requests.{words_alone}
 
 -- ---- names
@@ -68,20 +68,20 @@ no_request line a word words b loader name t = no_class name (subst_text (words_
 pub bad_name : IsBad (codes "link x p.A")
 bad_name = record { request = no_request (codes "link x p.A") actions.Link (codes "x") refl; round = λ h. absurd cc }
 
-pub asks_link : Makes (codes "link app p/A") (Link 1 (codes "p/A"))
+pub asks_link : LineMakes (codes "link app p/A") (Link 1 (codes "p/A"))
 asks_link = record { word = codes "app"; request = of_p_a (codes "link app p/A") actions.Link (codes "app") refl; known = refl }
 
-pub asks_load : Makes (codes "load app p/A") (Load 1 (codes "p/A"))
+pub asks_load : LineMakes (codes "load app p/A") (Load 1 (codes "p/A"))
 asks_load = record { word = codes "app"; request = of_p_a (codes "load app p/A") actions.Load (codes "app") refl; known = refl }
 
-pub asks_spaced : Makes (codes "  resolve boot  p/A 7 ") (Resolve 0 (codes "p/A") 7)
+pub asks_spaced : LineMakes (codes "  resolve boot  p/A 7 ") (Resolve 0 (codes "p/A") 7)
 asks_spaced = record {
   word = codes "boot";
   request = of_p_a (codes "  resolve boot  p/A 7 ") (actions.Resolve 7) (codes "boot") (codes "7", refl, seven);
   known = refl;
 }
 
-pub asks_resolve : Makes (codes "resolve app p/A 1") (Resolve 1 (codes "p/A") 1)
+pub asks_resolve : LineMakes (codes "resolve app p/A 1") (Resolve 1 (codes "p/A") 1)
 asks_resolve = record {
   word = codes "app";
   request = of_p_a (codes "resolve app p/A 1") (actions.Resolve 1) (codes "app") (codes "1", refl, one);

@@ -67,8 +67,8 @@ array_at ms =
     >>= λ d. ok_or (as_array d) (BadLoader 0)
 
 -- some tables, and not too many, where nothing stands beside them
-abbrev pub checked_tables : Bool → Items → Result Items ConfigFault
-checked_tables alone ds =
+abbrev pub loader_tables : Bool → Items → Result Items ConfigFault
+loader_tables alone ds =
     if alone && nat_lt 0 (count ds) && are_tables ds
     then (if nat_lt MOST_LOADERS (count ds) then Err TooMany else Ok ds)
     else Err (BadLoader 0)
@@ -77,7 +77,7 @@ checked_tables alone ds =
 unfoldable pub top_of : Members → Result Items ConfigFault
 top_of ms = do
   ds ← array_at ms
-  checked_tables (has_only (is_one_of top_keys) ms) ds
+  loader_tables (has_only (is_one_of top_keys) ms) ds
 
 -- ---- whom a loader asks: each loader in order, its parent and then its imports
 

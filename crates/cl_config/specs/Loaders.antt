@@ -10,22 +10,22 @@ use Rattle.cl_config.specs.declared.order.Order.TheVariants.{ParentFirst, ChildF
 use Rattle.cl_config.specs.Views.{Configured, Loader, Scripted}
 
 -- whether the parent is asked before the own content (5.3.2)
-abbrev pub order_of : Order → homes.Order
-order_of ParentFirst = homes.ParentFirst
-order_of ChildFirst = homes.ChildFirst
+abbrev pub world_order : Order → homes.Order
+world_order ParentFirst = homes.ParentFirst
+world_order ChildFirst = homes.ChildFirst
 
 -- a loader, above which its parent stands, where it has one (5.3, 5.3.2)
-abbrev pub loader_of : Loader → homes.Loader
-loader_of l =
+abbrev pub world_loader : Loader → homes.WorldLoader
+world_loader l =
     record {
       parents = option_to_list l.parent;
-      order = order_of l.order;
+      order = world_order l.order;
       imports = l.imports;
     }
 
 -- the loaders, in order (5.3)
-abbrev pub loaders_of : Configured → List homes.Loader
-loaders_of c = map loader_of c.loaders
+abbrev pub loaders_in : Configured → List homes.WorldLoader
+loaders_in c = map world_loader c.loaders
 
 -- the requests with their rounds, in order
 abbrev pub schedule : List Request → List ℕ → List Scheduled

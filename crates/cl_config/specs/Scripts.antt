@@ -78,15 +78,16 @@ pub record AsksFor (names : List (List ℕ)) (line : List ℕ) (action : Action)
   pub known : loader_named names word ≡ Some loader
 
 -- the line makes this request
-abbrev pub Asks : List (List ℕ) → List ℕ → Request → Type 0
-Asks names line (Load loader name) = AsksFor names line actions.Load loader name
-Asks names line (Resolve loader name index) = AsksFor names line (actions.Resolve index) loader name
-Asks names line (Link loader name) = AsksFor names line actions.Link loader name
+abbrev pub ScriptAsks : List (List ℕ) → List ℕ → Request → Type 0
+ScriptAsks names line (Load loader name) = AsksFor names line actions.Load loader name
+ScriptAsks names line (Resolve loader name index) =
+    AsksFor names line (actions.Resolve index) loader name
+ScriptAsks names line (Link loader name) = AsksFor names line actions.Link loader name
 
 -- the line says this
-abbrev pub Says : List (List ℕ) → List ℕ → Said → Type 0
-Says names line (Ask request) = Asks names line request
-Says names line Then = IsThen line
+abbrev pub ScriptSays : List (List ℕ) → List ℕ → Said → Type 0
+ScriptSays names line (Ask request) = ScriptAsks names line request
+ScriptSays names line Then = IsThen line
 
 -- the line is none that a script may have
 pub record IsBad (line : List ℕ) : Type 0 where
@@ -111,14 +112,14 @@ HasFault names line Memory = Unit {0}
 
 -- what a line is read as: what it says, or its fault
 abbrev pub line_of : List (List ℕ) → Numbered → Result Said ScriptFault → Type 0
-line_of names line (Ok one) = Says names line.text one
+line_of names line (Ok one) = ScriptSays names line.text one
 line_of names line (Err fault) = HasFault names line fault
 
 -- ---- all lines
 
 -- the lines say these, in order
-abbrev pub AllSay : List (List ℕ) → List Numbered → List Said → Type 0
-AllSay names lines said = AllZip (λ l x. Says names l.text x) lines said
+abbrev pub ScriptSaysAll : List (List ℕ) → List Numbered → List Said → Type 0
+ScriptSaysAll names lines said = AllZip (λ l x. ScriptSays names l.text x) lines said
 
 -- the requests, in order
 abbrev pub requests_in : List Said → List Request
@@ -140,7 +141,7 @@ thens_in (Then ∷ xs) = thens_in xs + 1
 
 -- there are not too many requests, and not too many lines that begin a round (own choice of the
 -- numbers)
-pub record Fits (xs : List Said) : Type 0 where
+pub record ScriptFits (xs : List Said) : Type 0 where
   pub requests : length (requests_in xs) ≤ MOST_REQUESTS
   pub thens : thens_in xs ≤ MOST_THENS
 
@@ -150,38 +151,38 @@ script_from xs =
     record { requests = requests_in xs; rounds_of = rounds_in 0 xs; rounds = thens_in xs + 1 }
 
 -- after some lines, not too many, that each say something there is a line of which P holds
-pub record StopsAt (names : List (List ℕ)) (lines : List Numbered)
+pub record ScriptStopsAt (names : List (List ℕ)) (lines : List Numbered)
     (P : List Said → Numbered → Type 0) : Type 0 where
   pub front : List Numbered
   pub line : Numbered
   pub behind : List Numbered
   pub said : List Said
   pub cut : lines ≡ front ++ line ∷ behind
-  pub says : AllSay names front said
-  pub fits : Fits said
+  pub says : ScriptSaysAll names front said
+  pub fits : ScriptFits said
   pub here : P said line
 
 -- what the lines say is this script
-pub record Tells (names : List (List ℕ)) (lines : List Numbered) (s : Scripted) : Type 0 where
+pub record TellsScript (names : List (List ℕ)) (lines : List Numbered) (s : Scripted) : Type 0 where
   pub said : List Said
-  pub says : AllSay names lines said
-  pub fits : Fits said
+  pub says : ScriptSaysAll names lines said
+  pub fits : ScriptFits said
   pub is : s ≡ script_from said
 
 -- a line with which there are too many
-pub record IsOver (names : List (List ℕ)) (said : List Said) (line : Numbered) : Type 0 where
+pub record IsTooMany (names : List (List ℕ)) (said : List Said) (line : Numbered) : Type 0 where
   pub one : Said
-  pub says : Says names line.text one
-  pub over : Fits (said ++ one ∷ []) → ⊥
+  pub says : ScriptSays names line.text one
+  pub over : ScriptFits (said ++ one ∷ []) → ⊥
 
 -- what the lines of a text are read as: the script, or the first line that is wrong or one too many
 abbrev pub script_of : List (List ℕ) → List ℕ → Result Scripted ScriptFault → Type 0
-script_of names text (Ok script) = Tells names (stated_from 1 text) script
+script_of names text (Ok script) = TellsScript names (stated_from 1 text) script
 script_of names text (Err (BadLine n)) =
-    StopsAt names (stated_from 1 text) (λ said line. HasFault names line (BadLine n))
+    ScriptStopsAt names (stated_from 1 text) (λ said line. HasFault names line (BadLine n))
 script_of names text (Err (UnknownLoader n)) =
-    StopsAt names (stated_from 1 text) (λ said line. HasFault names line (UnknownLoader n))
-script_of names text (Err TooMany) = StopsAt names (stated_from 1 text) (IsOver names)
+    ScriptStopsAt names (stated_from 1 text) (λ said line. HasFault names line (UnknownLoader n))
+script_of names text (Err TooMany) = ScriptStopsAt names (stated_from 1 text) (IsTooMany names)
 script_of names text (Err Memory) = 0 < length (stated_from 1 text)
 
 -- ---- what is so of every script

@@ -4,8 +4,8 @@ ghost use Rattle.std.specs.Prelude.{◌≡◌, ◌<◌, ◌≤◌, ◌++◌, [],
 ghost use Rattle.std.specs.List.{list_all};
 ghost use Rattle.toml.specs.Data.{as_table};
 ghost use Rattle.toml.specs.View.{view, table_view, items_view};
-ghost use Rattle.cl_config.specs.Configs.{top_of, array_at, checked_tables, config_in, config_of, IsConfig, LeadsBelow};
-ghost use Rattle.cl_config.specs.Steps.{Finds, Gives};
+ghost use Rattle.cl_config.specs.Configs.{top_of, array_at, loader_tables, config_in, config_of, IsConfig, LeadsBelow};
+ghost use Rattle.cl_config.specs.Steps.{Finds, Agrees};
 ghost use Rattle.cl_config.specs.Views.{first_named, loader_named, names_of};
 ghost use Rattle.cl_names.specs.Truth.{Decides};
 
@@ -57,7 +57,7 @@ impl Config {
     /// The configuration that a text is: of the texts that `toml` reads those whose table keeps the rules of
     /// `specs/Configs.antt`, and no others. Else the first fault, or out of memory.
     pub fn read(alloc: Global, text: &str) -> Result<Config, ConfigError>
-        ensures { Gives (λ c. c) result (config_of text.now) }
+        ensures { Agrees (λ c. c) result (config_of text.now) }
     {
         match toml::table_from_str(alloc, text) {
             Ok(table) => config_in(alloc, &table),
@@ -183,7 +183,7 @@ fn loader_at(loaders: &[Loader], place: usize) -> &Loader
 /// The configuration that a document is.
 #[tactic(auto, unfolding(crate::specs::Configs::config_in))]
 fn config_in(alloc: Global, table: &Table) -> Result<Config, ConfigError>
-    ensures { Gives (λ c. c) result (config_in (table_view table.now)) }
+    ensures { Agrees (λ c. c) result (config_in (table_view table.now)) }
 {
     let values = top_in(table)?;
     let entries = entries_in(alloc, values)?;
@@ -224,7 +224,7 @@ fn array_at(table: &Table) -> Result<&[Value], ConfigFault>
 /// Some tables, and not too many, where nothing stands beside them.
 #[tactic(auto, using(crate::proofs::Tops::count_is, crate::proofs::Tops::tables_are))]
 fn check_tables(alone: bool, values: &[Value]) -> Result<&[Value], ConfigFault>
-    ensures found { Finds (λ vs. items_view vs.now) result (checked_tables alone
+    ensures found { Finds (λ vs. items_view vs.now) result (loader_tables alone
         (items_view values.now)) }
     ensures some { IfOk result (λ vs. 0 < length vs.now) }
     ensures few { IfOk result (λ vs. length vs.now ≤ MOST_LOADERS) }

@@ -6,7 +6,7 @@ ghost use Rattle.std.specs.Cmp.Lexicographic.{pointwise};
 ghost use Rattle.toml.specs.View.{view, items_view};
 ghost use Rattle.cl_config.specs.Fields.{each_from};
 ghost use Rattle.cl_config.specs.Entries.{import_at, imports_at, entry_of, entries_of, is_new_name, is_name_byte};
-ghost use Rattle.cl_config.specs.Steps.{Gives};
+ghost use Rattle.cl_config.specs.Steps.{Agrees};
 
 use crate::fault::{ConfigError, ConfigFault};
 use crate::fields::{Field, Text, or_else, table_in, under};
@@ -154,7 +154,7 @@ impl Entry {
 /// The import that a table is.
 #[tactic(auto, unfolding(crate::specs::Entries::import_at))]
 fn import_at(alloc: Global, wrong: ConfigFault, value: &Value) -> Result<EntryImport, ConfigError>
-    ensures { Gives (λ x. x) result (import_at wrong (view value.now)) }
+    ensures { Agrees (λ x. x) result (import_at wrong (view value.now)) }
 {
     let table = table_in(wrong, &["prefix", "from"], value)?;
     let prefix = under::<Name>(alloc, wrong, table, "prefix")?;
@@ -168,7 +168,7 @@ fn imports_in(
     wrong: ConfigFault,
     values: &[Value],
 ) -> Result<EntryImports, ConfigError>
-    ensures { Gives (λ x. x) result (each_from (λ before. import_at wrong) []
+    ensures { Agrees (λ x. x) result (each_from (λ before. import_at wrong) []
         (items_view values.now)) }
 {
     let mut links = Vec::new(alloc);
@@ -239,7 +239,7 @@ fn entry_of(
     before: &[Entry],
     value: &Value,
 ) -> Result<Entry, ConfigError>
-    ensures { Gives (λ x. x) result (entry_of wrong before.now (view value.now)) }
+    ensures { Agrees (λ x. x) result (entry_of wrong before.now (view value.now)) }
 {
     let table = table_in(wrong, &["name", "dir", "parent", "order", "imports"], value)?;
     let name = under::<Text>(alloc, wrong, table, "name")?;
@@ -266,7 +266,7 @@ fn entry_of(
 /// The loaders that an array is.
 pub fn entries_in(alloc: Global, values: &[Value]) -> Result<Vec<Entry>, ConfigError>
     requires { length values.now ≤ MOST_LOADERS }
-    ensures loaders { Gives (λ v. v.items) result (entries_of (items_view values.now)) }
+    ensures loaders { Agrees (λ v. v.items) result (entries_of (items_view values.now)) }
     ensures count { IfOk result (λ v. length v.items ≡ length values.now) }
 {
     let mut loaders = Vec::new(alloc);

@@ -1,17 +1,17 @@
 //! Worked examples, computed from the definitions.
 ghost use Rattle.std.specs.Prelude.{◌≡◌, ℕ, List, [], ◌∷◌, codes, Ok, Err};
 ghost use Rattle.cl_model.specs.declared.request.Request.TheVariants.{Load, Resolve, Link};
-ghost use Rattle.cl_config.specs.Scripts.{IsBad, LacksLoader, Says, WritesIndex, script_of};
-ghost use Rattle.cl_config.specs.Examples.{two, Makes};
+ghost use Rattle.cl_config.specs.Scripts.{IsBad, LacksLoader, ScriptSays, WritesIndex, script_of};
+ghost use Rattle.cl_config.specs.Examples.{two, LineMakes};
 ghost use Rattle.cl_config.specs.declared.script.Said.TheVariants.{Then};
 ghost use Rattle.cl_config.specs.declared.script.ScriptFault.TheVariants.{BadLine, UnknownLoader};
 
 /// Lines that make a request or begin a round; spaces part the words.
 pub fn lines_that_say()
-    ensures load { Makes (codes "load app p/A") (Load 1 (codes "p/A")) }
-    ensures resolve { Makes (codes "  resolve boot  p/A 7 ") (Resolve 0 (codes "p/A") 7) }
-    ensures link { Makes (codes "link app p/A") (Link 1 (codes "p/A")) }
-    ensures round { Says two (codes " then ") Then }
+    ensures load { LineMakes (codes "load app p/A") (Load 1 (codes "p/A")) }
+    ensures resolve { LineMakes (codes "  resolve boot  p/A 7 ") (Resolve 0 (codes "p/A") 7) }
+    ensures link { LineMakes (codes "link app p/A") (Link 1 (codes "p/A")) }
+    ensures round { ScriptSays two (codes " then ") Then }
 {}
 
 /// An index is one to five digits, leading zeros among them, of at most `MOST_INDEX`.

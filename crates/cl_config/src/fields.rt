@@ -8,7 +8,7 @@ ghost use Rattle.toml.specs.Data.{Data, get_member, as_str};
 ghost use Rattle.toml.specs.View.{view, table_view, array_view};
 ghost use Rattle.cl_config.specs.Fields.{has_only, table_of, text_of, optional_text, name_of};
 ghost use Rattle.cl_names.specs.Escape.{unescaped};
-ghost use Rattle.cl_config.specs.Steps.{Finds, Gives};
+ghost use Rattle.cl_config.specs.Steps.{Finds, Agrees};
 
 use crate::fault::{ConfigError, ConfigFault};
 use cl_names::{Name, NameFault};
@@ -40,7 +40,7 @@ impl Model for Text {
 impl Text {
     /// A copy of a text.
     pub fn new(alloc: Global, text: &str) -> Result<Text, ConfigError>
-        ensures { Gives (λ t. t) result (Ok text.now) }
+        ensures { Agrees (λ t. t) result (Ok text.now) }
     {
         Ok(Text {
             text: String::from_str(alloc, text)?,
@@ -67,7 +67,7 @@ pub trait Field: Drop {
     fn read(alloc: Global, wrong: ConfigFault, value: Option<&Value>) -> Result<Self, ConfigError>
     where
         Self: Sized,
-        ensures { Gives (λ x. x) result (field wrong (option_map (λ v. view v.now) value.entry)) };
+        ensures { Agrees (λ x. x) result (field wrong (option_map (λ v. view v.now) value.entry)) };
 }
 
 impl Field for Text {
@@ -98,7 +98,7 @@ impl Field for Option<Text> {
 
 /// The text that a value is.
 fn text_in(alloc: Global, wrong: ConfigFault, value: &Value) -> Result<Text, ConfigError>
-    ensures { Gives (λ x. x) result (ok_or (as_str (view value.now)) wrong) }
+    ensures { Agrees (λ x. x) result (ok_or (as_str (view value.now)) wrong) }
 {
     match value.as_str() {
         Some(text) => Text::new(alloc, text),
@@ -113,7 +113,7 @@ pub fn under<T: Field>(
     table: &Table,
     key: &str,
 ) -> Result<T, ConfigError>
-    ensures { Gives (λ x. x) result (T.field wrong (get_member key.now (table_view table.now))) }
+    ensures { Agrees (λ x. x) result (T.field wrong (get_member key.now (table_view table.now))) }
 {
     T::read(alloc, wrong, value_at(table, key))
 }
@@ -150,7 +150,7 @@ impl Field for Name {
 
 /// The name that escaped text writes.
 fn name_in_text(alloc: Global, wrong: ConfigFault, text: &str) -> Result<Name, ConfigError>
-    ensures { Gives (λ x. x) result (ok_or (unescaped text.now) wrong) }
+    ensures { Agrees (λ x. x) result (ok_or (unescaped text.now) wrong) }
 {
     match Name::from_text(alloc, text) {
         Ok(name) => Ok(name),
@@ -162,7 +162,7 @@ fn name_in_text(alloc: Global, wrong: ConfigFault, text: &str) -> Result<Name, C
 
 /// The text that is there, or else a copy of the other.
 pub fn or_else(alloc: Global, other: &Text, text: Option<Text>) -> Result<Text, ConfigError>
-    ensures { Gives (λ x. x) result (Ok (unwrap_or text other.now)) }
+    ensures { Agrees (λ x. x) result (Ok (unwrap_or text other.now)) }
 {
     match text {
         Some(text) => Ok(text),

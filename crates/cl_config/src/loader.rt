@@ -2,7 +2,7 @@
 
 ghost use Rattle.std.specs.Prelude.{◌≡◌, ◌<◌, ◌≤◌, ◌^◌, [], length, Ok, IfOk};
 ghost use Rattle.cl_config.specs.Configs.{place_of, earlier, parent_of, import_of, imports_of, loader_of, loaders_of, AllLeadBelow};
-ghost use Rattle.cl_config.specs.Steps.{Finds, Gives};
+ghost use Rattle.cl_config.specs.Steps.{Finds, Agrees};
 
 use crate::entry::{Entry, EntryImport};
 use crate::fault::{ConfigError, ConfigFault};
@@ -186,7 +186,7 @@ fn import_of(
     import: &EntryImport,
 ) -> Result<Import, ConfigError>
     requires { i < MOST_LOADERS }
-    ensures { Gives (λ x. x) result (import_of entries.now i import.now) }
+    ensures { Agrees (λ x. x) result (import_of entries.now i import.now) }
 {
     let target = earlier(entries, i, import.from())?;
     let prefix = import.prefix().try_clone(alloc)?;
@@ -201,7 +201,7 @@ fn imports_of(
     imports: &[EntryImport],
 ) -> Result<Imports, ConfigError>
     requires { i < MOST_LOADERS }
-    ensures { Gives (λ x. x) result (imports_of entries.now i imports.now) }
+    ensures { Agrees (λ x. x) result (imports_of entries.now i imports.now) }
 {
     let mut items = Vec::with_capacity(alloc, imports.len())?;
     for import in imports {
@@ -219,7 +219,7 @@ fn loader_of(
     entry: &Entry,
 ) -> Result<Loader, ConfigError>
     requires { i < MOST_LOADERS }
-    ensures { Gives (λ x. x) result (loader_of entries.now i entry.now) }
+    ensures { Agrees (λ x. x) result (loader_of entries.now i entry.now) }
 {
     let parent = parent_of(entries, i, entry.parent())?;
     let imports = imports_of(alloc, entries, i, entry.imports())?;
@@ -235,7 +235,7 @@ fn loader_of(
 /// Each loader, in order.
 pub(crate) fn loaders_of(alloc: Global, entries: &[Entry]) -> Result<Vec<Loader>, ConfigError>
     requires { length entries.now ≤ MOST_LOADERS }
-    ensures read { Gives (λ v. v.items) result (loaders_of entries.now) }
+    ensures read { Agrees (λ v. v.items) result (loaders_of entries.now) }
     ensures count { IfOk result (λ v. length v.items ≡ length entries.now) }
     ensures below { IfOk result (λ v. AllLeadBelow 0 v.items) }
 {

@@ -2,7 +2,7 @@
 
 ghost use Rattle.std.specs.Prelude.{◌≡◌, Ok};
 ghost use Rattle.cl_config.specs.Fields.{order_of};
-ghost use Rattle.cl_config.specs.Steps.{Gives};
+ghost use Rattle.cl_config.specs.Steps.{Agrees};
 
 use crate::fault::{ConfigError, ConfigFault};
 use crate::fields::Field;

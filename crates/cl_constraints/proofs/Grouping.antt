@@ -6,17 +6,17 @@ use Rattle.std.proofs.lemmas.Bool.{and_from, eqb-true, or_left, or_right}
 use Rattle.std.specs.Prelude.{if◌then◌else◌}
 use Rattle.cl_constraints.specs.declared.record.Entered.{Entered}
 use Rattle.cl_constraints.specs.Records.{home_in}
-use Rattle.cl_constraints.specs.Groups.{Joint, Grouped, group_of, shared, AreJoined, AreApart, HasItsHome, HaveHomes, IsGrouped, home_or, class_in, IsClassOf, loaders_or, members, with_home}
+use Rattle.cl_constraints.specs.Groups.{Joint, Grouped, group_of, has_both, AreJoined, AreApart, HasItsHome, HaveHomes, IsGrouped, home_or, joined_class, IsClassOf, loaders_or, members, with_home}
 use Rattle.cl_model.specs.Probes.{is_in}
 use Rattle.cl_model.specs.States.{Differs, Divides}
 use Rattle.cl_constraints.proofs.Recording.{home_elsewhere, home_here}
 
 -- a loader that is in no group shares none
-pub none_shared : (gs : List Joint) (a b : ℕ) → list_any (λ g. is_in g.loaders a) gs ≡ false → shared gs a b ≡ false
+pub none_shared : (gs : List Joint) (a b : ℕ) → list_any (λ g. is_in g.loaders a) gs ≡ false → has_both gs a b ≡ false
 none_shared [] a b h = refl
 none_shared (g ∷ gs) a b h = at (is_in g.loaders a) (list_any (λ g. is_in g.loaders a) gs) (none_shared gs a b) h
   where
-    at : (x y : Bool) → (y ≡ false → shared gs a b ≡ false) → (x || y) ≡ false → ((x && is_in g.loaders b) || shared gs a b) ≡ false
+    at : (x y : Bool) → (y ≡ false → has_both gs a b ≡ false) → (x || y) ≡ false → ((x && is_in g.loaders b) || has_both gs a b) ≡ false
     at true y k h = absurd cc
     at false y k h = k h
 
@@ -26,7 +26,7 @@ in_group None loader = false
 in_group (Some g) loader = is_in g.loaders loader
 
 -- two loaders share a group where the one's group has the other
-pub shared_found : (gs : List Joint) (a b : ℕ) → AreApart gs → shared gs a b ≡ in_group (group_of gs a) b
+pub shared_found : (gs : List Joint) (a b : ℕ) → AreApart gs → has_both gs a b ≡ in_group (group_of gs a) b
 shared_found [] a b h = refl
 shared_found (g ∷ gs) a b h = at (is_in g.loaders a) (λ k. none_shared gs a b (h.0 a k)) (shared_found gs a b h.1)
   where
@@ -34,8 +34,8 @@ shared_found (g ∷ gs) a b h = at (is_in g.loaders a) (λ k. none_shared gs a b
     or_false true y k = refl
     or_false false y k = k
 
-    at : (x : Bool) → (x ≡ true → shared gs a b ≡ false) → shared gs a b ≡ in_group (group_of gs a) b → ((x && is_in g.loaders b) || shared gs a b) ≡ in_group (if x then Some g else group_of gs a) b
-    at true k ih = or_false (is_in g.loaders b) (shared gs a b) (k refl)
+    at : (x : Bool) → (x ≡ true → has_both gs a b ≡ false) → has_both gs a b ≡ in_group (group_of gs a) b → ((x && is_in g.loaders b) || has_both gs a b) ≡ in_group (if x then Some g else group_of gs a) b
+    at true k ih = or_false (is_in g.loaders b) (has_both gs a b) (k refl)
     at false k ih = ih
 
 -- the group that was found has the loader
@@ -71,21 +71,21 @@ itself a = rw (eq-eqb a a refl) refl
 pub members_joined : (gs : List Joint) (a b : ℕ) → AreApart gs → is_in (members gs a) b ≡ true → AreJoined gs a b
 members_joined gs a b apart h = at (group_of gs a) refl (shared_found gs a b apart) h
   where
-    at : (o : Option Joint) → group_of gs a ≡ o → shared gs a b ≡ in_group o b → is_in (loaders_or a o) b ≡ true → AreJoined gs a b
+    at : (o : Option Joint) → group_of gs a ≡ o → has_both gs a b ≡ in_group o b → is_in (loaders_or a o) b ≡ true → AreJoined gs a b
     at None e s h = inl (alone a b h)
     at (Some g) e s h = inr (s ∙ h)
 
 pub joined_member : (gs : List Joint) (a b : ℕ) → AreApart gs → AreJoined gs a b → is_in (members gs a) b ≡ true
 joined_member gs a b apart h = at (group_of gs a) refl (shared_found gs a b apart) h
   where
-    at : (o : Option Joint) → group_of gs a ≡ o → shared gs a b ≡ in_group o b → AreJoined gs a b → is_in (loaders_or a o) b ≡ true
+    at : (o : Option Joint) → group_of gs a ≡ o → has_both gs a b ≡ in_group o b → AreJoined gs a b → is_in (loaders_or a o) b ≡ true
     at None e s (inl k) = subst (λ (x : ℕ). is_in (a ∷ []) x ≡ true) k (itself a)
     at None e s (inr k) = let z : false ≡ true = sym s ∙ k in absurd cc
     at (Some g) e s (inl k) = subst (λ (x : ℕ). is_in g.loaders x ≡ true) k (found_has gs a g e)
     at (Some g) e s (inr k) = sym s ∙ k
 
 -- the class of a loader is one that something joined with it records
-pub class_founded : (v : Grouped) (a p : ℕ) → IsGrouped v → class_in v a ≡ Some p → (b : ℕ) × AreJoined v.groups a b × (home_in v.records b ≡ Some p)
+pub class_founded : (v : Grouped) (a p : ℕ) → IsGrouped v → joined_class v a ≡ Some p → (b : ℕ) × AreJoined v.groups a b × (home_in v.records b ≡ Some p)
 class_founded v a p ok h = at (group_of v.groups a) refl h
   where
     at : (o : Option Joint) → group_of v.groups a ≡ o → home_or (home_in v.records a) o ≡ Some p → (b : ℕ) × AreJoined v.groups a b × (home_in v.records b ≡ Some p)
@@ -95,16 +95,16 @@ class_founded v a p ok h = at (group_of v.groups a) refl h
         (found.0, inr (shared_found v.groups a found.0 ok.apart ∙ ap (λ (o : Option Joint). in_group o found.0) e ∙ found.1), found.2)
 
 -- and it is what all of them record
-pub class_of_joined : (v : Grouped) (a b p : ℕ) → IsGrouped v → AreJoined v.groups a b → home_in v.records b ≡ Some p → class_in v a ≡ Some p
+pub class_of_joined : (v : Grouped) (a b p : ℕ) → IsGrouped v → AreJoined v.groups a b → home_in v.records b ≡ Some p → joined_class v a ≡ Some p
 class_of_joined v a b p ok j h = at (group_of v.groups a) refl (shared_found v.groups a b ok.apart) j
   where
-    at : (o : Option Joint) → group_of v.groups a ≡ o → shared v.groups a b ≡ in_group o b → AreJoined v.groups a b → home_or (home_in v.records a) o ≡ Some p
+    at : (o : Option Joint) → group_of v.groups a ≡ o → has_both v.groups a b ≡ in_group o b → AreJoined v.groups a b → home_or (home_in v.records a) o ≡ Some p
     at None e s (inl k) = ap (λ (x : ℕ). home_in v.records x) k ∙ h
     at None e s (inr k) = let z : false ≡ true = sym s ∙ k in absurd cc
     at (Some g) e s (inl k) = (found_home v.records v.groups a g ok.homes e).every b p (subst (λ (x : ℕ). is_in g.loaders x ≡ true) k (found_has v.groups a g e)) h
     at (Some g) e s (inr k) = (found_home v.records v.groups a g ok.homes e).every b p (sym s ∙ k) h
 
-pub class_shared : (v : Grouped) (a : ℕ) (class : Option ℕ) → IsGrouped v → class ≡ class_in v a → IsClassOf v a class
+pub class_shared : (v : Grouped) (a : ℕ) (class : Option ℕ) → IsGrouped v → class ≡ joined_class v a → IsClassOf v a class
 class_shared v a class ok e =
     record {
       every = λ other place j h. e ∙ class_of_joined v a other place ok j h;
@@ -144,7 +144,7 @@ pub homed_any : (l h x : ℕ) (gs : List Joint) → list_any (λ g. is_in g.load
 homed_any l h x [] = refl
 homed_any l h x (g ∷ gs) = let e = with_home_has l h x g in let r = homed_any l h x gs in cc
 
-pub homed_shared : (l h a b : ℕ) (gs : List Joint) → shared (map (with_home l h) gs) a b ≡ shared gs a b
+pub homed_shared : (l h a b : ℕ) (gs : List Joint) → has_both (map (with_home l h) gs) a b ≡ has_both gs a b
 homed_shared l h a b [] = refl
 homed_shared l h a b (g ∷ gs) = let p = with_home_has l h a g in let q = with_home_has l h b g in let r = homed_shared l h a b gs in cc
 
@@ -206,15 +206,15 @@ has_home_entered rs l h g fresh old agree = at (is_in g.loaders l) refl
               (found.0, found.1, home_elsewhere by_loader its_home rs (entry l h) found.0 ne ∙ found.2);
         }
 
-pub have_homes_entered : (rs : List Entered) (l h : ℕ) (gs : List Joint) → home_in rs l ≡ None → HaveHomes rs gs → ((x p : ℕ) → shared gs l x ≡ true → home_in rs x ≡ Some p → p ≡ h) → HaveHomes (entered rs l h) (map (with_home l h) gs)
+pub have_homes_entered : (rs : List Entered) (l h : ℕ) (gs : List Joint) → home_in rs l ≡ None → HaveHomes rs gs → ((x p : ℕ) → has_both gs l x ≡ true → home_in rs x ≡ Some p → p ≡ h) → HaveHomes (entered rs l h) (map (with_home l h) gs)
 have_homes_entered rs l h [] fresh old agree = tt
 have_homes_entered rs l h (g ∷ gs) fresh old agree = (
-  has_home_entered rs l h g fresh old.0 (λ x p i j e. agree x p (or_left (is_in g.loaders l && is_in g.loaders x) (shared gs l x) (and_from (is_in g.loaders l) (is_in g.loaders x) i j)) e),
-  have_homes_entered rs l h gs fresh old.1 (λ x p s e. agree x p (or_right (is_in g.loaders l && is_in g.loaders x) (shared gs l x) s) e),
+  has_home_entered rs l h g fresh old.0 (λ x p i j e. agree x p (or_left (is_in g.loaders l && is_in g.loaders x) (has_both gs l x) (and_from (is_in g.loaders l) (is_in g.loaders x) i j)) e),
+  have_homes_entered rs l h gs fresh old.1 (λ x p s e. agree x p (or_right (is_in g.loaders l && is_in g.loaders x) (has_both gs l x) s) e),
 )
 
 -- what fits agrees with what is joined
-pub fits_agrees : (v : Grouped) (l h : ℕ) → (Differs (λ x. home_in v.records x) (λ x y. AreJoined v.groups x y) l h → ⊥) → (x p : ℕ) → shared v.groups l x ≡ true → home_in v.records x ≡ Some p → p ≡ h
+pub fits_agrees : (v : Grouped) (l h : ℕ) → (Differs (λ x. home_in v.records x) (λ x y. AreJoined v.groups x y) l h → ⊥) → (x p : ℕ) → has_both v.groups l x ≡ true → home_in v.records x ≡ Some p → p ≡ h
 fits_agrees v l h fits x p s e = at (h == p) refl
   where
     at : (b : Bool) → (h == p) ≡ b → p ≡ h

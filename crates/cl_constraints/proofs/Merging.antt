@@ -7,7 +7,7 @@ use Rattle.std.proofs.lemmas.List.Folds.{list_any-append}
 use Rattle.std.specs.Prelude.{if◌then◌else◌, Result, Ok, Err, OnOk, OnErr}
 use Rattle.cl_constraints.specs.declared.record.Entered.{Entered}
 use Rattle.cl_constraints.specs.Records.{home_in}
-use Rattle.cl_constraints.specs.Groups.{Joint, Grouped, group_of, shared, AreJoined, AreApart, HasItsHome, HaveHomes, IsGrouped, class_in, IsClassOf, members, without, joint_of, merged}
+use Rattle.cl_constraints.specs.Groups.{Joint, Grouped, group_of, has_both, AreJoined, AreApart, HasItsHome, HaveHomes, IsGrouped, joined_class, IsClassOf, members, without, joint_of, merged}
 use Rattle.cl_model.specs.Probes.{is_in}
 use Rattle.cl_model.specs.States.{Divides}
 use Rattle.cl_constraints.specs.Singles.{Joins}
@@ -65,29 +65,29 @@ kept_clear a b (g ∷ gs) = at (is_in g.loaders a) (is_in g.loaders b) refl refl
     at false false i j ih = (rw i ih.0, rw j ih.1)
 
 -- a loader that is in no group shares none, on either side
-none_shared_back : (gs : List Joint) (a b : ℕ) → list_any (λ g. is_in g.loaders b) gs ≡ false → shared gs a b ≡ false
+none_shared_back : (gs : List Joint) (a b : ℕ) → list_any (λ g. is_in g.loaders b) gs ≡ false → has_both gs a b ≡ false
 none_shared_back [] a b h = refl
 none_shared_back (g ∷ gs) a b h = at (is_in g.loaders a) (is_in g.loaders b) (list_any (λ g. is_in g.loaders b) gs) (none_shared_back gs a b) h
   where
-    at : (x y z : Bool) → (z ≡ false → shared gs a b ≡ false) → (y || z) ≡ false → ((x && y) || shared gs a b) ≡ false
+    at : (x y z : Bool) → (z ≡ false → has_both gs a b ≡ false) → (y || z) ≡ false → ((x && y) || has_both gs a b) ≡ false
     at x true z k h = absurd cc
     at true false z k h = k h
     at false false z k h = k h
 
 -- a loader of a group that stays shares none with a loader that was taken out
-kept_shares : (a b c x : ℕ) (gs : List Joint) → AreApart gs → ((g : Joint) → is_clear a b g ≡ true → is_in g.loaders c ≡ false) → list_any (λ g. is_in g.loaders x) (kept a b gs) ≡ true → shared gs c x ≡ false
+kept_shares : (a b c x : ℕ) (gs : List Joint) → AreApart gs → ((g : Joint) → is_clear a b g ≡ true → is_in g.loaders c ≡ false) → list_any (λ g. is_in g.loaders x) (kept a b gs) ≡ true → has_both gs c x ≡ false
 kept_shares a b c x [] apart clear h = refl
 kept_shares a b c x (g ∷ gs) apart clear h = at (is_clear a b g) refl (is_in g.loaders x) refl (kept_shares a b c x gs apart.1 clear) h
   where
-    at : (p : Bool) → is_clear a b g ≡ p → (q : Bool) → is_in g.loaders x ≡ q → (list_any (λ g. is_in g.loaders x) (kept a b gs) ≡ true → shared gs c x ≡ false) → list_any (λ g. is_in g.loaders x) (if p then g ∷ kept a b gs else kept a b gs) ≡ true → ((is_in g.loaders c && is_in g.loaders x) || shared gs c x) ≡ false
-    at true i true j ih h = or_from (is_in g.loaders c && is_in g.loaders x) (shared gs c x) (and_left (is_in g.loaders c) (is_in g.loaders x) (clear g i)) (none_shared_back gs c x (apart.0 x j))
+    at : (p : Bool) → is_clear a b g ≡ p → (q : Bool) → is_in g.loaders x ≡ q → (list_any (λ g. is_in g.loaders x) (kept a b gs) ≡ true → has_both gs c x ≡ false) → list_any (λ g. is_in g.loaders x) (if p then g ∷ kept a b gs else kept a b gs) ≡ true → ((is_in g.loaders c && is_in g.loaders x) || has_both gs c x) ≡ false
+    at true i true j ih h = or_from (is_in g.loaders c && is_in g.loaders x) (has_both gs c x) (and_left (is_in g.loaders c) (is_in g.loaders x) (clear g i)) (none_shared_back gs c x (apart.0 x j))
     at true i false j ih h =
         let tail : list_any (λ g. is_in g.loaders x) (kept a b gs) ≡ true = elim (or_cases (is_in g.loaders x) (list_any (λ g. is_in g.loaders x) (kept a b gs)) h) as (λ _. list_any (λ g. is_in g.loaders x) (kept a b gs) ≡ true) [ inl k ↦ (let z : false ≡ true = sym j ∙ k in absurd cc) | inr k ↦ k ] in
-        or_from (is_in g.loaders c && is_in g.loaders x) (shared gs c x) (and_right (is_in g.loaders c) (is_in g.loaders x) j) (ih tail)
+        or_from (is_in g.loaders c && is_in g.loaders x) (has_both gs c x) (and_right (is_in g.loaders c) (is_in g.loaders x) j) (ih tail)
     at false i true j ih h =
         let there : list_any (λ g. is_in g.loaders x) gs ≡ true = any_kept (λ g. is_in g.loaders x) a b gs h in
         let z : false ≡ true = sym (apart.0 x j) ∙ there in absurd cc
-    at false i false j ih h = or_from (is_in g.loaders c && is_in g.loaders x) (shared gs c x) (and_right (is_in g.loaders c) (is_in g.loaders x) j) (ih h)
+    at false i false j ih h = or_from (is_in g.loaders c && is_in g.loaders x) (has_both gs c x) (and_right (is_in g.loaders c) (is_in g.loaders x) j) (ih h)
 
 clear_first : (a b : ℕ) (g : Joint) → is_clear a b g ≡ true → is_in g.loaders a ≡ false
 clear_first a b g h = at (is_in g.loaders a) h
@@ -124,11 +124,11 @@ has_merged gs a b x apart (inr j) = list_any-append (λ l. l == x) (members gs a
 
 -- ---- being joined is symmetric and transitive
 
-shared_back : (gs : List Joint) (a b : ℕ) → shared gs a b ≡ shared gs b a
+shared_back : (gs : List Joint) (a b : ℕ) → has_both gs a b ≡ has_both gs b a
 shared_back [] a b = refl
 shared_back (g ∷ gs) a b = at (is_in g.loaders a) (is_in g.loaders b) (shared_back gs a b)
   where
-    at : (x y : Bool) → shared gs a b ≡ shared gs b a → ((x && y) || shared gs a b) ≡ ((y && x) || shared gs b a)
+    at : (x y : Bool) → has_both gs a b ≡ has_both gs b a → ((x && y) || has_both gs a b) ≡ ((y && x) || has_both gs b a)
     at true true e = refl
     at true false e = e
     at false true e = e
@@ -138,65 +138,65 @@ grouped_back : (gs : List Joint) (a b : ℕ) → AreJoined gs a b → AreJoined 
 grouped_back gs a b (inl e) = inl (sym e)
 grouped_back gs a b (inr s) = inr (shared_back gs b a ∙ s)
 
-found_shares : (gs : List Joint) (l a b : ℕ) (g : Joint) → group_of gs l ≡ Some g → is_in g.loaders a ≡ true → is_in g.loaders b ≡ true → shared gs a b ≡ true
+found_shares : (gs : List Joint) (l a b : ℕ) (g : Joint) → group_of gs l ≡ Some g → is_in g.loaders a ≡ true → is_in g.loaders b ≡ true → has_both gs a b ≡ true
 found_shares [] l a b g h i j = absurd cc
 found_shares (x ∷ gs) l a b g h i j = at (is_in x.loaders l) (λ k. found_shares gs l a b g k i j) h
   where
-    at : (p : Bool) → (group_of gs l ≡ Some g → shared gs a b ≡ true) → (if p then Some x else group_of gs l) ≡ Some g → ((is_in x.loaders a && is_in x.loaders b) || shared gs a b) ≡ true
+    at : (p : Bool) → (group_of gs l ≡ Some g → has_both gs a b ≡ true) → (if p then Some x else group_of gs l) ≡ Some g → ((is_in x.loaders a && is_in x.loaders b) || has_both gs a b) ≡ true
     at true ih h =
         let e : x ≡ g = cc in
-        or_left (is_in x.loaders a && is_in x.loaders b) (shared gs a b) (and_from (is_in x.loaders a) (is_in x.loaders b) (ap (λ (z : Joint). is_in z.loaders a) e ∙ i) (ap (λ (z : Joint). is_in z.loaders b) e ∙ j))
-    at false ih h = or_right (is_in x.loaders a && is_in x.loaders b) (shared gs a b) (ih h)
+        or_left (is_in x.loaders a && is_in x.loaders b) (has_both gs a b) (and_from (is_in x.loaders a) (is_in x.loaders b) (ap (λ (z : Joint). is_in z.loaders a) e ∙ i) (ap (λ (z : Joint). is_in z.loaders b) e ∙ j))
+    at false ih h = or_right (is_in x.loaders a && is_in x.loaders b) (has_both gs a b) (ih h)
 
 grouped_then : (gs : List Joint) (a b c : ℕ) → AreApart gs → AreJoined gs a b → AreJoined gs b c → AreJoined gs a c
 grouped_then gs a b c apart (inl e) k = subst (λ (z : ℕ). AreJoined gs z c) (sym e) k
-grouped_then gs a b c apart (inr s) (inl e) = inr (subst (λ (z : ℕ). shared gs a z ≡ true) e s)
+grouped_then gs a b c apart (inr s) (inl e) = inr (subst (λ (z : ℕ). has_both gs a z ≡ true) e s)
 grouped_then gs a b c apart (inr s) (inr t) = at (group_of gs b) refl (shared_found gs b a apart) (shared_found gs b c apart)
   where
-    at : (o : Option Joint) → group_of gs b ≡ o → shared gs b a ≡ in_group o a → shared gs b c ≡ in_group o c → AreJoined gs a c
+    at : (o : Option Joint) → group_of gs b ≡ o → has_both gs b a ≡ in_group o a → has_both gs b c ≡ in_group o c → AreJoined gs a c
     at None e i j = let z : false ≡ true = sym j ∙ t in absurd cc
     at (Some g) e i j = inr (found_shares gs b a c g e (sym i ∙ shared_back gs b a ∙ s) (sym j ∙ t))
 
 -- ---- what joining two loaders makes
 
 -- a group with a loader that is joined to neither stays
-kept_shared : (a b x y : ℕ) (gs : List Joint) → shared gs x y ≡ true → shared gs a x ≡ false → shared gs b x ≡ false → shared (kept a b gs) x y ≡ true
+kept_shared : (a b x y : ℕ) (gs : List Joint) → has_both gs x y ≡ true → has_both gs a x ≡ false → has_both gs b x ≡ false → has_both (kept a b gs) x y ≡ true
 kept_shared a b x y [] h i j = h
 kept_shared a b x y (g ∷ gs) h i j = at (is_in g.loaders a) (is_in g.loaders b) (is_in g.loaders x) refl (kept_shared a b x y gs) h i j
   where
-    at : (p q r : Bool) → is_in g.loaders x ≡ r → (shared gs x y ≡ true → shared gs a x ≡ false → shared gs b x ≡ false → shared (kept a b gs) x y ≡ true) → ((r && is_in g.loaders y) || shared gs x y) ≡ true → ((p && r) || shared gs a x) ≡ false → ((q && r) || shared gs b x) ≡ false → shared (if not p && not q then g ∷ kept a b gs else kept a b gs) x y ≡ true
+    at : (p q r : Bool) → is_in g.loaders x ≡ r → (has_both gs x y ≡ true → has_both gs a x ≡ false → has_both gs b x ≡ false → has_both (kept a b gs) x y ≡ true) → ((r && is_in g.loaders y) || has_both gs x y) ≡ true → ((p && r) || has_both gs a x) ≡ false → ((q && r) || has_both gs b x) ≡ false → has_both (if not p && not q then g ∷ kept a b gs else kept a b gs) x y ≡ true
     at true q true e ih h i j = absurd cc
     at false true true e ih h i j = absurd cc
     at false false true e ih h i j =
-        elim (or_cases (is_in g.loaders y) (shared gs x y) h) as (λ _. ((is_in g.loaders x && is_in g.loaders y) || shared (kept a b gs) x y) ≡ true) [
-          | inl k ↦ or_left (is_in g.loaders x && is_in g.loaders y) (shared (kept a b gs) x y) (and_from (is_in g.loaders x) (is_in g.loaders y) e k)
-          | inr k ↦ or_right (is_in g.loaders x && is_in g.loaders y) (shared (kept a b gs) x y) (ih k i j)
+        elim (or_cases (is_in g.loaders y) (has_both gs x y) h) as (λ _. ((is_in g.loaders x && is_in g.loaders y) || has_both (kept a b gs) x y) ≡ true) [
+          | inl k ↦ or_left (is_in g.loaders x && is_in g.loaders y) (has_both (kept a b gs) x y) (and_from (is_in g.loaders x) (is_in g.loaders y) e k)
+          | inr k ↦ or_right (is_in g.loaders x && is_in g.loaders y) (has_both (kept a b gs) x y) (ih k i j)
         ]
-    at true q false e ih h i j = ih h i (or_tail q (shared gs b x) j)
+    at true q false e ih h i j = ih h i (or_tail q (has_both gs b x) j)
       where
         or_tail : (q z : Bool) → ((q && false) || z) ≡ false → z ≡ false
         or_tail true z k = k
         or_tail false z k = k
     at false true false e ih h i j = ih h i j
-    at false false false e ih h i j = or_right (is_in g.loaders x && is_in g.loaders y) (shared (kept a b gs) x y) (ih h i j)
+    at false false false e ih h i j = or_right (is_in g.loaders x && is_in g.loaders y) (has_both (kept a b gs) x y) (ih h i j)
 
 shared_merged : (v : Grouped) (a b x y : ℕ) → is_in (members v.groups a ++ members v.groups b) x ≡ true → is_in (members v.groups a ++ members v.groups b) y ≡ true → AreJoined (merged v a b) x y
 shared_merged v a b x y h k =
     let all = members v.groups a ++ members v.groups b in
-    inr (list_any-append (λ g. is_in g.loaders x && is_in g.loaders y) (kept a b v.groups) (record { home = option_or (class_in v a) (class_in v b); loaders = all } ∷ [])
-    ∙ or_right (shared (kept a b v.groups) x y) ((is_in all x && is_in all y) || false) (or_left (is_in all x && is_in all y) false (and_from (is_in all x) (is_in all y) h k)))
+    inr (list_any-append (λ g. is_in g.loaders x && is_in g.loaders y) (kept a b v.groups) (record { home = option_or (joined_class v a) (joined_class v b); loaders = all } ∷ [])
+    ∙ or_right (has_both (kept a b v.groups) x y) ((is_in all x && is_in all y) || false) (or_left (is_in all x && is_in all y) false (and_from (is_in all x) (is_in all y) h k)))
 
-unshared : (gs : List Joint) (a b x : ℕ) → AreApart gs → is_in (members gs a ++ members gs b) x ≡ false → (shared gs a x ≡ false) × (shared gs b x ≡ false)
-unshared gs a b x apart h = (at a (shared gs a x) refl (λ s. has_merged gs a b x apart (inl (inr s))), at b (shared gs b x) refl (λ s. has_merged gs a b x apart (inr (inr s))))
+unshared : (gs : List Joint) (a b x : ℕ) → AreApart gs → is_in (members gs a ++ members gs b) x ≡ false → (has_both gs a x ≡ false) × (has_both gs b x ≡ false)
+unshared gs a b x apart h = (at a (has_both gs a x) refl (λ s. has_merged gs a b x apart (inl (inr s))), at b (has_both gs b x) refl (λ s. has_merged gs a b x apart (inr (inr s))))
   where
-    at : (l : ℕ) (p : Bool) → shared gs l x ≡ p → (shared gs l x ≡ true → is_in (members gs a ++ members gs b) x ≡ true) → shared gs l x ≡ false
+    at : (l : ℕ) (p : Bool) → has_both gs l x ≡ p → (has_both gs l x ≡ true → is_in (members gs a ++ members gs b) x ≡ true) → has_both gs l x ≡ false
     at l true e k = let z : false ≡ true = sym h ∙ k e in absurd cc
     at l false e k = e
 
 pub merged_from : (v : Grouped) (a b x y : ℕ) → IsGrouped v → AreJoined (merged v a b) x y → Joins (λ p q. AreJoined v.groups p q) a b x y
 merged_from v a b x y ok (inl e) = inl (inl e)
 merged_from v a b x y ok (inr s) =
-    elim (or_cases (shared (kept a b v.groups) x y) ((is_in all x && is_in all y) || false) (sym (list_any-append (λ g. is_in g.loaders x && is_in g.loaders y) (kept a b v.groups) (record { home = option_or (class_in v a) (class_in v b); loaders = all } ∷ [])) ∙ s)) as (λ _. Joins (λ p q. AreJoined v.groups p q) a b x y) [
+    elim (or_cases (has_both (kept a b v.groups) x y) ((is_in all x && is_in all y) || false) (sym (list_any-append (λ g. is_in g.loaders x && is_in g.loaders y) (kept a b v.groups) (record { home = option_or (joined_class v a) (joined_class v b); loaders = all } ∷ [])) ∙ s)) as (λ _. Joins (λ p q. AreJoined v.groups p q) a b x y) [
       | inl k ↦ inl (inr (any_kept (λ g. is_in g.loaders x && is_in g.loaders y) a b v.groups k))
       | inr k ↦ elim (or_cases (is_in all x && is_in all y) false k) as (λ _. Joins (λ p q. AreJoined v.groups p q) a b x y) [
         | inl q ↦ both (merged_has v.groups a b x ok.apart (and_parts (is_in all x) (is_in all y) q).0) (merged_has v.groups a b y ok.apart (and_parts (is_in all x) (is_in all y) q).1)
@@ -233,8 +233,8 @@ merged_to v a b x y ok (inl (inr s)) = at (is_in all x) refl
     at true e = shared_merged v a b x y e (has_merged v.groups a b y ok.apart (along (merged_has v.groups a b x ok.apart e)))
     at false e =
         let none = unshared v.groups a b x ok.apart e in
-        inr (list_any-append (λ g. is_in g.loaders x && is_in g.loaders y) (kept a b v.groups) (record { home = option_or (class_in v a) (class_in v b); loaders = all } ∷ [])
-        ∙ or_left (shared (kept a b v.groups) x y) ((is_in all x && is_in all y) || false) (kept_shared a b x y v.groups s none.0 none.1))
+        inr (list_any-append (λ g. is_in g.loaders x && is_in g.loaders y) (kept a b v.groups) (record { home = option_or (joined_class v a) (joined_class v b); loaders = all } ∷ [])
+        ∙ or_left (has_both (kept a b v.groups) x y) ((is_in all x && is_in all y) || false) (kept_shared a b x y v.groups s none.0 none.1))
 
 pub merged_joined : (v : Grouped) (a b x y : ℕ) → IsGrouped v → AreJoined (merged v a b) x y ↔ Joins (λ p q. AreJoined v.groups p q) a b x y
 merged_joined v a b x y ok = (merged_from v a b x y ok, merged_to v a b x y ok)
@@ -279,8 +279,8 @@ merged_home v a b p q ok ca cb fits =
 pub merged_grouped : (v : Grouped) (a b : ℕ) → IsGrouped v → (Divides (λ x. home_in v.records x) (λ x y. AreJoined v.groups x y) a b → ⊥) → IsGrouped (record { records = v.records; groups = merged v a b })
 merged_grouped v a b ok fits =
     record {
-      apart = apart_push (kept a b v.groups) (record { home = option_or (class_in v a) (class_in v b); loaders = all }) (kept_apart a b v.groups ok.apart) outside;
-      homes = homes_push v.records (kept a b v.groups) (record { home = option_or (class_in v a) (class_in v b); loaders = all }) (kept_homes v.records a b v.groups ok.homes) (merged_home v a b (class_in v a) (class_in v b) ok (class_shared v a (class_in v a) ok refl) (class_shared v b (class_in v b) ok refl) fits);
+      apart = apart_push (kept a b v.groups) (record { home = option_or (joined_class v a) (joined_class v b); loaders = all }) (kept_apart a b v.groups ok.apart) outside;
+      homes = homes_push v.records (kept a b v.groups) (record { home = option_or (joined_class v a) (joined_class v b); loaders = all }) (kept_homes v.records a b v.groups ok.homes) (merged_home v a b (joined_class v a) (joined_class v b) ok (class_shared v a (joined_class v a) ok refl) (class_shared v b (joined_class v b) ok refl) fits);
     }
   where
     all : List ℕ

@@ -17,7 +17,7 @@ use Rattle.cl_names.specs.Truth.{Decides}
 use Rattle.cl_model.proofs.Runs.{added_later, joined_later, joined_then, joined_back, joined_link, last_linked, met_clash, adds, record_found, start_unviolated, names_equal, path_added}
 use Rattle.cl_constraints.specs.Books.{IsBookOf}
 use Rattle.cl_constraints.specs.Singles.{Enters, Joins}
-use Rattle.cl_constraints.specs.Named.{found, home_of, joins_of, Sets, EntersAt, JoinsAt}
+use Rattle.cl_constraints.specs.Named.{found_named, home_of, joins_of, Sets, EntersAt, JoinsAt}
 
 -- ---- one name of a book
 
@@ -40,55 +40,55 @@ pub updated : {N S : Type 0} (m n : IndexMap Name N S) (name : Name) (one : N) �
 updated m n name one u = record { here = u.1; others = λ x d. u.2 x (other_name name x d) }
 
 -- what is written through a borrow of what stands of a name
-pub written : {N S : Type 0} (m n : IndexMap Name N S) (book : List (Name × N)) (name : Name) (one w : N) → m.entries ≡ book → Some one ≡ found m.entries name → WritesThrough (pointwise nat_eq) (pointwise nat_eq name) m w n → Sets book n.entries name w
+pub written : {N S : Type 0} (m n : IndexMap Name N S) (book : List (Name × N)) (name : Name) (one w : N) → m.entries ≡ book → Some one ≡ found_named m.entries name → WritesThrough (pointwise nat_eq) (pointwise nat_eq name) m w n → Sets book n.entries name w
 written {N} m n book name one w view there h = subst (λ (b : List (Name × N)). Sets b n.entries name w) view (updated m n name w (h.3 (subst (λ o. IsSome o) there refl)))
 
-same_value : {N : Type 0} (book : List (Name × N)) (name : Name) (w : N) → found book name ≡ Some w → set_value (pointwise nat_eq name) book w ≡ book
+same_value : {N : Type 0} (book : List (Name × N)) (name : Name) (w : N) → found_named book name ≡ Some w → set_value (pointwise nat_eq name) book w ≡ book
 same_value [] name w e = refl
 same_value (x ∷ xs) name w e = by (pointwise nat_eq name x.0) (same_value xs name w) e
   where
-    by : (b : Bool) → (found xs name ≡ Some w → set_value (pointwise nat_eq name) xs w ≡ xs) → cond b (Some x.1) (found xs name) ≡ Some w → cond b ((x.0, w) ∷ xs) (x ∷ set_value (pointwise nat_eq name) xs w) ≡ x ∷ xs
+    by : (b : Bool) → (found_named xs name ≡ Some w → set_value (pointwise nat_eq name) xs w ≡ xs) → cond b (Some x.1) (found_named xs name) ≡ Some w → cond b ((x.0, w) ∷ xs) (x ∷ set_value (pointwise nat_eq name) xs w) ≡ x ∷ xs
     by true ih k = let same : x.1 ≡ w = cc in ap (λ v. (x.0, v) ∷ xs) (sym same)
     by false ih k = ap (λ rest. x ∷ rest) (ih k)
 
 -- writing what stood changes nothing
-pub rewritten : {N S : Type 0} (m n : IndexMap Name N S) (book : List (Name × N)) (name : Name) (one w : N) → m.entries ≡ book → Some one ≡ found m.entries name → w ≡ one → WritesThrough (pointwise nat_eq) (pointwise nat_eq name) m w n → n.entries ≡ book
+pub rewritten : {N S : Type 0} (m n : IndexMap Name N S) (book : List (Name × N)) (name : Name) (one w : N) → m.entries ≡ book → Some one ≡ found_named m.entries name → w ≡ one → WritesThrough (pointwise nat_eq) (pointwise nat_eq name) m w n → n.entries ≡ book
 rewritten m n book name one w view there same h = h.0 ∙ ap (set_value (pointwise nat_eq name) m.entries) same ∙ same_value m.entries name one (sym there) ∙ view
 
 module _ {N : Type 0} (record_at : N → ℕ → Option ℕ) (joins : N → ℕ → ℕ → Type 0) (old new : List (Name × N)) (name : Name) where
   -- one record more of a name of which something stood
-  pub entered_some : (one w : N) (loader place : ℕ) → found old name ≡ Some one → Sets old new name w → Enters (record_at one) (record_at w) loader place → ((a b : ℕ) → joins w a b ↔ joins one a b) → EntersAt record_at joins old new name loader place
+  pub entered_some : (one w : N) (loader place : ℕ) → found_named old name ≡ Some one → Sets old new name w → Enters (record_at one) (record_at w) loader place → ((a b : ℕ) → joins w a b ↔ joins one a b) → EntersAt record_at joins old new name loader place
   entered_some one w loader place e s more same =
       record {
         records = subst (λ o. Enters (λ l. home_or_none record_at l o) (home_of record_at new name) loader place) (sym e) (subst (λ o. Enters (record_at one) (λ l. home_or_none record_at l o) loader place) (sym s.here) more);
-        joined = λ a b. subst (λ o. joins_or_same joins a b (found new name) ↔ joins_or_same joins a b o) (sym e) (subst (λ o. joins_or_same joins a b o ↔ joins one a b) (sym s.here) (same a b));
+        joined = λ a b. subst (λ o. joins_or_same joins a b (found_named new name) ↔ joins_or_same joins a b o) (sym e) (subst (λ o. joins_or_same joins a b o ↔ joins one a b) (sym s.here) (same a b));
         others = s.others;
       }
 
   -- and of one of which nothing did
-  pub entered_none : (one w : N) (loader place : ℕ) → found old name ≡ None → ((l : ℕ) → record_at one l ≡ None) → ((a b : ℕ) → joins one a b ↔ (a ≡ b)) → Sets old new name w → Enters (record_at one) (record_at w) loader place → ((a b : ℕ) → joins w a b ↔ joins one a b) → EntersAt record_at joins old new name loader place
+  pub entered_none : (one w : N) (loader place : ℕ) → found_named old name ≡ None → ((l : ℕ) → record_at one l ≡ None) → ((a b : ℕ) → joins one a b ↔ (a ≡ b)) → Sets old new name w → Enters (record_at one) (record_at w) loader place → ((a b : ℕ) → joins w a b ↔ joins one a b) → EntersAt record_at joins old new name loader place
   entered_none one w loader place e none alone s more same =
       let first : Enters (λ l. None) (record_at w) loader place = record { here = more.here; elsewhere = λ l d. more.elsewhere l d ∙ none l } in
       record {
         records = subst (λ o. Enters (λ l. home_or_none record_at l o) (home_of record_at new name) loader place) (sym e) (subst (λ o. Enters (λ l. None) (λ l. home_or_none record_at l o) loader place) (sym s.here) first);
-        joined = λ a b. subst (λ o. joins_or_same joins a b (found new name) ↔ joins_or_same joins a b o) (sym e) (subst (λ o. joins_or_same joins a b o ↔ (a ≡ b)) (sym s.here) (λ j. (alone a b).0 ((same a b).0 j), λ i. (same a b).1 ((alone a b).1 i)));
+        joined = λ a b. subst (λ o. joins_or_same joins a b (found_named new name) ↔ joins_or_same joins a b o) (sym e) (subst (λ o. joins_or_same joins a b o ↔ (a ≡ b)) (sym s.here) (λ j. (alone a b).0 ((same a b).0 j), λ i. (same a b).1 ((alone a b).1 i)));
         others = s.others;
       }
 
   -- two loaders more are joined, for a name of which something stood
-  pub joined_some : (one w : N) (a b : ℕ) → found old name ≡ Some one → Sets old new name w → ((l : ℕ) → record_at w l ≡ record_at one l) → ((x y : ℕ) → joins w x y ↔ Joins (joins one) a b x y) → JoinsAt record_at joins old new name a b
+  pub joined_some : (one w : N) (a b : ℕ) → found_named old name ≡ Some one → Sets old new name w → ((l : ℕ) → record_at w l ≡ record_at one l) → ((x y : ℕ) → joins w x y ↔ Joins (joins one) a b x y) → JoinsAt record_at joins old new name a b
   joined_some one w a b e s same more =
       record {
         records = λ l. ap (home_or_none record_at l) s.here ∙ same l ∙ sym (ap (home_or_none record_at l) e);
-        joined = λ x y. subst (λ o. joins_or_same joins x y (found new name) ↔ Joins (λ p q. joins_or_same joins p q o) a b x y) (sym e) (subst (λ o. joins_or_same joins x y o ↔ Joins (joins one) a b x y) (sym s.here) (more x y));
+        joined = λ x y. subst (λ o. joins_or_same joins x y (found_named new name) ↔ Joins (λ p q. joins_or_same joins p q o) a b x y) (sym e) (subst (λ o. joins_or_same joins x y o ↔ Joins (joins one) a b x y) (sym s.here) (more x y));
         others = s.others;
       }
 
-  pub joined_none : (one w : N) (a b : ℕ) → found old name ≡ None → ((l : ℕ) → record_at one l ≡ None) → ((x y : ℕ) → joins one x y ↔ (x ≡ y)) → Sets old new name w → ((l : ℕ) → record_at w l ≡ record_at one l) → ((x y : ℕ) → joins w x y ↔ Joins (joins one) a b x y) → JoinsAt record_at joins old new name a b
+  pub joined_none : (one w : N) (a b : ℕ) → found_named old name ≡ None → ((l : ℕ) → record_at one l ≡ None) → ((x y : ℕ) → joins one x y ↔ (x ≡ y)) → Sets old new name w → ((l : ℕ) → record_at w l ≡ record_at one l) → ((x y : ℕ) → joins w x y ↔ Joins (joins one) a b x y) → JoinsAt record_at joins old new name a b
   joined_none one w a b e none alone s same more =
       record {
         records = λ l. ap (home_or_none record_at l) s.here ∙ same l ∙ none l ∙ sym (ap (home_or_none record_at l) e);
-        joined = λ x y. subst (λ o. joins_or_same joins x y (found new name) ↔ Joins (λ p q. joins_or_same joins p q o) a b x y) (sym e) (subst (λ o. joins_or_same joins x y o ↔ Joins (λ p q. p ≡ q) a b x y) (sym s.here) (λ j. to x y ((more x y).0 j), λ j. (more x y).1 (from x y j)));
+        joined = λ x y. subst (λ o. joins_or_same joins x y (found_named new name) ↔ Joins (λ p q. joins_or_same joins p q o) a b x y) (sym e) (subst (λ o. joins_or_same joins x y o ↔ Joins (λ p q. p ≡ q) a b x y) (sym s.here) (λ j. to x y ((more x y).0 j), λ j. (more x y).1 (from x y j)));
         others = s.others;
       }
     where
@@ -262,7 +262,7 @@ module _ {N : Type 0} (record_at : N → ℕ → Option ℕ) (joins : N → ℕ 
 pub start_book : {N : Type 0} (record_at : N → ℕ → Option ℕ) (joins : N → ℕ → ℕ → Type 0) (book : List (Name × N)) → book ≡ [] → IsBookOf (home_of record_at book) (joins_of joins book) start
 start_book {N} record_at joins book e = subst (λ (z : List (Name × N)). IsBookOf (home_of record_at z) (joins_of joins z) start) (sym e) (record { records = λ m l. refl; joined = λ m a b. (λ i. record { path = []; along = i }, λ h. alone m a h.path b h.along); unviolated = start_unviolated })
   where
-    alone : (m : Name) (a : ℕ) (path : List ℕ) (b : ℕ) → States.IsPath [] m a path b → a ≡ b
+    alone : (m : Name) (a : ℕ) (path : List ℕ) (b : ℕ) → States.IsPathBetween [] m a path b → a ≡ b
     alone m a [] b h = h
     alone m a (c ∷ cs) b h = absurd (none h.0.imposed)
       where
@@ -271,7 +271,7 @@ start_book {N} record_at joins book e = subst (λ (z : List (Name × N)). IsBook
 
 -- ---- what is asked of one name
 
-module _ {N : Type 0} (record_at : N → ℕ → Option ℕ) (joins : N → ℕ → ℕ → Type 0) (book : List (Name × N)) (name : Name) (one : N) (there : found book name ≡ Some one) (a b : ℕ) where
+module _ {N : Type 0} (record_at : N → ℕ → Option ℕ) (joins : N → ℕ → ℕ → Type 0) (book : List (Name × N)) (name : Name) (one : N) (there : found_named book name ≡ Some one) (a b : ℕ) where
   pub agrees_so : (answer : Bool) → FalseIff answer (Divides (record_at one) (joins one) a b) → FalseIff answer (Divides (home_of record_at book name) (joins_of joins book name) a b)
   agrees_so answer h = subst (λ o. FalseIff answer (Divides (λ l. home_or_none record_at l o) (λ x y. joins_or_same joins x y o) a b)) (sym there) h
 

@@ -6,7 +6,7 @@ use Rattle.std.proofs.lemmas.Bool.{and_from, and_parts, eqb-true, eqb-false, ne_
 use Rattle.std.proofs.lemmas.List.Sums.{fold-append}
 use Rattle.cl_constraints.specs.declared.plain.Pair.{Pair}
 use Rattle.cl_constraints.specs.declared.plain.Placed.{Placed}
-use Rattle.cl_constraints.specs.Pairs.{Paired, home_at, next_by, end_in, ArePaired, IsPlaced, ArePlaced, differs_at, divides_at, moved}
+use Rattle.cl_constraints.specs.Pairs.{Paired, home_at, next_by, end_in, ArePaired, KeepsEnd, KeepsEnds, differs_at, divides_at, moved}
 use Rattle.cl_model.specs.States.{Differs, Divides}
 use Rattle.cl_constraints.specs.Singles.{Joins, TellsFit, TellsAgreement}
 use Rattle.cl_constraints.proofs.Recording.{home_elsewhere, home_here}
@@ -36,10 +36,10 @@ module _ (P : Placed → Type 0) (test : Placed → Bool) where
 
 -- ---- what the tests tell
 
-module _ (v : Paired) (all : ArePlaced v) where
+module _ (v : Paired) (all : KeepsEnds v) where
   differs_from : (loader place : ℕ) → differs_at v.records (end_in v.pairs loader) place ≡ true → Differs (λ x. home_at v.records x) (λ x y. ArePaired v.pairs x y) loader place
   differs_from loader place h =
-      let found = passing (IsPlaced v) (λ r. (r.end == end_in v.pairs loader) && not (r.home == place)) v.records all h in
+      let found = passing (KeepsEnd v) (λ r. (r.end == end_in v.pairs loader) && not (r.home == place)) v.records all h in
       let parts = and_parts (found.0.end == end_in v.pairs loader) (not (found.0.home == place)) found.2 in
       record {
         other = found.0.loader;
@@ -51,13 +51,13 @@ module _ (v : Paired) (all : ArePlaced v) where
 
   differs_to : (loader place : ℕ) → Differs (λ x. home_at v.records x) (λ x y. ArePaired v.pairs x y) loader place → differs_at v.records (end_in v.pairs loader) place ≡ true
   differs_to loader place d =
-      passed (IsPlaced v) (λ r. (r.end == end_in v.pairs loader) && not (r.home == place)) v.records d.other d.other_place all d.recorded_there (
+      passed (KeepsEnd v) (λ r. (r.end == end_in v.pairs loader) && not (r.home == place)) v.records d.other d.other_place all d.recorded_there (
       λ r ok its homes. and_from (r.end == end_in v.pairs loader) (not (r.home == place)) (eq-eqb r.end (end_in v.pairs loader) (ok.ended ∙ ap (end_in v.pairs) its ∙ sym d.joined)) (not_from_false (r.home == place) (ne_eqb r.home place (λ same. d.differ (sym same ∙ homes))))
       )
 
   divides_from : (a b : ℕ) → divides_at v.records (end_in v.pairs a) (end_in v.pairs b) ≡ true → Divides (λ x. home_at v.records x) (λ x y. ArePaired v.pairs x y) a b
   divides_from a b h =
-      let found = passing (IsPlaced v) (λ r. (r.end == end_in v.pairs a) && differs_at v.records (end_in v.pairs b) r.home) v.records all h in
+      let found = passing (KeepsEnd v) (λ r. (r.end == end_in v.pairs a) && differs_at v.records (end_in v.pairs b) r.home) v.records all h in
       let parts = and_parts (found.0.end == end_in v.pairs a) (differs_at v.records (end_in v.pairs b) found.0.home) found.2 in
       record {
         one = found.0.loader;
@@ -69,7 +69,7 @@ module _ (v : Paired) (all : ArePlaced v) where
 
   divides_to : (a b : ℕ) → Divides (λ x. home_at v.records x) (λ x y. ArePaired v.pairs x y) a b → divides_at v.records (end_in v.pairs a) (end_in v.pairs b) ≡ true
   divides_to a b d =
-      passed (IsPlaced v) (λ r. (r.end == end_in v.pairs a) && differs_at v.records (end_in v.pairs b) r.home) v.records d.one d.place all d.recorded_there (
+      passed (KeepsEnd v) (λ r. (r.end == end_in v.pairs a) && differs_at v.records (end_in v.pairs b) r.home) v.records d.one d.place all d.recorded_there (
       λ r ok its homes. and_from (r.end == end_in v.pairs a) (differs_at v.records (end_in v.pairs b) r.home) (eq-eqb r.end (end_in v.pairs a) (ok.ended ∙ ap (end_in v.pairs) its ∙ sym d.joined)) (subst (λ place. differs_at v.records (end_in v.pairs b) place ≡ true) (sym homes) (differs_to b d.place d.differs))
       )
 
@@ -98,10 +98,10 @@ all_push P Q (r ∷ rs) n still all new = (still r all.0, all_push P Q rs n stil
 abbrev pub with_record : Paired → Placed → Paired
 with_record v n = record { records = v.records ++ n ∷ []; pairs = v.pairs }
 
-pub placed_more : (v : Paired) (n : Placed) → ArePlaced v → home_at v.records n.loader ≡ None → n.end ≡ end_in v.pairs n.loader → ArePlaced (with_record v n)
-placed_more v n all fresh at_end = all_push (IsPlaced v) (IsPlaced (with_record v n)) v.records n still all (record { own = home_here (λ (q : Placed). q.loader) (λ (q : Placed). q.home) v.records n fresh; ended = at_end })
+pub placed_more : (v : Paired) (n : Placed) → KeepsEnds v → home_at v.records n.loader ≡ None → n.end ≡ end_in v.pairs n.loader → KeepsEnds (with_record v n)
+placed_more v n all fresh at_end = all_push (KeepsEnd v) (KeepsEnd (with_record v n)) v.records n still all (record { own = home_here (λ (q : Placed). q.loader) (λ (q : Placed). q.home) v.records n fresh; ended = at_end })
   where
-    still : (r : Placed) → IsPlaced v r → IsPlaced (with_record v n) r
+    still : (r : Placed) → KeepsEnd v r → KeepsEnd (with_record v n) r
     still r ok =
         let ne : r.loader ≢ n.loader = λ same. (let z : Some r.home ≡ None = sym ok.own ∙ ap (home_at v.records) same ∙ fresh in absurd cc) in
         record { own = home_elsewhere (λ (q : Placed). q.loader) (λ (q : Placed). q.home) v.records n r.loader ne ∙ ok.own; ended = ok.ended }
@@ -125,10 +125,10 @@ home_moved p (r ∷ rs) x = by (r.loader == x) (home_moved p rs x)
 abbrev pub with_pair : Paired → Pair → Paired
 with_pair v p = record { records = map (moved p) v.records; pairs = v.pairs ++ p ∷ [] }
 
-pub placed_on : (v : Paired) (p : Pair) → ArePlaced v → ArePlaced (with_pair v p)
-placed_on v p all = all_moved (IsPlaced v) (IsPlaced (with_pair v p)) (moved p) v.records go_on all
+pub placed_on : (v : Paired) (p : Pair) → KeepsEnds v → KeepsEnds (with_pair v p)
+placed_on v p all = all_moved (KeepsEnd v) (KeepsEnd (with_pair v p)) (moved p) v.records go_on all
   where
-    go_on : (r : Placed) → IsPlaced v r → IsPlaced (with_pair v p) (moved p r)
+    go_on : (r : Placed) → KeepsEnd v r → KeepsEnd (with_pair v p) (moved p r)
     go_on r ok =
         record {
           own = home_moved p v.records r.loader ∙ ok.own;

@@ -19,8 +19,9 @@ abbrev pub Wherever : (State → Type 0) → (State → Type 0) → Type 0
 Wherever stands holds = (s : State) → stands s → holds s
 
 -- the answer is who defined the class that a loader records for a name (5.3)
-abbrev pub Tells : (State → Type 0) → ℕ → Name → Option ℕ → Type 0
-Tells stands loader name answer = Wherever stands (λ s. recorded s.records loader name ≡ answer)
+abbrev pub TellsDefiner : (State → Type 0) → ℕ → Name → Option ℕ → Type 0
+TellsDefiner stands loader name answer =
+    Wherever stands (λ s. recorded s.records loader name ≡ answer)
 
 -- the answer tells whether this holds in each state that a book stands for
 abbrev pub TellsOf : (State → Type 0) → Bool → (State → Type 0) → Type 0
@@ -31,8 +32,8 @@ abbrev pub Admits : (State → Type 0) → Need → Bool → Type 0
 Admits stands need answer = Wherever stands (λ s. FalseIff answer (Refused s need))
 
 -- the answer tells whether a need is refused (5.3.4)
-abbrev pub Refuses : (State → Type 0) → Need → Bool → Type 0
-Refuses stands need answer = TellsOf stands answer (λ s. Refused s need)
+abbrev pub SaysRefused : (State → Type 0) → Need → Bool → Type 0
+SaysRefused stands need answer = TellsOf stands answer (λ s. Refused s need)
 
 -- the answer tells whether a need is met (5.3.4)
 abbrev pub Meets : (State → Type 0) → Need → Bool → Type 0

@@ -22,12 +22,12 @@ abbrev pub group_of : List Joint → ℕ → Option Joint
 group_of groups loader = find (λ g. is_in g.loaders loader) groups
 
 -- a group has both loaders (5.3.4)
-abbrev pub shared : List Joint → ℕ → ℕ → Bool
-shared groups a b = list_any (λ g. is_in g.loaders a && is_in g.loaders b) groups
+abbrev pub has_both : List Joint → ℕ → ℕ → Bool
+has_both groups a b = list_any (λ g. is_in g.loaders a && is_in g.loaders b) groups
 
 -- two loaders are joined: they are one, or a group has both (5.3.4)
 abbrev pub AreJoined : List Joint → ℕ → ℕ → Type 0
-AreJoined groups a b = (a ≡ b) ⊎ (shared groups a b ≡ true)
+AreJoined groups a b = (a ≡ b) ⊎ (has_both groups a b ≡ true)
 
 -- no loader is in two groups
 abbrev pub AreApart : List Joint → Type 0
@@ -63,8 +63,8 @@ home_or alone None = alone
 home_or alone (Some g) = g.home
 
 -- the one class that is recorded by what is joined to a loader (5.3.4)
-abbrev pub class_in : Grouped → ℕ → Option ℕ
-class_in v loader = home_or (home_in v.records loader) (group_of v.groups loader)
+abbrev pub joined_class : Grouped → ℕ → Option ℕ
+joined_class v loader = home_or (home_in v.records loader) (group_of v.groups loader)
 
 -- the class is recorded by what is joined to the loader (5.3.4)
 abbrev pub IsClassOf : Grouped → ℕ → Option ℕ → Type 0
@@ -91,7 +91,7 @@ without a b gs = filter (λ g. not (is_in g.loaders a) && not (is_in g.loaders b
 abbrev pub joint_of : Grouped → ℕ → ℕ → Joint
 joint_of v a b =
     record {
-      home = option_or (class_in v a) (class_in v b);
+      home = option_or (joined_class v a) (joined_class v b);
       loaders = members v.groups a ++ members v.groups b;
     }
 

@@ -6,21 +6,22 @@ use Rattle.cl_classfile.specs.Files.{Name}
 use Rattle.cl_constraints.specs.Singles.{TellsFit, TellsAgreement, Enters, Joins}
 
 -- what stands of a name, if anything does
-abbrev pub found : {N : Type 0} → List (Name × N) → Name → Option N
-found book name = lookup (pointwise nat_eq name) book
+abbrev pub found_named : {N : Type 0} → List (Name × N) → Name → Option N
+found_named book name = lookup (pointwise nat_eq name) book
 
 -- who defined the class that a loader records for a name, if anything stands of it (5.3)
 abbrev pub home_of : {N : Type 0} → (N → ℕ → Option ℕ) → List (Name × N) → Name → ℕ → Option ℕ
-home_of record_at book name loader = option_and_then (λ one. record_at one loader) (found book name)
+home_of record_at book name loader =
+    option_and_then (λ one. record_at one loader) (found_named book name)
 
 -- two loaders are joined for a name; where nothing stands of it, they are one (5.3.4)
 abbrev pub joins_of : {N : Type 0} → (N → ℕ → ℕ → Type 0) → List (Name × N) → Name → ℕ → ℕ → Type 0
-joins_of joins book name a b = MatchOption (found book name) (a ≡ b) (λ one. joins one a b)
+joins_of joins book name a b = MatchOption (found_named book name) (a ≡ b) (λ one. joins one a b)
 
 -- the answer tells whether no loader joined to this one for a name records another class (5.3.4)
-abbrev pub FitsAt : {N : Type 0} → (N → ℕ → Option ℕ) → (N → ℕ → ℕ → Type 0) → List (Name × N)
+abbrev pub TellsFitAt : {N : Type 0} → (N → ℕ → Option ℕ) → (N → ℕ → ℕ → Type 0) → List (Name × N)
     → Name → ℕ → ℕ → Bool → Type 0
-FitsAt record_at joins book name loader place answer =
+TellsFitAt record_at joins book name loader place answer =
     TellsFit (home_of record_at book name) (joins_of joins book name) loader place answer
 
 -- the answer tells whether what is joined to one loader and to another for a name records one class
@@ -32,11 +33,11 @@ AgreesAt record_at joins book name a b answer =
 
 -- of each name but this one stands what stood
 abbrev pub OthersStay : {N : Type 0} → List (Name × N) → List (Name × N) → Name → Type 0
-OthersStay old new name = (m : Name) → m ≢ name → found new m ≡ found old m
+OthersStay old new name = (m : Name) → m ≢ name → found_named new m ≡ found_named old m
 
 -- this stands of a name, and of each other what stood
 pub record Sets {N : Type 0} (old new : List (Name × N)) (name : Name) (one : N) : Type 0 where
-  pub here : found new name ≡ Some one
+  pub here : found_named new name ≡ Some one
   pub others : OthersStay old new name
 
 -- one record more, for a name (5.3)

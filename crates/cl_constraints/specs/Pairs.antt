@@ -28,13 +28,13 @@ abbrev pub ArePaired : List Pair → ℕ → ℕ → Type 0
 ArePaired pairs a b = end_in pairs a ≡ end_in pairs b
 
 -- a record is its loader's, and keeps where the search from its loader ends
-pub record IsPlaced (v : Paired) (r : Placed) : Type 0 where
+pub record KeepsEnd (v : Paired) (r : Placed) : Type 0 where
   pub own : home_at v.records r.loader ≡ Some r.home
   pub ended : r.end ≡ end_in v.pairs r.loader
 
 -- what holds of the constraints of each name
-abbrev pub ArePlaced : Paired → Type 0
-ArePlaced v = AllByRecursion (IsPlaced v) v.records
+abbrev pub KeepsEnds : Paired → Type 0
+KeepsEnds v = AllByRecursion (KeepsEnd v) v.records
 
 -- a loader whose search ends here records another class (5.3.4)
 abbrev pub differs_at : List Placed → ℕ → ℕ → Bool

@@ -1,6 +1,6 @@
 ghost use Rattle.std.specs.Prelude.{◌≡◌, ℕ, List, Option, None, IfErr, IfOk, OnOk};
 ghost use Rattle.cl_model.specs.States.{State, Entry, Equal};
-ghost use Rattle.cl_constraints.specs.Books.{Adds, AddsUnlessMet, Admits, Blames, Meets, Refuses, Tells};
+ghost use Rattle.cl_constraints.specs.Books.{Adds, AddsUnlessMet, Admits, Blames, Meets, SaysRefused, TellsDefiner};
 
 use crate::fault::BookFault;
 use cl_model::LoaderId;
@@ -23,7 +23,7 @@ pub trait ConstraintBook {
     /// Who defined the class that a loader records for a name.
     fn home(&self, name: &Name, loader: LoaderId) -> Option<LoaderId>
         ensures record { result ≡ record_of self.now name.now loader }
-        ensures recorded { Tells (stands_for self.now) loader name.now result };
+        ensures recorded { TellsDefiner (stands_for self.now) loader name.now result };
 
     /// Whether a loader may record the class that this home defines for a name.
     fn admits(&self, name: &Name, loader: LoaderId, home: LoaderId) -> bool
@@ -35,7 +35,7 @@ pub trait ConstraintBook {
 
     /// Whether an equality of two loaders for a name would violate what stands.
     fn refuses(&self, name: &Name, a: LoaderId, b: LoaderId) -> bool
-        ensures { Refuses (stands_for self.now) (Equal name.now a b) result };
+        ensures { SaysRefused (stands_for self.now) (Equal name.now a b) result };
 
     /// Records a class for a loader that has none recorded for the name (`home` tells).
     fn enter(

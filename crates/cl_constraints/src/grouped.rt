@@ -2,7 +2,7 @@ ghost use Rattle.std.specs.Prelude.{◌≡◌, [], ◌++◌, ◌∷◌, map, ℕ
 ghost use Rattle.cl_model.specs.States.{Differs, Divides};
 ghost use Rattle.cl_names.specs.Truth.{Decides};
 ghost use Rattle.cl_constraints.specs.Singles.{Enters, Joins};
-ghost use Rattle.cl_constraints.specs.Groups.{class_in, members, with_home, AreJoined, joint_of, without, shared, group_of, IsClassOf};
+ghost use Rattle.cl_constraints.specs.Groups.{joined_class, members, with_home, AreJoined, joint_of, without, has_both, group_of, IsClassOf};
 ghost use Rattle.cl_model.specs.Probes.{is_in};
 
 use crate::record::{Entered, home_among};
@@ -82,7 +82,7 @@ impl Model for Groups {
 impl Groups {
     /// The one class that is recorded by what is joined to a loader.
     fn class(&self, loader: LoaderId) -> Option<LoaderId>
-        ensures value { result ≡ class_in self.now loader }
+        ensures value { result ≡ joined_class self.now loader }
         ensures shared { IsClassOf self.now loader result }
     {
         match group_of(self.groups.as_slice(), loader) {
@@ -175,7 +175,7 @@ fn group_of(groups: &[Group], loader: LoaderId) -> Option<&Group>
 
 /// Whether a group has both loaders.
 fn share_group(groups: &[Group], a: LoaderId, b: LoaderId) -> bool
-    ensures { result ≡ shared groups.now a b }
+    ensures { result ≡ has_both groups.now a b }
 {
     groups.iter().any(|group| group.has(a) && group.has(b))
 }

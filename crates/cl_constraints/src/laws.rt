@@ -1,4 +1,4 @@
-ghost use Rattle.cl_constraints.specs.Laws.{GoesOn, StandsAlike, StaysAfter, UnrefusedMayBeAdded};
+ghost use Rattle.cl_constraints.specs.Laws.{FollowsSteps, StandsAlike, StaysAfter, UnrefusedMayBeAdded};
 
 use crate::book::ConstraintBook;
 use crate::named::Book;
@@ -13,7 +13,7 @@ pub fn stands_by_tables<N: NameBook + Drop>()
 
 /// A book to which a step's record or equality was added stands for the state after the step.
 pub fn stands_after_step<N: NameBook + Drop>()
-    ensures { GoesOn ⟦<Book<N> as ConstraintBook>⟧.stands_for }
+    ensures { FollowsSteps ⟦<Book<N> as ConstraintBook>⟧.stands_for }
 {}
 
 /// A need that is neither met nor refused may be added.

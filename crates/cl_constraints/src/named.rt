@@ -1,7 +1,7 @@
 ghost use Rattle.std.specs.Prelude.{◌≡◌, true, None, IfErr, OnOk};
 ghost use Rattle.cl_model.specs.States.{start};
 ghost use Rattle.cl_names.specs.Truth.{Decides};
-ghost use Rattle.cl_constraints.specs.Named.{found, home_of, joins_of, AgreesAt, EntersAt, FitsAt, JoinsAt, Sets};
+ghost use Rattle.cl_constraints.specs.Named.{found_named, home_of, joins_of, AgreesAt, EntersAt, TellsFitAt, JoinsAt, Sets};
 
 use crate::book::{ConstraintBook, Refusal};
 use crate::fault::BookFault;
@@ -50,7 +50,7 @@ impl<N: NameBook + Drop> Book<N> {
 
     /// Whether no loader that is joined to this one for the name records another class.
     fn fits(&self, name: &Name, loader: LoaderId, home: LoaderId) -> bool
-        ensures { FitsAt N.record_at N.joins self.now name.now loader home result }
+        ensures { TellsFitAt N.record_at N.joins self.now name.now loader home result }
     {
         match self.names.get(name) {
             Some(one) => one.admits(loader, home),
@@ -80,7 +80,7 @@ impl<N: NameBook + Drop> Book<N> {
 
     /// Puts what is to stand of a name of which nothing does. A refused growth hands the name back.
     fn put(&mut self, name: Name, one: N) -> Result<(), Name>
-        requires { found self.old name ≡ None }
+        requires { found_named self.old name ≡ None }
         ensures ok { OnOk result (Sets self.old self.new name one) }
         ensures unchanged { IfErr result (λ n. (self.new ≡ self.old) × (n ≡ name)) }
     {
@@ -99,7 +99,7 @@ impl<N: NameBook + Drop> Book<N> {
         home: LoaderId,
     ) -> Result<(), Name>
         requires fresh { home_of N.record_at self.old name loader ≡ None }
-        requires fits { FitsAt N.record_at N.joins self.old name loader home true }
+        requires fits { TellsFitAt N.record_at N.joins self.old name loader home true }
         ensures ok { OnOk result (EntersAt N.record_at N.joins self.old self.new name loader home) }
         ensures unchanged { IfErr result (λ n. (self.new ≡ self.old) × (n ≡ name)) }
     {

@@ -67,13 +67,13 @@ impl Drop for Pairs {
 }
 
 impl Model for Pairs {
-    ghost use Rattle.cl_constraints.specs.Pairs.{ArePlaced, Paired};
+    ghost use Rattle.cl_constraints.specs.Pairs.{KeepsEnds, Paired};
 
     ghost Value = { Paired };
 
     ghost view = { λ p. record { records = p.records.items; pairs = p.pairs.items } };
 
-    ghost invariant = { λ p. ArePlaced (record { records = p.records.items; pairs = p.pairs.items }) };
+    ghost invariant = { λ p. KeepsEnds (record { records = p.records.items; pairs = p.pairs.items }) };
 }
 
 impl NameBook for Pairs {

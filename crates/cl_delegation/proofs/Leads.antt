@@ -7,7 +7,7 @@ use Rattle.cl_model.proofs.Probes.{home_is_on_route}
 use Rattle.cl_source.specs.Told.{IsTold}
 use Rattle.cl_source.specs.Views.{Found}
 use Rattle.cl_delegation.specs.Worlds.{world_of}
-use Rattle.cl_delegation.specs.Searches.{Searched, route_of, next_on, with_bytes, IsProbeOf, AllLack, IsFound, IsEnd, Follows, LeadsTo}
+use Rattle.cl_delegation.specs.Searches.{Searched, route_of, next_on, with_bytes, IsProbeOf, AllLack, IsFound, IsEnd, FollowsRoute, LeadsTo}
 use Rattle.cl_config.specs.Configs.{IsConfig}
 use Rattle.cl_delegation.proofs.Once.{route_within}
 
@@ -24,8 +24,8 @@ next_unfound : (way : List ℕ) (n : ℕ) (f : Option Found) (l : ℕ) → next_
 next_unfound way n None l e = (refl, e)
 next_unfound way n (Some p) l e = absurd cc
 
-pub follows_on : (told : Option Content) (s : Searched) (p : Found) (bytes : Option (List ℕ)) → Follows told s → next_on (route_of s) (length s.absent) s.found ≡ Some p.loader → p.name ≡ s.name → IsTold told p.loader p.name p.bytes → p.bytes ≡ bytes
-    → Follows told (with_bytes s p bytes)
+pub follows_on : (told : Option Content) (s : Searched) (p : Found) (bytes : Option (List ℕ)) → FollowsRoute told s → next_on (route_of s) (length s.absent) s.found ≡ Some p.loader → p.name ≡ s.name → IsTold told p.loader p.name p.bytes → p.bytes ≡ bytes
+    → FollowsRoute told (with_bytes s p bytes)
 follows_on told s p None f next same is found =
     let n = next_unfound (route_of s) (length s.absent) s.found p.loader next in
     record {
@@ -66,13 +66,13 @@ some_bytes : (o : Option (List ℕ)) → IsSome o → is_some o ≡ true
 some_bytes None h = absurd cc
 some_bytes (Some x) h = refl
 
-pub leads_nowhere : (told : Option Content) (s : Searched) → Follows told s → s.found ≡ None → next_on (route_of s) (length s.absent) s.found ≡ None → LeadsTo told s.config s.loader s.name None
+pub leads_nowhere : (told : Option Content) (s : Searched) → FollowsRoute told s → s.found ≡ None → next_on (route_of s) (length s.absent) s.found ≡ None → LeadsTo told s.config s.loader s.name None
 leads_nowhere None s f none last = tt
 leads_nowhere (Some content) s f none last =
     let past : slice_get (route_of s) (length s.absent) ≡ None = subst (λ (o : Option Found). next_on (route_of s) (length s.absent) o ≡ None) none last in
     home_is_on_route (world_of s.config content) s.loader s.name ∙ unfound content s.name (route_of s) s.absent f.absent past
 
-pub leads_home : (told : Option Content) (s : Searched) (p : Found) → Follows told s → s.found ≡ Some p → LeadsTo told s.config s.loader s.name (Some p.loader)
+pub leads_home : (told : Option Content) (s : Searched) (p : Found) → FollowsRoute told s → s.found ≡ Some p → LeadsTo told s.config s.loader s.name (Some p.loader)
 leads_home None s p f found = tt
 leads_home (Some content) s p f found =
     let end : IsFound (Some content) s.name (slice_get (route_of s) (length s.absent)) p = subst (λ (o : Option Found). IsEnd (Some content) s.name (slice_get (route_of s) (length s.absent)) o) found f.found in
@@ -85,7 +85,7 @@ unwrapped : (o : Option (List ℕ)) → IsSome o → o ≡ Some (unwrap_or o [])
 unwrapped None h = absurd cc
 unwrapped (Some x) h = refl
 
-pub home_kept : (told : Option Content) (s : Searched) (p : Found) → IsConfig s.config → Follows told s → s.found ≡ Some p
+pub home_kept : (told : Option Content) (s : Searched) (p : Found) → IsConfig s.config → FollowsRoute told s → s.found ≡ Some p
     → (p.name ≡ s.name) × (p.bytes ≡ Some (unwrap_or p.bytes [])) × LeadsTo told s.config s.loader s.name (Some p.loader) × (p.loader < length s.config.loaders)
 home_kept told s p config f found =
     let end : IsFound told s.name (slice_get (route_of s) (length s.absent)) p = subst (λ (o : Option Found). IsEnd told s.name (slice_get (route_of s) (length s.absent)) o) found f.found in

@@ -10,7 +10,7 @@ use Rattle.cl_config.specs.declared.order.Order.{Order}
 use Rattle.cl_config.specs.declared.order.Order.TheVariants.{ParentFirst, ChildFirst}
 use Rattle.cl_config.specs.Views.{Configured, Loader}
 use Rattle.cl_config.specs.Configs.{IsConfig, LeadsBelow}
-use Rattle.cl_config.specs.Loaders.{loaders_of}
+use Rattle.cl_config.specs.Loaders.{loaders_in}
 use Rattle.cl_config.proofs.Below.{below_at}
 use Rattle.cl_delegation.specs.Routes.{AsksOnce}
 use Rattle.cl_delegation.proofs.Ways.{by_import, alone, parent_first, child_first, target_below}
@@ -49,28 +49,28 @@ record IsOnce (loader : ℕ) (way : List ℕ) : Type 0 where
 
 -- what is known of the loaders below one
 Earlier : Configured → Name → ℕ → Type 0
-Earlier c name n = (p : ℕ) → p < n → IsOnce p (route_from (loaders_of c) name p)
+Earlier c name n = (p : ℕ) → p < n → IsOnce p (route_from (loaders_in c) name p)
 
 narrow : (p n : ℕ) (way : List ℕ) → p < n → IsOnce p way → IsOnce n way
 narrow p n way lt t = record { below = weaker (suc p) (suc n) way (omega arith) t.below; once = t.once }
 
 by_turn : (c : Configured) (name : Name) (n : ℕ) (l : Loader) (parent : Option ℕ) (order : Order) → slice_get c.loaders n ≡ Some l → find (λ m. starts_with nat_eq name m.prefix) l.imports ≡ None → l.parent ≡ parent → l.order ≡ order
-    → IfSome parent (λ p. p < n) → Earlier c name n → IsOnce n (route_from (loaders_of c) name n)
+    → IfSome parent (λ p. p < n) → Earlier c name n → IsOnce n (route_from (loaders_in c) name n)
 unfolding Below Earlier
 by_turn c name n l None order is none e f lt earlier = subst (λ (way : List ℕ). IsOnce n way) (sym (alone c name n l is none e)) (record { below = (omega arith, tt); once = (refl, tt) })
 by_turn c name n l (Some p) ParentFirst is none e f lt earlier =
     let above = earlier p lt in
-    let under : Below n (route_from (loaders_of c) name p) = weaker (suc p) n _ (omega arith) above.below in
+    let under : Below n (route_from (loaders_in c) name p) = weaker (suc p) n _ (omega arith) above.below in
     subst (λ (way : List ℕ). IsOnce n way) (sym (parent_first c name n p l is none e f lt))
     (record { below = snoc_below (suc n) n _ (omega arith) (weaker n (suc n) _ (omega arith) under); once = snoc_once n _ under above.once })
 by_turn c name n l (Some p) ChildFirst is none e f lt earlier =
     let above = earlier p lt in
-    let under : Below n (route_from (loaders_of c) name p) = weaker (suc p) n _ (omega arith) above.below in
+    let under : Below n (route_from (loaders_in c) name p) = weaker (suc p) n _ (omega arith) above.below in
     subst (λ (way : List ℕ). IsOnce n way) (sym (child_first c name n p l is none e f lt))
     (record { below = (omega arith, weaker n (suc n) _ (omega arith) under); once = (others n _ under, above.once) })
 
 by_rule : (c : Configured) (name : Name) (n : ℕ) (l : Loader) (first : Option Import) → slice_get c.loaders n ≡ Some l → find (λ m. starts_with nat_eq name m.prefix) l.imports ≡ first → LeadsBelow n l
-    → Earlier c name n → IsOnce n (route_from (loaders_of c) name n)
+    → Earlier c name n → IsOnce n (route_from (loaders_in c) name n)
 unfolding Earlier
 by_rule c name n l None is first leads earlier = by_turn c name n l l.parent l.order is first refl refl leads.parent earlier
 by_rule c name n l (Some m) is first leads earlier =
@@ -82,7 +82,7 @@ no_loader [] n is lt = absurd (omega arith)
 no_loader (l ∷ ls) zero is lt = absurd cc
 no_loader (l ∷ ls) (suc n) is lt = no_loader ls n is (omega arith)
 
-at_loader : (c : Configured) → IsConfig c → (name : Name) (n : ℕ) (o : Option Loader) → slice_get c.loaders n ≡ o → n < length c.loaders → Earlier c name n → IsOnce n (route_from (loaders_of c) name n)
+at_loader : (c : Configured) → IsConfig c → (name : Name) (n : ℕ) (o : Option Loader) → slice_get c.loaders n ≡ o → n < length c.loaders → Earlier c name n → IsOnce n (route_from (loaders_in c) name n)
 at_loader c kept name n None is lt earlier = absurd (no_loader c.loaders n is lt)
 at_loader c kept name n (Some l) is lt earlier =
     by_rule c name n l (find (λ m. starts_with nat_eq name m.prefix) l.imports) is refl (subst (λ (k : ℕ). LeadsBelow k l) (omega arith) (below_at 0 n c.loaders l kept.below is)) earlier
@@ -94,9 +94,9 @@ all_earlier c kept name (suc n) le p lt = at_loader c kept name p (slice_get c.l
 
 pub asks_once : AsksOnce
 unfolding Earlier
-asks_once c loader name kept lt = choose (is_java name) (nat_lt loader (length (loaders_of c)))
+asks_once c loader name kept lt = choose (is_java name) (nat_lt loader (length (loaders_in c)))
   where
-    choose : (java known : Bool) → EachOnce (elim java [ true ↦ if known then 0 ∷ [] else [] | false ↦ route_from (loaders_of c) name loader ])
+    choose : (java known : Bool) → EachOnce (elim java [ true ↦ if known then 0 ∷ [] else [] | false ↦ route_from (loaders_in c) name loader ])
     choose true true = (refl, tt)
     choose true false = tt
     choose false known = (all_earlier c kept name (suc loader) (omega arith) loader (omega arith)).once
@@ -109,11 +109,11 @@ at_below n [] k m t is = absurd cc
 at_below n (x ∷ ms) zero m t is = let same : x ≡ m = cc in omega (arith, same, t.0)
 at_below n (x ∷ ms) (suc k) m t is = at_below n ms k m t.1 is
 
-pub route_within : (c : Configured) (loader : ℕ) (name : Name) (k m : ℕ) → IsConfig c → loader < length c.loaders → slice_get (route (loaders_of c) loader name) k ≡ Some m → m < length c.loaders
+pub route_within : (c : Configured) (loader : ℕ) (name : Name) (k m : ℕ) → IsConfig c → loader < length c.loaders → slice_get (route (loaders_in c) loader name) k ≡ Some m → m < length c.loaders
 unfolding Earlier Below
-route_within c loader name k m kept lt is = choose (is_java name) (nat_lt loader (length (loaders_of c))) is
+route_within c loader name k m kept lt is = choose (is_java name) (nat_lt loader (length (loaders_in c))) is
   where
-    choose : (java known : Bool) → slice_get (elim java [ true ↦ if known then 0 ∷ [] else [] | false ↦ route_from (loaders_of c) name loader ]) k ≡ Some m → m < length c.loaders
+    choose : (java known : Bool) → slice_get (elim java [ true ↦ if known then 0 ∷ [] else [] | false ↦ route_from (loaders_in c) name loader ]) k ≡ Some m → m < length c.loaders
     choose true true e = at_below (length c.loaders) (0 ∷ []) k m (kept.some, tt) e
     choose true false e = absurd cc
     choose false known e = let b = at_below (suc loader) _ k m (all_earlier c kept name (suc loader) (omega arith) loader (omega arith)).below e in omega (arith, b, lt)

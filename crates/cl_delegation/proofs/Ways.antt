@@ -12,38 +12,38 @@ use Rattle.cl_model.specs.Homes as homes
 use Rattle.cl_config.specs.declared.order.Order.{Order}
 use Rattle.cl_config.specs.declared.order.Order.TheVariants.{ParentFirst, ChildFirst}
 use Rattle.cl_config.specs.Views.{Configured, Loader}
-use Rattle.cl_config.specs.Loaders.{order_of, loader_of, loaders_of}
+use Rattle.cl_config.specs.Loaders.{world_order, world_loader, loaders_in}
 use Rattle.cl_model.specs.Probes.{in_turn, route_at, route_below, route_from}
 
 here : (n : ℕ) → (n == n) ≡ true
 here n = grind (arith, nat_tests)
 
-at_case : (ls : List homes.Loader) (name : Name) (n : ℕ) (b : Bool) → b ≡ true
+at_case : (ls : List homes.WorldLoader) (name : Name) (n : ℕ) (b : Bool) → b ≡ true
     → (elim b [ true ↦ unwrap_or (option_map (route_at name (route_below ls name n) n) (slice_get ls n)) [] | false ↦ route_below ls name n n ]) ≡ unwrap_or (option_map (route_at name (route_below ls name n) n) (slice_get ls n)) []
 at_case ls name n true e = refl
 at_case ls name n false e = absurd cc
 
 -- the route at a place
-at_place : (ls : List homes.Loader) (name : Name) (n : ℕ) → route_from ls name n ≡ unwrap_or (option_map (route_at name (route_below ls name n) n) (slice_get ls n)) []
+at_place : (ls : List homes.WorldLoader) (name : Name) (n : ℕ) → route_from ls name n ≡ unwrap_or (option_map (route_at name (route_below ls name n) n) (slice_get ls n)) []
 at_place ls name n = at_case ls name n (n == n) (here n)
 
 -- the route at a loader
-at_loader : (ls : List homes.Loader) (name : Name) (n : ℕ) (l : homes.Loader) → slice_get ls n ≡ Some l → route_from ls name n ≡ route_at name (route_below ls name n) n l
+at_loader : (ls : List homes.WorldLoader) (name : Name) (n : ℕ) (l : homes.WorldLoader) → slice_get ls n ≡ Some l → route_from ls name n ≡ route_at name (route_below ls name n) n l
 at_loader ls name n l is = at_place ls name n ∙ ap (λ o. unwrap_or (option_map (route_at name (route_below ls name n) n) o) []) is
 
 -- the routes at earlier loaders do not depend on the later ones
-settle : (ls : List homes.Loader) (name : Name) (n p : ℕ) (b : Bool) → p < suc n → (p == n) ≡ b → (p < n → route_below ls name n p ≡ route_from ls name p)
+settle : (ls : List homes.WorldLoader) (name : Name) (n p : ℕ) (b : Bool) → p < suc n → (p == n) ≡ b → (p < n → route_below ls name n p ≡ route_from ls name p)
     → (elim b [ true ↦ unwrap_or (option_map (route_at name (route_below ls name n) n) (slice_get ls n)) [] | false ↦ route_below ls name n p ]) ≡ route_from ls name p
 settle ls name n p true lt e earlier =
     let same : n ≡ p = grind (arith, nat_tests) in
     subst (λ (k : ℕ). unwrap_or (option_map (route_at name (route_below ls name k) k) (slice_get ls k)) [] ≡ route_from ls name p) (sym same) (sym (at_place ls name p))
 settle ls name n p false lt e earlier = let less : p < n = grind (arith, nat_tests) in earlier less
 
-settled : (ls : List homes.Loader) (name : Name) (n p : ℕ) → p < n → route_below ls name n p ≡ route_from ls name p
+settled : (ls : List homes.WorldLoader) (name : Name) (n p : ℕ) → p < n → route_below ls name n p ≡ route_from ls name p
 settled ls name zero p lt = absurd (omega arith)
 settled ls name (suc n) p lt = settle ls name n p (p == n) lt refl (λ less. settled ls name n p less)
 
-placed : (f : Loader → homes.Loader) (ls : List Loader) (n : ℕ) (l : Loader) → slice_get ls n ≡ Some l → slice_get (map f ls) n ≡ Some (f l)
+placed : (f : Loader → homes.WorldLoader) (ls : List Loader) (n : ℕ) (l : Loader) → slice_get ls n ≡ Some l → slice_get (map f ls) n ≡ Some (f l)
 placed f ls n l is = slice_get-map f ls n ∙ ap (option_map f) is
 
 decided : (routes : ℕ → List ℕ) (rest : List ℕ) (d : Option ℕ) (t : ℕ) → d ≡ Some t → elim d [ Some target ↦ routes target | None ↦ rest ] ≡ routes t
@@ -56,45 +56,45 @@ not_decided routes rest (Some u) e = absurd cc
 
 -- an import decides
 pub by_import : (c : Configured) (name : Name) (n : ℕ) (l : Loader) (m : Import) → slice_get c.loaders n ≡ Some l → find (λ m. starts_with nat_eq name m.prefix) l.imports ≡ Some m → m.target < n
-    → route_from (loaders_of c) name n ≡ route_from (loaders_of c) name m.target
+    → route_from (loaders_in c) name n ≡ route_from (loaders_in c) name m.target
 by_import c name n l m is found lt =
-    let e : decisive (loader_of l).imports name ≡ Some m.target = ap (option_map (λ (m : Import). m.target)) found in
-    at_loader (loaders_of c) name n (loader_of l) (placed loader_of c.loaders n l is) ∙ decided (route_below (loaders_of c) name n) _ (decisive (loader_of l).imports name) m.target e ∙ settled (loaders_of c) name n m.target lt
+    let e : decisive (world_loader l).imports name ≡ Some m.target = ap (option_map (λ (m : Import). m.target)) found in
+    at_loader (loaders_in c) name n (world_loader l) (placed world_loader c.loaders n l is) ∙ decided (route_below (loaders_in c) name n) _ (decisive (world_loader l).imports name) m.target e ∙ settled (loaders_in c) name n m.target lt
 
 -- no import decides
 undecided : (c : Configured) (name : Name) (n : ℕ) (l : Loader) → slice_get c.loaders n ≡ Some l → find (λ m. starts_with nat_eq name m.prefix) l.imports ≡ None
-    → route_from (loaders_of c) name n ≡ in_turn (order_of l.order) (flat_map (route_below (loaders_of c) name n) (option_to_list l.parent)) (n ∷ [])
+    → route_from (loaders_in c) name n ≡ in_turn (world_order l.order) (flat_map (route_below (loaders_in c) name n) (option_to_list l.parent)) (n ∷ [])
 undecided c name n l is none =
-    let e : decisive (loader_of l).imports name ≡ None = ap (option_map (λ (m : Import). m.target)) none in
-    at_loader (loaders_of c) name n (loader_of l) (placed loader_of c.loaders n l is) ∙ not_decided (route_below (loaders_of c) name n) _ (decisive (loader_of l).imports name) e
+    let e : decisive (world_loader l).imports name ≡ None = ap (option_map (λ (m : Import). m.target)) none in
+    at_loader (loaders_in c) name n (world_loader l) (placed world_loader c.loaders n l is) ∙ not_decided (route_below (loaders_in c) name n) _ (decisive (world_loader l).imports name) e
 
-alone_turn : (routes : ℕ → List ℕ) (n : ℕ) (o : Order) (p : Option ℕ) → p ≡ None → in_turn (order_of o) (flat_map routes (option_to_list p)) (n ∷ []) ≡ n ∷ []
+alone_turn : (routes : ℕ → List ℕ) (n : ℕ) (o : Order) (p : Option ℕ) → p ≡ None → in_turn (world_order o) (flat_map routes (option_to_list p)) (n ∷ []) ≡ n ∷ []
 alone_turn routes n ParentFirst None e = refl
 alone_turn routes n ChildFirst None e = refl
 alone_turn routes n o (Some q) e = absurd cc
 
-parent_turn : (routes : ℕ → List ℕ) (n q : ℕ) (o : Order) (p : Option ℕ) → p ≡ Some q → o ≡ ParentFirst → in_turn (order_of o) (flat_map routes (option_to_list p)) (n ∷ []) ≡ routes q ++ n ∷ []
+parent_turn : (routes : ℕ → List ℕ) (n q : ℕ) (o : Order) (p : Option ℕ) → p ≡ Some q → o ≡ ParentFirst → in_turn (world_order o) (flat_map routes (option_to_list p)) (n ∷ []) ≡ routes q ++ n ∷ []
 parent_turn routes n q o None e f = absurd cc
 parent_turn routes n q ChildFirst (Some r) e f = absurd cc
 parent_turn routes n q ParentFirst (Some r) e f = let same : r ≡ q = cc in rw (append-nil (routes r), same) refl
 
-child_turn : (routes : ℕ → List ℕ) (n q : ℕ) (o : Order) (p : Option ℕ) → p ≡ Some q → o ≡ ChildFirst → in_turn (order_of o) (flat_map routes (option_to_list p)) (n ∷ []) ≡ n ∷ routes q
+child_turn : (routes : ℕ → List ℕ) (n q : ℕ) (o : Order) (p : Option ℕ) → p ≡ Some q → o ≡ ChildFirst → in_turn (world_order o) (flat_map routes (option_to_list p)) (n ∷ []) ≡ n ∷ routes q
 child_turn routes n q o None e f = absurd cc
 child_turn routes n q ParentFirst (Some r) e f = absurd cc
 child_turn routes n q ChildFirst (Some r) e f = let same : r ≡ q = cc in rw (append-nil (routes r), same) refl
 
-pub alone : (c : Configured) (name : Name) (n : ℕ) (l : Loader) → slice_get c.loaders n ≡ Some l → find (λ m. starts_with nat_eq name m.prefix) l.imports ≡ None → l.parent ≡ None → route_from (loaders_of c) name n ≡ n ∷ []
-alone c name n l is none no_parent = undecided c name n l is none ∙ alone_turn (route_below (loaders_of c) name n) n l.order l.parent no_parent
+pub alone : (c : Configured) (name : Name) (n : ℕ) (l : Loader) → slice_get c.loaders n ≡ Some l → find (λ m. starts_with nat_eq name m.prefix) l.imports ≡ None → l.parent ≡ None → route_from (loaders_in c) name n ≡ n ∷ []
+alone c name n l is none no_parent = undecided c name n l is none ∙ alone_turn (route_below (loaders_in c) name n) n l.order l.parent no_parent
 
 pub parent_first : (c : Configured) (name : Name) (n q : ℕ) (l : Loader) → slice_get c.loaders n ≡ Some l → find (λ m. starts_with nat_eq name m.prefix) l.imports ≡ None → l.parent ≡ Some q → l.order ≡ ParentFirst → q < n
-    → route_from (loaders_of c) name n ≡ route_from (loaders_of c) name q ++ n ∷ []
+    → route_from (loaders_in c) name n ≡ route_from (loaders_in c) name q ++ n ∷ []
 parent_first c name n q l is none parent order lt =
-    undecided c name n l is none ∙ parent_turn (route_below (loaders_of c) name n) n q l.order l.parent parent order ∙ ap (λ ms. ms ++ n ∷ []) (settled (loaders_of c) name n q lt)
+    undecided c name n l is none ∙ parent_turn (route_below (loaders_in c) name n) n q l.order l.parent parent order ∙ ap (λ ms. ms ++ n ∷ []) (settled (loaders_in c) name n q lt)
 
 pub child_first : (c : Configured) (name : Name) (n q : ℕ) (l : Loader) → slice_get c.loaders n ≡ Some l → find (λ m. starts_with nat_eq name m.prefix) l.imports ≡ None → l.parent ≡ Some q → l.order ≡ ChildFirst → q < n
-    → route_from (loaders_of c) name n ≡ n ∷ route_from (loaders_of c) name q
+    → route_from (loaders_in c) name n ≡ n ∷ route_from (loaders_in c) name q
 child_first c name n q l is none parent order lt =
-    undecided c name n l is none ∙ child_turn (route_below (loaders_of c) name n) n q l.order l.parent parent order ∙ ap (λ ms. n ∷ ms) (settled (loaders_of c) name n q lt)
+    undecided c name n l is none ∙ child_turn (route_below (loaders_in c) name n) n q l.order l.parent parent order ∙ ap (λ ms. n ∷ ms) (settled (loaders_in c) name n q lt)
 
 -- ---- what is found among things of which P holds
 
@@ -125,26 +125,26 @@ finds : (name : Name) (ms ns : List Import) (o : Option Import) → ms ≡ ns �
 finds name ms ns o e h = subst (λ (ks : List Import). find (λ m. starts_with nat_eq name m.prefix) ks ≡ o) e h
 
 pub said_import : (c : Configured) (name : Name) (n : ℕ) (ms : List Import) (m : Import) → n < length c.loaders → IfSome (slice_get c.loaders n) (λ l. ms ≡ l.imports) → find (λ m. starts_with nat_eq name m.prefix) ms ≡ Some m → m.target < n
-    → route_from (loaders_of c) name n ≡ route_from (loaders_of c) name m.target
+    → route_from (loaders_in c) name n ≡ route_from (loaders_in c) name m.target
 said_import c name n ms m lt imports found below =
     let l = loader_in c.loaders n lt in
     by_import c name n l.0 m l.1 (finds name ms l.0.imports (Some m) (says (λ (l : Loader). l.imports) ms (slice_get c.loaders n) l.0 l.1 imports) found) below
 
 pub said_alone : (c : Configured) (name : Name) (n : ℕ) (ms : List Import) → n < length c.loaders → IfSome (slice_get c.loaders n) (λ l. ms ≡ l.imports) → find (λ m. starts_with nat_eq name m.prefix) ms ≡ None
-    → IfSome (slice_get c.loaders n) (λ l. None ≡ l.parent) → route_from (loaders_of c) name n ≡ n ∷ []
+    → IfSome (slice_get c.loaders n) (λ l. None ≡ l.parent) → route_from (loaders_in c) name n ≡ n ∷ []
 said_alone c name n ms lt imports none parent =
     let l = loader_in c.loaders n lt in
     alone c name n l.0 l.1 (finds name ms l.0.imports None (says (λ (l : Loader). l.imports) ms (slice_get c.loaders n) l.0 l.1 imports) none) (sym (says (λ (l : Loader). l.parent) None (slice_get c.loaders n) l.0 l.1 parent))
 
 pub said_parent : (c : Configured) (name : Name) (n q : ℕ) (ms : List Import) → n < length c.loaders → IfSome (slice_get c.loaders n) (λ l. ms ≡ l.imports) → find (λ m. starts_with nat_eq name m.prefix) ms ≡ None
-    → IfSome (slice_get c.loaders n) (λ l. Some q ≡ l.parent) → IfSome (slice_get c.loaders n) (λ l. ParentFirst ≡ l.order) → q < n → route_from (loaders_of c) name n ≡ route_from (loaders_of c) name q ++ n ∷ []
+    → IfSome (slice_get c.loaders n) (λ l. Some q ≡ l.parent) → IfSome (slice_get c.loaders n) (λ l. ParentFirst ≡ l.order) → q < n → route_from (loaders_in c) name n ≡ route_from (loaders_in c) name q ++ n ∷ []
 said_parent c name n q ms lt imports none parent order below =
     let l = loader_in c.loaders n lt in
     let undecided = finds name ms l.0.imports None (says (λ (l : Loader). l.imports) ms (slice_get c.loaders n) l.0 l.1 imports) none in
     parent_first c name n q l.0 l.1 undecided (sym (says (λ (l : Loader). l.parent) (Some q) (slice_get c.loaders n) l.0 l.1 parent)) (sym (says (λ (l : Loader). l.order) ParentFirst (slice_get c.loaders n) l.0 l.1 order)) below
 
 pub said_child : (c : Configured) (name : Name) (n q : ℕ) (ms : List Import) → n < length c.loaders → IfSome (slice_get c.loaders n) (λ l. ms ≡ l.imports) → find (λ m. starts_with nat_eq name m.prefix) ms ≡ None
-    → IfSome (slice_get c.loaders n) (λ l. Some q ≡ l.parent) → IfSome (slice_get c.loaders n) (λ l. ChildFirst ≡ l.order) → q < n → route_from (loaders_of c) name n ≡ n ∷ route_from (loaders_of c) name q
+    → IfSome (slice_get c.loaders n) (λ l. Some q ≡ l.parent) → IfSome (slice_get c.loaders n) (λ l. ChildFirst ≡ l.order) → q < n → route_from (loaders_in c) name n ≡ n ∷ route_from (loaders_in c) name q
 said_child c name n q ms lt imports none parent order below =
     let l = loader_in c.loaders n lt in
     let undecided = finds name ms l.0.imports None (says (λ (l : Loader). l.imports) ms (slice_get c.loaders n) l.0 l.1 imports) none in

@@ -18,7 +18,7 @@ use Rattle.cl_model.specs.Content.{Content}
 use Rattle.cl_model.specs.Homes.{home}
 use Rattle.cl_model.specs.Probes.{route}
 use Rattle.cl_config.specs.Views.{Configured}
-use Rattle.cl_config.specs.Loaders.{loaders_of}
+use Rattle.cl_config.specs.Loaders.{loaders_in}
 use Rattle.cl_source.specs.Told.{IsTold}
 use Rattle.cl_source.specs.Views.{Found}
 use Rattle.cl_delegation.specs.Worlds.{world_of}
@@ -38,7 +38,7 @@ begun c loader name = record { config = c; loader = loader; name = name; absent 
 
 -- the loaders that the search asks, in order, while each lacks the name (5.3.2)
 abbrev pub route_of : Searched → List ℕ
-route_of s = route (loaders_of s.config) s.loader s.name
+route_of s = route (loaders_in s.config) s.loader s.name
 
 -- the next of a route, behind so many probes; none once bytes were found (5.3.2)
 abbrev pub next_on : List ℕ → ℕ → Option Found → Option ℕ
@@ -85,7 +85,7 @@ IsEnd told name next None = Unit {0}
 IsEnd told name next (Some p) = IsFound told name next p
 
 -- the probes follow the route, as far as the first that found bytes (5.3.2)
-pub record Follows (told : Option Content) (s : Searched) : Type 0 where
+pub record FollowsRoute (told : Option Content) (s : Searched) : Type 0 where
   pub loader : s.loader < length s.config.loaders
   pub absent : AllLack told s.name (route_of s) s.absent
   pub found : IsEnd told s.name (slice_get (route_of s) (length s.absent)) s.found

@@ -5,17 +5,17 @@ use Rattle.cl_classfile.specs.Reading.{read_of}
 use Rattle.cl_model.specs.Content.{Content}
 use Rattle.cl_model.specs.Homes.{World}
 use Rattle.cl_model.specs.Machine.{Setting}
-use Rattle.cl_model.specs.Worlds.{seen}
-use Rattle.cl_config.specs.Loaders.{loaders_of, schedule_of}
+use Rattle.cl_model.specs.Worlds.{seen_file}
+use Rattle.cl_config.specs.Loaders.{loaders_in, schedule_of}
 use Rattle.cl_config.specs.Views.{Configured, Scripted}
 
 -- the file that bytes spell, or its first fault (4.1)
 abbrev pub read : List ℕ → Result File FileFault
-read bytes = seen (read_of bytes)
+read bytes = seen_file (read_of bytes)
 
 -- the loaders, their content, and how bytes are read (5.3)
 abbrev pub world_of : Configured → Content → World
-world_of c content = record { loaders = loaders_of c; content = content; read = read }
+world_of c content = record { loaders = loaders_in c; content = content; read = read }
 
 -- the script over that world (5.3)
 abbrev pub setting_of : Configured → Scripted → Content → Setting

@@ -4,7 +4,7 @@ ghost use Rattle.std.specs.Prelude.{◌≡◌, ◌<◌, ◌++◌, All, IfOk, IfS
 ghost use Rattle.std.specs.List.{starts_with};
 ghost use Rattle.std.specs.Option.{option_map};
 ghost use Rattle.cl_model.specs.Homes.{is_java};
-ghost use Rattle.cl_config.specs.Loaders.{loaders_of};
+ghost use Rattle.cl_config.specs.Loaders.{loaders_in};
 ghost use Rattle.cl_model.specs.Probes.{route, route_from};
 
 use cl_config::{Config, Import, Order};
@@ -20,7 +20,7 @@ pub(crate) fn find_route(
     name: &Name,
 ) -> Result<Vec<LoaderId>, AllocError>
     requires { loader < length config.now.loaders }
-    ensures { IfOk result (λ v. v.items ≡ route (loaders_of config.now) loader name.now) }
+    ensures { IfOk result (λ v. v.items ≡ route (loaders_in config.now) loader name.now) }
 {
     let mut route = Vec::new(alloc);
     if is_java(name) {
@@ -46,7 +46,7 @@ fn add_route(
     route: &mut Vec<LoaderId>,
 ) -> Result<(), AllocError>
     requires { loader < length config.now.loaders }
-    ensures { OnOk result (route.new.items ≡ route.old.items ++ route_from (loaders_of config.now)
+    ensures { OnOk result (route.new.items ≡ route.old.items ++ route_from (loaders_in config.now)
         name.now loader) }
 {
     let imports = config.imports(loader);

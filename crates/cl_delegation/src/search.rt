@@ -1,7 +1,7 @@
 //! The search for a name through the loaders.
 
 ghost use Rattle.std.specs.Prelude.{◌≡◌, ◌<◌, ◌≤◌, ◌-◌, ◌++◌, [], ◌∷◌, IfOk, OnOk, IfErr, MatchResult, Option, Some, None, length, is_some, slice_get, vec_len, vec_capacity};
-ghost use Rattle.cl_delegation.specs.Searches.{LeadsTo, Follows, begun, next_of, route_of, with_probe};
+ghost use Rattle.cl_delegation.specs.Searches.{LeadsTo, FollowsRoute, begun, next_of, route_of, with_probe};
 ghost use Rattle.cl_source.specs.Told.{IsTold};
 ghost use Rattle.cl_source.specs.Views.{Found};
 
@@ -44,13 +44,13 @@ impl<T: Told> Drop for Search<T> {
 impl<T: Told> Model for Search<T> {
     ghost use Rattle.std.specs.Prelude.{length, vec_len, vec_capacity};
     ghost use Rattle.cl_delegation.specs.Searches.{Searched};
-    ghost use Rattle.cl_delegation.specs.Kept.{IsSearch};
+    ghost use Rattle.cl_delegation.specs.Kept.{HasRouteAtHand};
 
     ghost Value = { Searched };
 
     ghost view = { λ s. record { config = s.config.value; loader = s.loader; name = s.name; absent = s.absent.items; found = s.found } };
 
-    ghost invariant = { λ s. IsSearch T.told (record { config = s.config.value; loader = s.loader; name = s.name; absent = s.absent.items; found = s.found }) s.route.items (vec_len s.absent) (vec_capacity s.absent) };
+    ghost invariant = { λ s. HasRouteAtHand T.told (record { config = s.config.value; loader = s.loader; name = s.name; absent = s.absent.items; found = s.found }) s.route.items (vec_len s.absent) (vec_capacity s.absent) };
 }
 
 /// A search could not begin.
@@ -99,7 +99,7 @@ impl<T: Told> Search<T> {
     /// The loader to be probed next, if any is.
     pub fn next_probe(&self) -> Option<LoaderId>
         ensures next { result ≡ next_of self.now }
-        ensures follows { Follows T.told self.now }
+        ensures follows { FollowsRoute T.told self.now }
     {
         if self.found.is_some() {
             return None;

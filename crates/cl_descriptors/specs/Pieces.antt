@@ -26,6 +26,6 @@ abbrev pub outlined : Outline → MethodType
 outlined o = record { params = (all_types o.params.now).0; ret = option_map seen o.ret }
 
 -- the tally is that of the parameters (JVMS SE 8, 4.3.3)
-pub record IsCounted (o : Outline) : Type 0 where
+pub record HasItsTally (o : Outline) : Type 0 where
   pub units : o.tally.units ≡ units_of_method (outlined o)
   pub shallow : o.tally.shallow ≡ list_all is_shallow (outlined o).params

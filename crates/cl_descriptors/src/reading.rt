@@ -4,9 +4,9 @@ ghost use Rattle.std.specs.Prelude.{◌≡◌, Some, ◌≤◌, ◌<◌, ◌+◌
 ghost use Rattle.std.specs.List.{list_all};
 ghost use Rattle.cl_descriptors.specs.Types.{SpellsField, SpellsMethod, AreNamed, is_shallow, are_shallow, is_short};
 ghost use Rattle.cl_descriptors.specs.Units.{units_of_field, units_of_types};
-ghost use Rattle.cl_descriptors.specs.Pieces.{seen, outlined, IsCounted};
+ghost use Rattle.cl_descriptors.specs.Pieces.{seen, outlined, HasItsTally};
 ghost use Rattle.cl_descriptors.specs.Reading.{all_types, whole_method, within_field, within_method, field_of, method_of, field_form, method_form, form_of, units_of};
-ghost use Rattle.cl_descriptors.specs.Answers.{FieldOf, MethodOf, FormOf, UnitsOf, Gives};
+ghost use Rattle.cl_descriptors.specs.Answers.{FieldOf, MethodOf, FormOf, UnitsOf, GivesReading};
 
 use crate::limits::MOST_UNITS;
 use crate::piece::{Piece, field_at, whole_field, whole_return};
@@ -83,7 +83,7 @@ fn types(alloc: Global, count: usize, bytes: &[u8]) -> Result<Vec<FieldType>, Al
 #[tactic(auto, unfolding(crate::specs::Reading::whole_method))]
 fn outline_of(bytes: &[u8]) -> Option<Outline<'_>>
     ensures grammar { option_map outlined result ≡ whole_method bytes.now }
-    ensures counts { IfSome result IsCounted }
+    ensures counts { IfSome result HasItsTally }
 {
     let [b'(', params @ ..] = bytes else {
         return None;
@@ -98,7 +98,7 @@ fn outline_of(bytes: &[u8]) -> Option<Outline<'_>>
 
 impl Outline<'_> {
     fn is_shallow(&self) -> bool
-        requires { IsCounted self.now }
+        requires { HasItsTally self.now }
         ensures { result ≡ are_shallow (outlined self.now) }
     {
         match &self.ret {
@@ -108,7 +108,7 @@ impl Outline<'_> {
     }
 
     fn is_short(&self) -> bool
-        requires { IsCounted self.now }
+        requires { HasItsTally self.now }
         ensures { result ≡ is_short (outlined self.now) }
     {
         self.tally.units <= MOST_UNITS
@@ -135,7 +135,7 @@ impl Outline<'_> {
 
 #[tactic(auto, unfolding(crate::specs::Reading::field_of))]
 fn field_of(alloc: Global, bytes: &[u8]) -> Result<FieldType, DescriptorFault>
-    ensures { Gives result (field_of bytes.now) }
+    ensures { GivesReading result (field_of bytes.now) }
 {
     let Some(piece) = whole_field(bytes) else {
         return Err(DescriptorFault::Malformed);
@@ -148,7 +148,7 @@ fn field_of(alloc: Global, bytes: &[u8]) -> Result<FieldType, DescriptorFault>
 
 #[tactic(auto, unfolding(crate::specs::Reading::method_of))]
 fn method_of(alloc: Global, bytes: &[u8]) -> Result<MethodType, DescriptorFault>
-    ensures { Gives result (method_of bytes.now) }
+    ensures { GivesReading result (method_of bytes.now) }
 {
     let Some(outline) = outline_of(bytes) else {
         return Err(DescriptorFault::Malformed);
@@ -169,9 +169,9 @@ pub fn read_field(alloc: Global, bytes: &[u8]) -> Result<FieldType, DescriptorFa
     ensures grammar { FieldOf bytes.now result }
     // What is spelled so is read, unless memory runs out.
     ensures only { (t : FieldType) → SpellsField bytes.now t
-        → Gives result (within_field (Some t)) }
+        → GivesReading result (within_field (Some t)) }
     // Which answer it is.
-    ensures exact { Gives result (field_of bytes.now) }
+    ensures exact { GivesReading result (field_of bytes.now) }
 {
     field_of(alloc, bytes)
 }
@@ -184,9 +184,9 @@ pub fn read_method(alloc: Global, bytes: &[u8]) -> Result<MethodType, Descriptor
     ensures grammar { MethodOf bytes.now result }
     // What is spelled so is read, unless memory runs out.
     ensures only { (m : MethodType) → SpellsMethod bytes.now m
-        → Gives result (within_method (Some m)) }
+        → GivesReading result (within_method (Some m)) }
     // Which answer it is.
-    ensures exact { Gives result (method_of bytes.now) }
+    ensures exact { GivesReading result (method_of bytes.now) }
 {
     method_of(alloc, bytes)
 }

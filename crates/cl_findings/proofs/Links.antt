@@ -36,7 +36,7 @@ use Rattle.cl_hierarchy.specs.Trees.{kin_under, kins, kins_after}
 use Rattle.cl_hierarchy.proofs.MetAbove.{front_met, known_met}
 use Rattle.cl_hierarchy.proofs.Tours.{classes_both}
 use Rattle.cl_findings.specs.Bases.{AreLineages}
-use Rattle.cl_findings.specs.Findings.{HasImposed, IsPlaced, Placed, Rests, loader_of, grounded}
+use Rattle.cl_findings.specs.Findings.{HasImposed, LinkIsPlaced, NeedIsPlaced, Rests, loader_of, grounded}
 use Rattle.cl_findings.specs.References.{AreLinked, link_basis}
 use Rattle.cl_findings.proofs.Plain.{linkage_apart}
 use Rattle.cl_findings.proofs.References.{next_at}
@@ -100,7 +100,7 @@ imposed_all w s (k ∷ ks) kept h =
     let same = one_lineage w k.class h.0.kin k h.0.lineage (lineage_is_derived w k kept.0.1) in
     (subst (λ (x : Kin). AllMet s (constraints_of x)) same h.0.imposed, imposed_all w s ks kept.1 h.1)
 
-placed_link : (w : World) (s : State) (loader : ℕ) (name : List ℕ) (n : Need) (cs : List Class) → IsPlaced w s loader name n cs → Placed w s (Link loader name) n cs
+placed_link : (w : World) (s : State) (loader : ℕ) (name : List ℕ) (n : Need) (cs : List Class) → LinkIsPlaced w s loader name n cs → NeedIsPlaced w s (Link loader name) n cs
 placed_link w s loader name (Entry to other place) cs h = tt
 placed_link w s loader name (Equal other a b) cs h = h
 
@@ -110,7 +110,7 @@ link_concludes : (content : Content) (loader : ℕ) (l at : Lined) (given : Give
     → IsInOrder l → IsLineageOf (Some content) l → IsLineageOf (Some content) at → at.config ≡ l.config → option_map (λ (row : Rowed). row.class) (slice_get (rows_in l) place) ≡ Some at.own.class
     → AreEnough (known_by given (kin_of at)) (constraints_of (kin_of at)) needs → slice_get needs k ≡ Some n → IsClosed (world_of l.config content) s → recorded s.records loader l.own.class.name ≡ Some l.own.class.loader → AllMet s (take k needs)
     → AllByRecursion (HasImposed (world_of l.config content) s) (row_classes (take place (rows_in l)))
-    → IsNextNeed (world_of l.config content) s (Link loader l.own.class.name) n × Placed (world_of l.config content) s (Link loader l.own.class.name) n (row_classes (take place (rows_in l)))
+    → IsNextNeed (world_of l.config content) s (Link loader l.own.class.name) n × NeedIsPlaced (world_of l.config content) s (Link loader l.own.class.name) n (row_classes (take place (rows_in l)))
 link_concludes content loader l at given place k needs n s order lin other config there are is closed rec met prepared =
     let w = world_of l.config content in
     let name = l.own.class.name in
@@ -168,7 +168,7 @@ link_rests (Some content) r l place e k need linked order lin others of is = rec
       record {
         linkage = refl;
         next = subst (λ (q : request.Request). IsNextNeed w s (request_of q) n) (sym linked.of) h.0;
-        placed = subst (λ (q : request.Request). Placed w s (request_of q) n cs) (sym linked.of) h.1;
+        placed = subst (λ (q : request.Request). NeedIsPlaced w s (request_of q) n cs) (sym linked.of) h.1;
       };
 }
 

@@ -22,7 +22,7 @@ use Rattle.cl_model.specs.Plans.{Request, Load, Resolve, Link}
 use Rattle.cl_model.specs.Service.{IsNextNeed}
 use Rattle.cl_model.specs.Frames.{Frame, wanted, KeepsAccepted, AllKept, IsFrame, IsFrames, OfReference, Starts, path_of, asking, EndsHere, Under, absent_under, kept_of}
 use Rattle.cl_model.specs.Views.{request_of, error_of, need_of}
-use Rattle.cl_model.specs.Worlds.{file_fault, seen}
+use Rattle.cl_model.specs.Worlds.{file_fault, seen_file}
 use Rattle.cl_model.proofs.Frames.{missing_ends, faulty_ends, circle_ends, misfit_ends, complete_is_next, defined_is_next}
 use Rattle.cl_model.proofs.Homes.{home_of_home}
 use Rattle.cl_model.proofs.Progress.{met_split}
@@ -43,7 +43,7 @@ use Rattle.cl_hierarchy.proofs.Placed.{file_found, spelt_judged}
 use Rattle.cl_findings.specs.declared.load.Target.{Target}
 use Rattle.cl_findings.specs.declared.load.Target.TheVariants as targets
 use Rattle.cl_findings.specs.Bases.{IsSpeltIn}
-use Rattle.cl_findings.specs.Findings.{Based, Concludes, IsRefusal, Placed, Rests, VerdictRests, loader_of, grounded}
+use Rattle.cl_findings.specs.Findings.{Based, Concludes, IsRefusal, NeedIsPlaced, Rests, VerdictRests, loader_of, grounded}
 use Rattle.cl_findings.specs.Loads.{IsFor, IsMisfit, IsReferred, IsSought, IsWhole, LooksFor, kind_of, load_basis, missing_kind, target_needs}
 use Rattle.cl_findings.proofs.Files.{kept_file}
 use Rattle.cl_findings.proofs.Plain.{error_apart, linkage_apart}
@@ -59,12 +59,12 @@ apart a b true n h = absurd (n (names_equal a b h))
 apart a b false n h = refl
 
 wrong_read : (h : Located) (fault : DraftFault) (c : Class) → h.name ≡ c.name → IsWrong h fault → named c (read h.bytes) ≡ Err (error_of (kind_of fault) c)
-wrong_read h drafts.Version c same wrong = ap (λ (r : Result Structure Fault). named c (seen r)) wrong
+wrong_read h drafts.Version c same wrong = ap (λ (r : Result Structure Fault). named c (seen_file r)) wrong
 wrong_read h (drafts.Format fault) c same wrong =
-    ap (λ (r : Result Structure Fault). named c (seen r)) wrong.0 ∙ ap (λ (f : FileFault). named c (Err f)) (other_than_version fault wrong.1)
+    ap (λ (r : Result Structure Fault). named c (seen_file r)) wrong.0 ∙ ap (λ (f : FileFault). named c (Err f)) (other_than_version fault wrong.1)
 wrong_read h drafts.OtherName c same wrong =
     let f = file_of wrong.0 in
-    ap (λ (r : Result Structure Fault). named c (seen r)) (grammar_read h.bytes wrong.0 wrong.1)
+    ap (λ (r : Result Structure Fault). named c (seen_file r)) (grammar_read h.bytes wrong.0 wrong.1)
     ∙ ap (λ (b : Bool). if b then Ok f else Err (NoClassDef c)) (apart f.name c.name (same_name f.name c.name) (λ e. wrong.2 (e ∙ sym same)) refl)
 
 -- ---- the frames of a path
@@ -102,7 +102,7 @@ kept_split : (s : State) (xs : List Frame) (x : Frame) → AllKept s (xs ++ x �
 kept_split s [] x h = (tt, h.0)
 kept_split s (y ∷ xs) x h = let more = kept_split s xs x h.1 in ((h.0, more.0), more.1)
 
-placed_record : (w : World) (s : State) (r : Request) (to place : ℕ) (other : List ℕ) → Placed w s r (Entry to other place) []
+placed_record : (w : World) (s : State) (r : Request) (to place : ℕ) (other : List ℕ) → NeedIsPlaced w s r (Entry to other place) []
 placed_record w s (Load loader name) to place other = tt
 placed_record w s (Resolve loader name i) to place other = tt
 placed_record w s (Link loader name) to place other = tt

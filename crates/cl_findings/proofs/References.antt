@@ -30,11 +30,11 @@ use Rattle.cl_hierarchy.specs.Imposed.{AreOf, AreOfReference, Listed, OfPreparat
 use Rattle.std.proofs.lemmas.List.{length-map}
 use Rattle.cl_hierarchy.specs.Lineages.{IsLineageOf, Lined, kin_of}
 use Rattle.cl_hierarchy.specs.Rows.{Rowed}
-use Rattle.cl_members.specs.Asking.{IsFoundAs, IsLocated, Located}
+use Rattle.cl_members.specs.Asking.{IsFoundAs, IsLocated, LocatedMember}
 use Rattle.cl_members.specs.declared.fault.LookupFault.{LookupFault}
 use Rattle.cl_members.specs.declared.fault.LookupFault.TheVariants as faults
 use Rattle.cl_findings.specs.Bases.{AreLineages}
-use Rattle.cl_findings.specs.Findings.{Based, Placed, Resolves, Rests, VerdictRests, loader_of, grounded}
+use Rattle.cl_findings.specs.Findings.{Based, NeedIsPlaced, Resolves, Rests, VerdictRests, loader_of, grounded}
 use Rattle.cl_findings.specs.References.{AreAsked, EndsAtClass, EndsAtOnce, GoesTo, IsAtClass, IsAtOnce, IsLookupError, IsOfFound, asked_basis, class_basis, config_of, entry_basis, fault_verdict, index_of, member_basis, sprung_needs}
 use Rattle.cl_findings.proofs.Files.{kept_lineage}
 use Rattle.cl_findings.proofs.Plain.{linkage_apart, reference_apart}
@@ -140,7 +140,7 @@ member_goes content r d c i cited m s to lin other found names is closed below =
 made_verdict : (a : Made Verdict) (o : Work Verdict) (needs : List Need) (v : Verdict) → o ≡ Some a → o ≡ Some (record { needs = needs; asked = []; ends = Ok v }) → ending a.ends ≡ v
 made_verdict a o needs v h k = ap (λ (m : Made Verdict). ending m.ends) (some_same a (record { needs = needs; asked = []; ends = Ok v }) (sym h ∙ k))
 
-member_ends : (content : Content) (r : request.Request) (f : Located) (needs : List Need) (v : Verdict) (s : State) → GoesTo r f.d f.c f.index → IsLineageOf (Some content) f.d → IsLineageOf (Some content) f.c
+member_ends : (content : Content) (r : request.Request) (f : LocatedMember) (needs : List Need) (v : Verdict) (s : State) → GoesTo r f.d f.c f.index → IsLineageOf (Some content) f.d → IsLineageOf (Some content) f.c
     → IsLocated f → AreOfReference (kin_of f.d) (kin_of f.c) f.index needs → IsOfFound f v → IsClosed (world_of f.d.config content) s
     → recorded s.records (loader_of r) f.d.own.class.name ≡ Some f.d.own.class.loader → recorded s.records f.d.own.class.loader f.c.own.class.name ≡ Some f.c.own.class.loader → AllMet s needs
     → EndsHere (world_of f.d.config content) s (request_of r) v
@@ -156,7 +156,7 @@ member_ends content r f needs v s to lin other located of found closed rec below
 of_reference : (from : Sprung) (d c : Lined) (i : ℕ) (needs : List Need) → from ≡ OfReference d c i → AreOf from needs → AreOfReference (kin_of d) (kin_of c) i needs
 of_reference from d c i needs e h = subst (λ (x : Sprung). AreOf x needs) e h
 
-pub member_rests : (told : Option Content) (r : request.Request) (f : Located) (e : Listed) (v : verdict.Verdict) → GoesTo r f.d f.c f.index → IsLineageOf told f.d → IsLineageOf told f.c → IsLocated f
+pub member_rests : (told : Option Content) (r : request.Request) (f : LocatedMember) (e : Listed) (v : verdict.Verdict) → GoesTo r f.d f.c f.index → IsLineageOf told f.d → IsLineageOf told f.c → IsLocated f
     → e.origin ≡ OfReference f.d f.c f.index → AreOf e.origin (needs_of e.needs) → IsOfFound f (verdict_of v) → Rests told (grounded r v (member_basis r f e))
 member_rests None r f e v to lin other located from of found = tt
 member_rests (Some content) r f e v to lin other located from of found = record {
@@ -211,8 +211,8 @@ next_at s [] k n e h = absurd cc
 next_at s (x ∷ ns) zero n e h = inl (some_same x n e)
 next_at s (x ∷ ns) (suc k) n e h = inr (h.0, next_at s ns k n e h.1)
 
-placed_reference : (w : World) (s : State) (r : request.Request) (d : Class) (i : ℕ) (n : Need) → Resolves r d.name i → Placed w s (request_of r) n []
-placed_reference w s r d i n is = subst (λ (q : request.Request). Placed w s (request_of q) n []) (sym is) tt
+placed_reference : (w : World) (s : State) (r : request.Request) (d : Class) (i : ℕ) (n : Need) → Resolves r d.name i → NeedIsPlaced w s (request_of r) n []
+placed_reference w s r d i n is = subst (λ (q : request.Request). NeedIsPlaced w s (request_of q) n []) (sym is) tt
 
 asked_rests_at : (content : Content) (r : request.Request) (from : Sprung) (needs : List Need) (k : ℕ) (need : rust.Need) → AreAsked r from → AreLineages (Some content) from → AreOf from needs
     → slice_get needs k ≡ Some (need_of need)
@@ -249,7 +249,7 @@ none_behind [] n e = refl
 none_behind (x ∷ ns) zero e = absurd (omega (arith, e))
 none_behind (x ∷ ns) (suc n) e = none_behind ns n (omega (arith, e))
 
-pub member_kept : (r : request.Request) (f : Located) (e : Listed) (n : ℕ) → e.origin ≡ OfReference f.d f.c f.index → n ≡ length e.needs
+pub member_kept : (r : request.Request) (f : LocatedMember) (e : Listed) (n : ℕ) → e.origin ≡ OfReference f.d f.c f.index → n ≡ length e.needs
     → asked_by r e.origin (take n (needs_of e.needs)) (slice_get (needs_of e.needs) n) ≡ member_basis r f e
 member_kept r f e n from many =
     let ns = needs_of e.needs in
@@ -258,7 +258,7 @@ member_kept r f e n from many =
     ∙ ap (λ (xs : List Need). asked_by r (OfReference f.d f.c f.index) xs (slice_get ns n)) (whole_taken ns n long)
     ∙ ap (λ (o : Option Need). asked_by r (OfReference f.d f.c f.index) ns o) (none_behind ns n long)
 
-pub member_rests_kept : (told : Option Content) (r : request.Request) (f : Located) (e : Listed) (v : verdict.Verdict) (n : ℕ) → GoesTo r f.d f.c f.index → IsLineageOf told f.d → IsLineageOf told f.c → IsLocated f
+pub member_rests_kept : (told : Option Content) (r : request.Request) (f : LocatedMember) (e : Listed) (v : verdict.Verdict) (n : ℕ) → GoesTo r f.d f.c f.index → IsLineageOf told f.d → IsLineageOf told f.c → IsLocated f
     → e.origin ≡ OfReference f.d f.c f.index → AreOf e.origin (needs_of e.needs) → IsOfFound f (verdict_of v) → n ≡ length e.needs
     → Rests told (grounded r v (asked_by r e.origin (take n (needs_of e.needs)) (slice_get (needs_of e.needs) n)))
 member_rests_kept told r f e v n to lin other located from of found many =

@@ -18,7 +18,7 @@ use Rattle.cl_hierarchy.proofs.Frames.{accepts_one}
 use Rattle.cl_hierarchy.proofs.Paths.{stand_pop}
 use Rattle.cl_hierarchy.proofs.Placed.{fresh_frame}
 use Rattle.cl_hierarchy.proofs.Repeats.{fits_last, repeats_last}
-use Rattle.cl_findings.specs.Loads.{IsSought, IsWhole, KeepsRules}
+use Rattle.cl_findings.specs.Loads.{IsSought, IsWhole, FrameKeepsRules}
 
 -- the name of a draft's home is that of its class
 home_named : (told : Option Content) (d : Drafted) → IsDraft told d → d.home.name ≡ d.class.name
@@ -26,7 +26,7 @@ home_named told d draft = ap (λ (c : Class). c.name) (sym draft.placed)
 
 -- ---- a class without direct supertypes
 
-root_rules : (told : Option Content) (p : Pathed) (d : Drafted) → IsDraft told d → IsSought p d.home → is_on p d.class ≡ false → d.class.name ≡ at_name p → KeepsRules told p (fresh d)
+root_rules : (told : Option Content) (p : Pathed) (d : Drafted) → IsDraft told d → IsSought p d.home → is_on p d.class ≡ false → d.class.name ≡ at_name p → FrameKeepsRules told p (fresh d)
 root_rules None p d draft home new named = tt
 root_rules (Some content) p d draft home new named =
     let w = world_of p.config content in
@@ -44,7 +44,7 @@ accepted_frame : (x : Framed) (place : ℕ) (a : Above) → wanted (frame_of x) 
 accepted_frame x place a h = accepts_one x (with_place x place) place refl (Some a) h
 
 completed_rules : (told : Option Content) (c : Pathed) (before : List Framed) (last : Framed) (place : ℕ) → IsPath told (with_frames c (before ++ last ∷ [])) → FitsNext told c.config last place → last.draft.class.name ≡ at_name (with_frames c before)
-    → KeepsRules told (with_frames c before) (with_place last place)
+    → FrameKeepsRules told (with_frames c before) (with_place last place)
 completed_rules None c before last place path fits is = tt
 completed_rules (Some content) c before last place path fits is =
     let w = world_of c.config content in

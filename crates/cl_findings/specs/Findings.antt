@@ -117,7 +117,7 @@ pub record Grounds (w : World) (s : State) (b : Based) : Type 0 where
 
 -- the equality that comes next in a link stands among those of a class before which in the lineage
 -- these stand (5.4, 5.4.2)
-pub record IsPlaced (w : World) (s : State) (loader : ℕ) (name : Name) (n : Need)
+pub record LinkIsPlaced (w : World) (s : State) (loader : ℕ) (name : Name) (n : Need)
     (prepared : List Class) : Type 0 where
   pub place : ℕ
   pub kept : recorded s.records loader name ≡ Some place
@@ -132,19 +132,19 @@ pub record IsPlaced (w : World) (s : State) (loader : ℕ) (name : Name) (n : Ne
 
 -- what is known of the place of a refused need in a request: of a link's equality, in which class's
 -- preparation it stands (5.4.2)
-abbrev pub Placed : World → State → Request → Need → List Class → Type 0
-Placed w s (Load loader name) n prepared = Unit {0}
-Placed w s (Resolve loader name i) n prepared = Unit {0}
-Placed w s (Link loader name) (Entry to other place) prepared = Unit {0}
-Placed w s (Link loader name) (Equal other a b) prepared =
-    IsPlaced w s loader name (Equal other a b) prepared
+abbrev pub NeedIsPlaced : World → State → Request → Need → List Class → Type 0
+NeedIsPlaced w s (Load loader name) n prepared = Unit {0}
+NeedIsPlaced w s (Resolve loader name i) n prepared = Unit {0}
+NeedIsPlaced w s (Link loader name) (Entry to other place) prepared = Unit {0}
+NeedIsPlaced w s (Link loader name) (Equal other a b) prepared =
+    LinkIsPlaced w s loader name (Equal other a b) prepared
 
 -- the verdict is the refusal of this need, which comes next in the request's plan (5.3.4)
 pub record IsRefusal (w : World) (s : State) (r : Request) (n : Need) (prepared : List Class)
     (v : Verdict) : Type 0 where
   pub linkage : v ≡ Linkage n
   pub next : IsNextNeed w s r n
-  pub placed : Placed w s r n prepared
+  pub placed : NeedIsPlaced w s r n prepared
 
 -- the plan of a request ends in a verdict, and all its needs are met; or the need that is to be
 -- refused comes next in it (5.3.4, 5.3.5)

@@ -135,9 +135,9 @@ basis_at r t p end = load_basis r t p (needs_at p end) None
 
 -- where a content is told, the class is that of the frame that comes next on the path, with all its
 -- supertypes (5.3.5)
-abbrev pub KeepsRules : Option Content → Pathed → Framed → Type 0
-KeepsRules None p x = Unit {0}
-KeepsRules (Some content) p x =
+abbrev pub FrameKeepsRules : Option Content → Pathed → Framed → Type 0
+FrameKeepsRules None p x = Unit {0}
+FrameKeepsRules (Some content) p x =
     IsFrame (world_of p.config content) (path_of [] (frames_of p)) (at_loader p) (at_name p)
     (frame_of x)
 
@@ -146,7 +146,7 @@ pub record IsWhole (told : Option Content) (p : Pathed) (x : Framed) : Type 0 wh
   pub home : IsSought p x.draft.home
   pub named : x.draft.class.name ≡ at_name p
   pub complete : wanted (frame_of x) ≡ None
-  pub rules : KeepsRules told p x
+  pub rules : FrameKeepsRules told p x
 
 -- the record comes next where a path is: that of a class which has all its supertypes, by its own
 -- loader, or that of the loader that was asked, where another has the class (5.3, 5.3.5)

@@ -43,7 +43,7 @@ use Rattle.cl_hierarchy.specs.declared.equalities.Given.{Given}
 use Rattle.cl_hierarchy.specs.Imposed as imposed
 use Rattle.cl_hierarchy.specs.Lineages.{Lined, kin_of, rows_in}
 use Rattle.cl_hierarchy.specs.Rows.{Rowed, row_accessible}
-use Rattle.cl_members.specs.Asking.{Located}
+use Rattle.cl_members.specs.Asking.{LocatedMember}
 use Rattle.cl_members.specs.Asking as asking
 use Rattle.cl_members.specs.declared.fault.LookupFault.{LookupFault}
 use Rattle.cl_members.specs.declared.fault.LookupFault.TheVariants as faults
@@ -117,7 +117,7 @@ pub record GoesTo (r : request.Request) (d c : Lined) (index : ℕ) : Type 0 whe
   pub accessible : row_accessible c.own d.own.class ≡ true
 
 -- the verdict is that of the member that was found (5.4.3.2 to 5.4.3.4)
-abbrev pub IsOfFound : Located → Verdict → Type 0
+abbrev pub IsOfFound : LocatedMember → Verdict → Type 0
 IsOfFound f v =
     (cited : Reference) → reference (kin_of f.d).file f.index ≡ Some cited
     → v ≡ asking.verdict_of cited f.owner.class f.key
@@ -141,7 +141,7 @@ pub record IsLookupError (d c : Lined) (index : ℕ) (v : verdict.Verdict) : Typ
 
 -- what a member rests on: the two classes are recorded, and all its equalities are imposed
 -- (5.4.3.2, 5.4.3.3)
-abbrev pub member_basis : request.Request → Located → Listed → Based
+abbrev pub member_basis : request.Request → LocatedMember → Listed → Based
 member_basis r f e = record {
   config = f.d.config;
   needs = reference_needs r f.d.own.class f.c.own.class ++ imposed.needs_of e.needs;

@@ -1,7 +1,7 @@
 //! What the tables of a registry tell of what answers rest on.
 
 ghost use Rattle.cl_model.specs.States.{State, Entry, Equal};
-ghost use Rattle.cl_constraints.specs.Books.{Meets, Refuses};
+ghost use Rattle.cl_constraints.specs.Books.{Meets, SaysRefused};
 ghost use Rattle.cl_findings.specs.Tables.{TellsPrepared};
 
 use cl_model::{Class, LoaderId};
@@ -18,7 +18,7 @@ pub trait Tables {
 
     /// Whether that record is refused: it does not stand, and would violate an equality.
     fn rejects(&self, loader: LoaderId, name: &Name, home: LoaderId) -> bool
-        ensures { Refuses (stands_for self.now) (Entry loader name.now home) result };
+        ensures { SaysRefused (stands_for self.now) (Entry loader name.now home) result };
 
     /// Whether equalities join two loaders for a name.
     fn joined(&self, name: &Name, one: LoaderId, other: LoaderId) -> bool
@@ -26,7 +26,7 @@ pub trait Tables {
 
     /// Whether an equality of two loaders for a name is refused: it does not stand, and would be violated.
     fn refuses(&self, name: &Name, one: LoaderId, other: LoaderId) -> bool
-        ensures { Refuses (stands_for self.now) (Equal name.now one other) result };
+        ensures { SaysRefused (stands_for self.now) (Equal name.now one other) result };
 
     /// Whether a class is prepared.
     fn is_prepared(&self, class: &Class) -> bool

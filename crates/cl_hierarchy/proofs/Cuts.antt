@@ -12,7 +12,7 @@ use Rattle.cl_model.proofs.Ancestors.{Within, among_first, lineage_once, within_
 use Rattle.cl_model.proofs.Closed.{all_left}
 use Rattle.cl_config.specs.Views.{Configured}
 use Rattle.cl_delegation.specs.Worlds.{world_of}
-use Rattle.cl_hierarchy.specs.Lineages.{IsInOrder, IsLined, IsLineageOf, IsWithin, Lined, kin_of}
+use Rattle.cl_hierarchy.specs.Lineages.{IsInOrder, IsLined, IsLineageOf, IsWithinConfig, Lined, kin_of}
 use Rattle.cl_hierarchy.specs.Places.{IsPlace}
 use Rattle.cl_hierarchy.specs.Rows.{Rowed}
 use Rattle.cl_hierarchy.specs.Trees.{SupersBefore, forest, in_front, kin_named, kin_under, kins, kins_after, superclass_in}
@@ -160,8 +160,8 @@ module _ (told : Option Content) (config : Configured) (earlier later : List Row
               (ap (λ (ks : List Kin). reverse (kin_of whole ∷ ks)) (sym known) ∙ h.order.ordered) all.split (ends_own earlier r (before_push [] earlier r parts.0 parts.1.0));
         };
         lineage = line;
-        within = all_left (IsWithin config) (earlier ++ r ∷ []) later
-            (subst (λ (rs : List Rowed). AllByRecursion (IsWithin config) rs) (sym (append_assoc earlier (r ∷ []) later)) (all_pop (IsWithin config) (earlier ++ r ∷ later) own h.within).0);
+        within = all_left (IsWithinConfig config) (earlier ++ r ∷ []) later
+            (subst (λ (rs : List Rowed). AllByRecursion (IsWithinConfig config) rs) (sym (append_assoc earlier (r ∷ []) later)) (all_pop (IsWithinConfig config) (earlier ++ r ∷ later) own h.within).0);
       }
 
   superclass_lineage : (o : Option Content) → (kin_of whole).superclass ≡ alone (kin_of front) → IsLineageOf o whole → IsLineageOf o front

@@ -10,7 +10,7 @@ use Rattle.cl_model.specs.Content.{Content}
 use Rattle.cl_model.specs.Lineages.{Kin}
 use Rattle.cl_config.specs.Views.{Configured}
 use Rattle.cl_hierarchy.specs.Above.{AreOnly, AreOvers}
-use Rattle.cl_hierarchy.specs.Ladders.{HasRung, IsBefore, IsEarlier, IsFilled, IsLadder, IsMadeOf, IsNearest, IsPassed, IsPushed, IsRung, IsRungAt, IsRungOf, IsWay, Laddered, LeadUp, begins}
+use Rattle.cl_hierarchy.specs.Ladders.{HasRung, IsBefore, IsEarlier, IsFilled, IsLadder, LadderIsMadeOf, IsNearest, LadderPasses, LadderPushes, IsRung, IsRungAt, IsRungOf, IsWay, Laddered, LeadUp, begins}
 use Rattle.cl_hierarchy.specs.Lineages.{IsLined, above_in, others_of}
 use Rattle.cl_hierarchy.specs.Rows.{Rowed}
 use Rattle.cl_hierarchy.specs.Trees.{SupersBefore, interface_places, kin_under, kins, superclass_in}
@@ -312,7 +312,7 @@ pass_rung told x w next own g many h has told_of mine r at =
           (h.nearest before s n e (ap (λ (y : Rowed). superclass_in y) same ∙ up)) has;
     }
 
-pub pushed_on : {A E : Type 0} (r : Result A E) (old filled new : Laddered) (place : ℕ) (g : Rung) → IsFilled old place filled → OnOk r (IsPushed filled (Some g) new) → OnOk r (IsPassed old place new)
+pub pushed_on : {A E : Type 0} (r : Result A E) (old filled new : Laddered) (place : ℕ) (g : Rung) → IsFilled old place filled → OnOk r (LadderPushes filled (Some g) new) → OnOk r (LadderPasses old place new)
 pushed_on (Err e) old filled new place g f p = tt
 pushed_on (Ok a) old filled new place g f p =
     let n : length new.marks ≡ length filled.marks + 1 = ap (λ (ms : List Mark). length ms) p.marks ∙ length-append filled.marks (p.mark ∷ []) in
@@ -356,7 +356,7 @@ module _ (told : Option Content) (old new : Laddered) (ways left : List ℕ) (w 
   pub climb_next : HasRung new.marks w next
   climb_next = has_wider new.marks (length new.marks) w next climb_before h.has
 
-  pub climb_on : (after : Laddered) → IsPassed new w after → IsClimbing told old after left (Some w)
+  pub climb_on : (after : Laddered) → LadderPasses new w after → IsClimbing told old after left (Some w)
   climb_on after p = record {
     longer = record {
       config = p.filled.config ∙ h.longer.config;
@@ -385,8 +385,8 @@ ladder_first {A} v told config above rows own clone marks h pushed cloned none =
     nothing : (place : ℕ) (m : Mark) → slice_get [] place ≡ Some m → ⊥
     nothing place m e = absurd cc
 
-pub made_of : {A : Type 0} (v : A → Rowed) (config : Configured) (above rows : List A) (own : Rowed) (clone : A) (x new : Laddered) → rows ≡ above ++ clone ∷ [] → v clone ≡ own → x.config ≡ config → x.rows ≡ map v rows → IsPassed x (length x.rows - 1) new
-    → IsMadeOf config (map v above) own new
+pub made_of : {A : Type 0} (v : A → Rowed) (config : Configured) (above rows : List A) (own : Rowed) (clone : A) (x new : Laddered) → rows ≡ above ++ clone ∷ [] → v clone ≡ own → x.config ≡ config → x.rows ≡ map v rows → LadderPasses x (length x.rows - 1) new
+    → LadderIsMadeOf config (map v above) own new
 made_of {A} v config above rows own clone x new pushed cloned config_is rows_are p =
     let split : x.rows ≡ map v above ++ own ∷ [] = rows_are ∙ ap (λ (xs : List A). map v xs) pushed ∙ map_push v above clone ∙ ap (λ (y : Rowed). map v above ++ y ∷ []) cloned in
     let many : length x.rows - 1 ≡ length (map v above) =

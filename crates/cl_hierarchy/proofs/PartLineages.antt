@@ -11,7 +11,7 @@ use Rattle.cl_model.specs.Lineages.{Forest, Bare, Tree, IsLineage, Kin, StandsFo
 use Rattle.cl_model.proofs.Derived.{all_both}
 use Rattle.cl_model.proofs.Progress.{once_kept}
 use Rattle.cl_hierarchy.specs.Fronts.{IsFront, IsLineageAt}
-use Rattle.cl_hierarchy.specs.Lineages.{IsInOrder, IsLined, IsLineageOf, IsRowIn, IsWithin, Lined, kin_of, row_of, rows_in}
+use Rattle.cl_hierarchy.specs.Lineages.{IsInOrder, IsLined, IsLineageOf, IsRowIn, IsWithinConfig, Lined, kin_of, row_of, rows_in}
 use Rattle.cl_hierarchy.specs.Rows.{Rowed}
 use Rattle.cl_hierarchy.specs.Supers.{AreAllSupers}
 use Rattle.cl_hierarchy.specs.Trees.{SupersBefore, kin_named, kin_under, kins}
@@ -81,7 +81,7 @@ part_lined told l start above own h i t =
     record {
       order = is.order;
       lineage = kin_lineage told l start.class above own h named;
-      within = all_found (IsWithin l.config) rows (above ++ own ∷ []) h.within t.all;
+      within = all_found (IsWithinConfig l.config) rows (above ++ own ∷ []) h.within t.all;
     }
 
 -- the own row is that of the class

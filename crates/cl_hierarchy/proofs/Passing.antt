@@ -10,7 +10,7 @@ use Rattle.cl_hierarchy.specs.declared.tour.Order.TheVariants as orders
 use Rattle.cl_hierarchy.specs.declared.tour.Task.TheVariants as tasks
 use Rattle.cl_hierarchy.specs.Lineages.{IsRowIn}
 use Rattle.cl_hierarchy.specs.Rows.{Rowed}
-use Rattle.cl_hierarchy.specs.Tours.{Comes, Leaves, Marked, Stop, Toured, inner, passing, steps_left, steps_of, stops, stops_left, telling, telling_all, told_at}
+use Rattle.cl_hierarchy.specs.Tours.{Comes, Leaves, Marked, Stop, Toured, inner, passing, steps_left, steps_to_go, stops, stops_left, telling, telling_all, told_at}
 use Rattle.cl_hierarchy.specs.Trees.{SupersBefore, kin_under, kins}
 use Rattle.cl_hierarchy.proofs.Stages.{AreRowsOf, IsStage, IsTold, telling_on, telling_stack, went}
 use Rattle.cl_hierarchy.proofs.Tours.{Closed, Goes, closed_both, closed_more, closed_rest, over_told, told_both, within_join, within_left, within_right}
@@ -139,7 +139,7 @@ module _ (rows : List Rowed) (ordered : SupersBefore [] rows) (goal : List Kin) 
       let each = tells_on rows goal now xs left rows_are (subst (λ (ks : List Kin). IsTold o rows goal now (comes ks ++ (left ++ behind))) (sym are) swapped) in
       went rows ordered o goal r is_row (telling_all now xs) each (subst (λ (ms : List Marked). AreRowsOf rows ms) (sym stack_is) a)
 
-  pub passed_less : steps_left (kins rows) (passing orders.Superinterfaces rows t r wanted xs).stack < steps_left (kins rows) t.stack + steps_of (kins rows) r (tasks.Come wanted)
+  pub passed_less : steps_left (kins rows) (passing orders.Superinterfaces rows t r wanted xs).stack < steps_left (kins rows) t.stack + steps_to_go (kins rows) r (tasks.Come wanted)
   passed_less =
       let same : steps_left (kins rows) (telling_all (telling wanted t r) xs).stack ≡ steps_left (kins rows) t.stack = ap (λ (ms : List Marked). steps_left (kins rows) ms) stack_is in
       omega arith

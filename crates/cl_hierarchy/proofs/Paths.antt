@@ -10,7 +10,7 @@ use Rattle.cl_config.specs.Views.{Configured}
 use Rattle.cl_delegation.specs.Worlds.{world_of}
 use Rattle.cl_hierarchy.specs.Drafts.{Drafted, IsDraft}
 use Rattle.cl_hierarchy.specs.Frames.{Framed, frame_of, with_place}
-use Rattle.cl_hierarchy.specs.Paths.{Pathed, frames_of, fresh, name_of, sought, at_loader, at_name, is_on, Stands, AllStand, KeepsRules, IsPath, with_frame}
+use Rattle.cl_hierarchy.specs.Paths.{Pathed, frames_of, fresh, name_of, sought, at_loader, at_name, is_on, FrameStands, AllStand, KeepsRules, IsPath, with_frame}
 use Rattle.cl_hierarchy.specs.Repeats.{FitsNext}
 use Rattle.cl_hierarchy.proofs.Ends.{all_push, all_pop, asking_push, sought_push}
 use Rattle.cl_hierarchy.proofs.Frames.{accepts_one}
@@ -18,11 +18,11 @@ use Rattle.cl_hierarchy.proofs.Placed.{fresh_frame}
 
 -- ---- each stands for the one before
 
-stand_push : (c : Configured) (loader : ℕ) (name : List ℕ) (xs : List Framed) (x : Framed) → AllStand c loader name xs → Stands c (asking loader (map frame_of xs)) (sought name xs) x → AllStand c loader name (xs ++ x ∷ [])
+stand_push : (c : Configured) (loader : ℕ) (name : List ℕ) (xs : List Framed) (x : Framed) → AllStand c loader name xs → FrameStands c (asking loader (map frame_of xs)) (sought name xs) x → AllStand c loader name (xs ++ x ∷ [])
 stand_push c loader name [] x all s = (s, tt)
 stand_push c loader name (y ∷ ys) x all s = (all.0, stand_push c y.draft.class.loader (name_of (wanted (frame_of y))) ys x all.1 s)
 
-pub stand_pop : (c : Configured) (loader : ℕ) (name : List ℕ) (xs : List Framed) (x : Framed) → AllStand c loader name (xs ++ x ∷ []) → AllStand c loader name xs × Stands c (asking loader (map frame_of xs)) (sought name xs) x
+pub stand_pop : (c : Configured) (loader : ℕ) (name : List ℕ) (xs : List Framed) (x : Framed) → AllStand c loader name (xs ++ x ∷ []) → AllStand c loader name xs × FrameStands c (asking loader (map frame_of xs)) (sought name xs) x
 stand_pop c loader name [] x all = (tt, all.0)
 stand_pop c loader name (y ∷ ys) x all = let r = stand_pop c y.draft.class.loader (name_of (wanted (frame_of y))) ys x all.1 in ((all.0, r.0), r.1)
 

@@ -17,7 +17,7 @@ use Rattle.cl_hierarchy.specs.declared.tour.Order.TheVariants as orders
 use Rattle.cl_hierarchy.specs.declared.tour.Task.{Task}
 use Rattle.cl_hierarchy.specs.declared.tour.Task.TheVariants as tasks
 use Rattle.cl_hierarchy.specs.Lineages.{IsRowIn}
-use Rattle.cl_hierarchy.specs.PlaceTours.{AreKnown, AreMarked, AreSkipped, AreSuperinterfacesAt, AreTold, GoesOn, IsDone, IsOpened, IsPlaced, IsPushed, IsTold, IsTour, Moves, Passes, Placed, Steps, classes_at, mark_at, marks_at, rows_at, toured_at}
+use Rattle.cl_hierarchy.specs.PlaceTours.{AreKnown, AreMarked, AreSkipped, AreSuperinterfacesAt, AreTold, TourGoesOn, IsToldAndLeft, IsOpened, TourIsPlaced, IsPushed, IsToldAt, IsTour, Moves, PassesAt, Placed, TourSteps, classes_at, mark_at, marks_at, rows_at, toured_at}
 use Rattle.cl_hierarchy.specs.Rows.{Rowed}
 use Rattle.cl_hierarchy.specs.Supers.{AreAllSupers, AreSupers, HasRow, IsRowAt, place_in, row_at}
 use Rattle.cl_hierarchy.specs.Tours.{Marked, Toured, first_row, interface_row, opened, over_from, passing, step, steps_left, stops, stops_left, telling, telling_all, told_at, upwards_of}
@@ -134,11 +134,11 @@ marked_more rows cs told p r ordered at h = λ q s e. elim (same_or p q) [
 
 -- one thing more is left to do
 record Pushes (rows : List Rowed) (left : List Class) (a : Placed) (m : Marked) (b : Placed) : Type 0 where
-  placed : IsPlaced rows left b
+  placed : TourIsPlaced rows left b
   told : b.told ≡ a.told
   marks : marks_at rows b.stack ≡ marks_at rows a.stack ++ m ∷ []
 
-pushes : (rows : List Rowed) (left : List Class) (a b : Placed) (p : ℕ) (k : Task) (r : Rowed) → slice_get rows p ≡ Some r → IsPlaced rows left a → IsPushed a p k b → Pushes rows left a (record { row = r; task = k }) b
+pushes : (rows : List Rowed) (left : List Class) (a b : Placed) (p : ℕ) (k : Task) (r : Rowed) → slice_get rows p ≡ Some r → TourIsPlaced rows left a → IsPushed a p k b → Pushes rows left a (record { row = r; task = k }) b
 pushes rows left a b p k r e h put = record {
   placed = record {
     told_in = subst (λ (ps : List ℕ). AllByRecursion (HasRow rows) ps) (sym put.told) h.told_in;
@@ -173,11 +173,11 @@ bit rows cs marks r p b at are h = has (slice_get marks p) (are p r at) h
 -- ---- a class is told
 
 -- it is not to be told
-pub told_not : (table : List Supers) (old : Placed) (p : ℕ) → IsTold table old p false old
+pub told_not : (table : List Supers) (old : Placed) (p : ℕ) → IsToldAt table old p false old
 told_not table old p = λ rows left r ordered are at placed. record { placed = placed; toured = refl }
 
 -- it was told before
-pub told_past : (table : List Supers) (old : Placed) (p : ℕ) (b : Bool) → IfSome (slice_get old.is_told p) (λ c. b ≡ c) → b ≡ true → IsTold table old p true old
+pub told_past : (table : List Supers) (old : Placed) (p : ℕ) (b : Bool) → IfSome (slice_get old.is_told p) (λ c. b ≡ c) → b ≡ true → IsToldAt table old p true old
 told_past table old p b h e = λ rows left r ordered are at placed.
     let t = toured_at rows left old in
     record {
@@ -189,7 +189,7 @@ told_past table old p b h e = λ rows left r ordered are at placed.
 
 -- it is told now
 now_told : (table : List Supers) (old new : Placed) (p : ℕ) (b : Bool) → IfSome (slice_get old.is_told p) (λ c. b ≡ c) → b ≡ false → new.told ≡ old.told ++ p ∷ [] → new.is_told ≡ set old.is_told p true → new.is_left ≡ old.is_left → new.stack ≡ old.stack
-    → IsTold table old p true new
+    → IsToldAt table old p true new
 now_told table old new p b h e told is_told is_left stack = λ rows left r ordered are at placed.
     let cs = classes_at rows old.told in
     let classes : classes_at rows new.told ≡ cs ++ r.class ∷ [] = ap (λ (ps : List ℕ). classes_at rows ps) told ∙ classes_push rows old.told p r at in
@@ -211,8 +211,8 @@ now_told table old new p b h e told is_told is_left stack = λ rows left r order
     }
 
 pub told_now : (table : List Supers) (old new : Placed) (p : ℕ) (wanted b : Bool) → wanted ≡ true → IfSome (slice_get old.is_told p) (λ c. b ≡ c) → b ≡ false → new.told ≡ old.told ++ p ∷ [] → new.is_told ≡ set old.is_told p true → new.is_left ≡ old.is_left
-    → new.stack ≡ old.stack → IsTold table old p wanted new
-told_now table old new p wanted b on h e told is_told is_left stack = subst (λ (w : Bool). IsTold table old p w new) (sym on) (now_told table old new p b h e told is_told is_left stack)
+    → new.stack ≡ old.stack → IsToldAt table old p wanted new
+told_now table old new p wanted b on h e told is_told is_left stack = subst (λ (w : Bool). IsToldAt table old p w new) (sym on) (now_told table old new p b h e told is_told is_left stack)
 
 -- ---- what stands above a class is to be come to
 
@@ -263,14 +263,14 @@ opened_under table old a c new p up o one two_ last up_is some = λ rows left r 
 -- ---- steps
 
 -- a class is come to that was left before
-pub came_past : (table : List Supers) (old mid : Placed) (p : ℕ) (wanted b : Bool) → IsTold table old p wanted mid → IfSome (slice_get mid.is_left p) (λ c. b ≡ c) → b ≡ true → Steps table old p (tasks.Come wanted) mid
+pub came_past : (table : List Supers) (old mid : Placed) (p : ℕ) (wanted b : Bool) → IsToldAt table old p wanted mid → IfSome (slice_get mid.is_left p) (λ c. b ≡ c) → b ≡ true → TourSteps table old p (tasks.Come wanted) mid
 came_past table old mid p wanted b told h e = λ rows left r ordered are at placed.
     let u = telling wanted (toured_at rows left old) r in
     let first = told rows left r ordered are at placed in
     subst (λ (c : Bool). IsTour rows (record u { stack = if c then u.stack else u.stack ++ opened orders.Superinterfaces rows r }) mid) (sym e ∙ bit rows u.left mid.is_left r p b at first.placed.is_left_is h) first
 
 -- and one that was not
-pub came_on : (table : List Supers) (old mid new : Placed) (p : ℕ) (wanted b : Bool) → IsTold table old p wanted mid → IfSome (slice_get mid.is_left p) (λ c. b ≡ c) → b ≡ false → IsOpened table mid p new → Steps table old p (tasks.Come wanted) new
+pub came_on : (table : List Supers) (old mid new : Placed) (p : ℕ) (wanted b : Bool) → IsToldAt table old p wanted mid → IfSome (slice_get mid.is_left p) (λ c. b ≡ c) → b ≡ false → IsOpened table mid p new → TourSteps table old p (tasks.Come wanted) new
 came_on table old mid new p wanted b told h e opens = λ rows left r ordered are at placed.
     let u = telling wanted (toured_at rows left old) r in
     let first = told rows left r ordered are at placed in
@@ -279,7 +279,7 @@ came_on table old mid new p wanted b told h e opens = λ rows left r ordered are
     (subst (λ (x : Toured). IsTour rows (record x { stack = x.stack ++ opened orders.Superinterfaces rows r }) new) first.toured second)
 
 -- no superinterface is left
-pub went_past : (table : List Supers) (old : Placed) (p at : ℕ) (o : Option ℕ) → ((s : Supers) → slice_get table p ≡ Some s → o ≡ place_in s.over.items at) → o ≡ None → Steps table old p (tasks.Over at) old
+pub went_past : (table : List Supers) (old : Placed) (p at : ℕ) (o : Option ℕ) → ((s : Supers) → slice_get table p ≡ Some s → o ≡ place_in s.over.items at) → o ≡ None → TourSteps table old p (tasks.Over at) old
 went_past table old p at o over_is none = λ rows left r ordered are here placed.
     let s = supers_at rows rows table p r are here in
     let gone : interface_row rows r at ≡ None = sym (s.2.over at).row_is ∙ ap (λ (x : Option ℕ). row_at rows x) (sym (over_is s.0 s.1) ∙ none) in
@@ -293,7 +293,7 @@ went_past table old p at o over_is none = λ rows left r ordered are here placed
 
 -- one is
 pub went_over : (table : List Supers) (old a new : Placed) (p at next above : ℕ) (o : Option ℕ) → ((s : Supers) → slice_get table p ≡ Some s → o ≡ place_in s.over.items at) → o ≡ Some above → next ≡ at + 1
-    → IsPushed old p (tasks.Over next) a → IsPushed a above (tasks.Come true) new → Steps table old p (tasks.Over at) new
+    → IsPushed old p (tasks.Over next) a → IsPushed a above (tasks.Come true) new → TourSteps table old p (tasks.Over at) new
 went_over table old a new p at next above o over_is some after one two_ = λ rows left r ordered are here placed.
     let s = supers_at rows rows table p r are here in
     let x = row_above rows (interface_row rows r at) (place_in s.0.over.items at) above (s.2.over at) (sym (over_is s.0 s.1) ∙ some) in
@@ -321,11 +321,11 @@ over_read (o ∷ over) zero = refl
 over_read (o ∷ over) (suc k) = over_read over k
 
 -- one more is
-pub more_skipped : (over : List (Option ℕ)) (told left : List Bool) (from to next : ℕ) → next ≡ to + 1 → AreSkipped over told left from to → IsDone told left (place_in over to) → AreSkipped over told left from next
+pub more_skipped : (over : List (Option ℕ)) (told left : List Bool) (from to next : ℕ) → next ≡ to + 1 → AreSkipped over told left from to → IsToldAndLeft told left (place_in over to) → AreSkipped over told left from next
 more_skipped over told left from to next is h done = record {
   onwards = let le = h.onwards in omega (arith, is, le);
   each = λ k ge lt. elim (same_or k to) [
-    | inl e ↦ subst (λ (n : ℕ). IsDone told left (place_in over n)) (sym e) done
+    | inl e ↦ subst (λ (n : ℕ). IsToldAndLeft told left (place_in over n)) (sym e) done
     | inr other ↦ h.each k ge (less k (omega (arith, is, lt)) other)
   ];
 }
@@ -344,13 +344,13 @@ skipped_by table p over t from to told left is_told is_left over_is h = λ s e.
     (subst (λ (bs : List Bool). AreSkipped over bs t.is_left from to) is_told (subst (λ (bs : List Bool). AreSkipped over told bs from to) is_left h))
 
 -- a class is left that was left before
-pub left_past : (table : List Supers) (old : Placed) (p : ℕ) (b : Bool) → IfSome (slice_get old.is_left p) (λ c. b ≡ c) → b ≡ true → Steps table old p tasks.Leave old
+pub left_past : (table : List Supers) (old : Placed) (p : ℕ) (b : Bool) → IfSome (slice_get old.is_left p) (λ c. b ≡ c) → b ≡ true → TourSteps table old p tasks.Leave old
 left_past table old p b h e = λ rows left r ordered are at placed.
     let t = toured_at rows left old in
     subst (λ (c : Bool). IsTour rows (record t { left = if c then left else left ++ r.class ∷ [] }) old) (sym e ∙ bit rows left old.is_left r p b at placed.is_left_is h) (record { placed = placed; toured = refl })
 
 -- and one that was not
-pub left_now : (table : List Supers) (old new : Placed) (p : ℕ) (b : Bool) → IfSome (slice_get old.is_left p) (λ c. b ≡ c) → b ≡ false → new.told ≡ old.told → new.is_told ≡ old.is_told → new.is_left ≡ set old.is_left p true → new.stack ≡ old.stack → Steps table old p tasks.Leave new
+pub left_now : (table : List Supers) (old new : Placed) (p : ℕ) (b : Bool) → IfSome (slice_get old.is_left p) (λ c. b ≡ c) → b ≡ false → new.told ≡ old.told → new.is_told ≡ old.is_told → new.is_left ≡ set old.is_left p true → new.stack ≡ old.stack → TourSteps table old p tasks.Leave new
 left_now table old new p b h e told is_told is_left stack = λ rows left r ordered are at placed.
     let t = toured_at rows left old in
     let more : List Class = left ++ r.class ∷ [] in
@@ -377,14 +377,14 @@ pub none_told : (table : List Supers) (old : Placed) → AreTold table old [] ol
 none_told table old = λ rows left ordered are within placed. record { placed = placed; toured = refl }
 
 -- one place more
-pub told_more : (table : List Supers) (old mid new : Placed) (places : List ℕ) (p : ℕ) → AreTold table old places mid → IsTold table mid p true new → AreTold table old (places ++ p ∷ []) new
+pub told_more : (table : List Supers) (old mid new : Placed) (places : List ℕ) (p : ℕ) → AreTold table old places mid → IsToldAt table mid p true new → AreTold table old (places ++ p ∷ []) new
 told_more table old mid new places p first last = λ rows left ordered are within placed.
     let parts = all_pop (HasRow rows) places p within in
     let row : Rowed = parts.1.0 in
     let so_far : Toured = telling_all (toured_at rows left old) (rows_at rows places) in
     let one : IsTour rows so_far mid = first rows left ordered are parts.0 placed in
     let same : so_far.left ≡ left = telling_all_left (toured_at rows left old) (rows_at rows places) in
-    let here : IsPlaced rows left mid = subst (λ (cs : List Class). IsPlaced rows cs mid) same one.placed in
+    let here : TourIsPlaced rows left mid = subst (λ (cs : List Class). TourIsPlaced rows cs mid) same one.placed in
     let two_ : IsTour rows (telling true (toured_at rows left mid) row) new = last rows left row ordered are parts.1.1 here in
     let is : toured_at rows left mid ≡ so_far = ap (λ (cs : List Class). toured_at rows cs mid) (sym same) ∙ one.toured in
     let all : telling true (toured_at rows left mid) row ≡ telling_all (toured_at rows left old) (rows_at rows (places ++ p ∷ [])) =
@@ -392,7 +392,7 @@ told_more table old mid new places p first last = λ rows left ordered are withi
     ∙ ap (λ (rs : List Rowed). telling_all (toured_at rows left old) rs) (sym (rows_push rows places p row parts.1.1)) in
     subst (λ (x : Toured). IsTour rows x new) all two_
 
-pub told_next : (table : List Supers) (old mid new : Placed) (places : List ℕ) (i : ℕ) → i < length places → AreTold table old (take i places) mid → IsTold table mid (get_or places i 0) true new → AreTold table old (take (i + 1) places) new
+pub told_next : (table : List Supers) (old mid new : Placed) (places : List ℕ) (i : ℕ) → i < length places → AreTold table old (take i places) mid → IsToldAt table mid (get_or places i 0) true new → AreTold table old (take (i + 1) places) new
 told_next table old mid new places i lt first last =
     subst (λ (ps : List ℕ). AreTold table old ps new) (sym (take_more places i 0 lt)) (told_more table old mid new (take i places) (get_or places i 0) first last)
 
@@ -402,7 +402,7 @@ took_all [] (suc i) h = refl
 took_all (p ∷ places) zero h = absurd (omega (arith, h))
 took_all (p ∷ places) (suc i) h = ap (λ (ps : List ℕ). p ∷ ps) (took_all places i (omega (arith, h)))
 
-pub passes_by : (table : List Supers) (old first mid new : Placed) (p : ℕ) (wanted : Bool) (over : List ℕ) → IsTold table old p wanted first → AreTold table first over mid → Steps table mid p tasks.Leave new → Passes table old p wanted over new
+pub passes_by : (table : List Supers) (old first mid new : Placed) (p : ℕ) (wanted : Bool) (over : List ℕ) → IsToldAt table old p wanted first → AreTold table first over mid → TourSteps table mid p tasks.Leave new → PassesAt table old p wanted over new
 passes_by table old first mid new p wanted over one two_ three = λ rows left r ordered are within at placed.
     let start : Toured = telling wanted (toured_at rows left old) r in
     let a : IsTour rows start first = one rows left r ordered are at placed in
@@ -430,7 +430,7 @@ goal rows start = once (told_at orders.Superinterfaces (stops orders.Superinterf
 -- what holds between two steps
 pub record IsTouring (rows : List Rowed) (start : Rowed) (t : Placed) : Type 0 where
   pub left : List Class
-  pub placed : IsPlaced rows left t
+  pub placed : TourIsPlaced rows left t
   pub stage : IsStage orders.Superinterfaces rows (goal rows start) (toured_at rows left t)
 
 -- none was told
@@ -438,7 +438,7 @@ pub touring : (rows : List Rowed) (p : ℕ) (r : Rowed) (t new : Placed) (told l
     → ((place : ℕ) → place < length rows → slice_get told place ≡ Some false) → ((place : ℕ) → place < length rows → slice_get left place ≡ Some false) → t.stack ≡ []
     → IsPushed t p (tasks.Come false) new → IsTouring rows r new
 touring rows p r t new told left ordered at none bits marks each all empty put =
-    let placed : IsPlaced rows [] t = record {
+    let placed : TourIsPlaced rows [] t = record {
       told_in = subst (λ (ps : List ℕ). AllByRecursion (HasRow rows) ps) (sym none) tt;
       stack_in = subst (λ (ss : List Spot). AllByRecursion (λ (s : Spot). HasRow rows s.place) ss) (sym empty) tt;
       is_told_is =
@@ -484,7 +484,7 @@ module _ (rows : List Rowed) (table : List Supers) (start : Rowed) (t rest new :
   abbrev row : Rowed
   row = spots.1.0
 
-  rest_placed : IsPlaced rows h.left rest
+  rest_placed : TourIsPlaced rows h.left rest
   rest_placed = record {
     told_in = subst (λ (ps : List ℕ). AllByRecursion (HasRow rows) ps) (sym told) h.placed.told_in;
     stack_in = spots.0;
@@ -513,7 +513,7 @@ module _ (rows : List Rowed) (table : List Supers) (start : Rowed) (t rest new :
   IsNearer = IsTouring rows start new × (steps_left (kins rows) (marks_at rows new.stack) < steps_left (kins rows) (marks_at rows t.stack))
 
   -- one step, of this task
-  module _ (task : Task) (ms : List Marked) (marks_are : ms ≡ old.stack ++ record { row = row; task = task } ∷ []) (stage : IsStage orders.Superinterfaces rows (goal rows start) (record old { stack = ms })) (steps : Steps table rest next.place task new) where
+  module _ (task : Task) (ms : List Marked) (marks_are : ms ≡ old.stack ++ record { row = row; task = task } ∷ []) (stage : IsStage orders.Superinterfaces rows (goal rows start) (record old { stack = ms })) (steps : TourSteps table rest next.place task new) where
     abbrev reached : Toured
     reached = step orders.Superinterfaces rows old row task
 
@@ -538,7 +538,7 @@ module _ (rows : List Rowed) (table : List Supers) (start : Rowed) (t rest new :
   here = row_in rows next.place row ordered spots.1.1
 
   -- superinterfaces are skipped
-  module _ (at to : ℕ) (task_is : next.task ≡ tasks.Over at) (skipped : (s : Supers) → slice_get table next.place ≡ Some s → AreSkipped s.over.items rest.is_told rest.is_left at to) (steps : Steps table rest next.place (tasks.Over to) new) where
+  module _ (at to : ℕ) (task_is : next.task ≡ tasks.Over at) (skipped : (s : Supers) → slice_get table next.place ≡ Some s → AreSkipped s.over.items rest.is_told rest.is_left at to) (steps : TourSteps table rest next.place (tasks.Over to) new) where
     supers : (s : Supers) × (slice_get table next.place ≡ Some s) × AreSupers rows row s
     supers = supers_at rows rows table next.place row are spots.1.1
 
@@ -582,16 +582,16 @@ module _ (rows : List Rowed) (table : List Supers) (start : Rowed) (t rest new :
         let other = steps_both (kins rows) old.stack (record { row = row; task = tasks.Over to } ∷ []) in
         omega arith
 
-  stepped : (task : Task) → next.task ≡ task → Steps table rest next.place task new → IsNearer
+  stepped : (task : Task) → next.task ≡ task → TourSteps table rest next.place task new → IsNearer
   stepped task is steps = (stepped_on task (marks_at rows t.stack) (marks_of task is) before steps, stepped_less task (marks_at rows t.stack) (marks_of task is) before steps)
 
-  gone_on : (task : Task) → next.task ≡ task → GoesOn table rest next.place task new → IsNearer
+  gone_on : (task : Task) → next.task ≡ task → TourGoesOn table rest next.place task new → IsNearer
   gone_on (tasks.Come wanted) is steps = stepped (tasks.Come wanted) is steps
   gone_on (tasks.Over at) is (to, skipped, steps) = (over_on at to is skipped steps, over_less at to is skipped steps)
   gone_on tasks.Leave is steps = stepped tasks.Leave is steps
 
   -- a class is passed
-  module _ (wanted : Bool) (over : List ℕ) (task_is : next.task ≡ tasks.Come wanted) (known : AreSuperinterfacesAt rows row over) (passes : Passes table rest next.place wanted over new) where
+  module _ (wanted : Bool) (over : List ℕ) (task_is : next.task ≡ tasks.Come wanted) (known : AreSuperinterfacesAt rows row over) (passes : PassesAt table rest next.place wanted over new) where
     abbrev gone : Toured
     gone = passing orders.Superinterfaces rows old row wanted (rows_at rows over)
 

@@ -9,8 +9,8 @@ use Rattle.cl_model.specs.Content.{Content, content_at}
 use Rattle.cl_model.specs.Homes.{World, home}
 use Rattle.cl_model.specs.Classes.{class, is_among, Error, NoClassDef, is_own, named, read_found, HasFile, IsAtHome, Role, Above, supers}
 use Rattle.cl_model.specs.Classes as classes
-use Rattle.cl_model.specs.Frames.{Accepts, IsFrame, Judged}
-use Rattle.cl_model.specs.Worlds.{seen}
+use Rattle.cl_model.specs.Frames.{AcceptsFirst, IsFrame, Judged}
+use Rattle.cl_model.specs.Worlds.{seen_file}
 use Rattle.cl_model.proofs.Homes.{home_of_home}
 use Rattle.cl_config.specs.Views.{Configured}
 use Rattle.cl_delegation.specs.Worlds.{world_of}
@@ -33,7 +33,7 @@ named_so c f e = ap (λ (b : Bool). if b then Ok f else Err (NoClassDef c)) (ap 
 -- a class that is at home has the file that its bytes spell
 pub spelt_file : (c : Configured) (content : Content) (t : Class) (f : Structure) → IsAtHome (world_of c content) t → IsSpelt (Some content) t f → HasFile (world_of c content) t (file_of f)
 spelt_file c content t f at spelt =
-    file_found (world_of c content) t spelt.bytes at spelt.told_so ∙ ap (λ r. named t (seen r)) (grammar_read spelt.bytes f spelt.spells) ∙ named_so t (file_of f) spelt.named
+    file_found (world_of c content) t spelt.bytes at spelt.told_so ∙ ap (λ r. named t (seen_file r)) (grammar_read spelt.bytes f spelt.spells) ∙ named_so t (file_of f) spelt.named
 
 -- and is judged by it
 pub spelt_judged : (c : Configured) (content : Content) (one t : Class) (role : Role) (wrong : Option Error) (f : Structure) → IsSpelt (Some content) t f → classes.misfit one role t (file_of f) ≡ wrong
@@ -57,5 +57,5 @@ fresh_frame c content path d asked draft config at new =
       found = found;
       has_file = spelt_file c content d.class d.file (home_of_home w asked d.class.loader d.class.name found) draft.spelt;
       new = new;
-      fits = subst (λ (ts : List Class). Accepts w d.class ts (supers (file_of d.file))) (sym (none_yet (supers (file_of d.file)))) tt;
+      fits = subst (λ (ts : List Class). AcceptsFirst w d.class ts (supers (file_of d.file))) (sym (none_yet (supers (file_of d.file)))) tt;
     }

@@ -9,7 +9,7 @@ use Rattle.cl_model.specs.declared.class.Class.{Class}
 use Rattle.cl_model.specs.Content.{Content}
 use Rattle.cl_model.specs.Homes.{World}
 use Rattle.cl_model.specs.Classes.{class, Above, AsSuperclass, AsSuperinterface, misfit, superinterfaces_of, supers}
-use Rattle.cl_model.specs.Frames.{wanted, Accepts, IsFrames, Judged}
+use Rattle.cl_model.specs.Frames.{wanted, AcceptsFirst, IsFrames, Judged}
 use Rattle.cl_model.proofs.Stacks.{frame_pop}
 use Rattle.cl_config.specs.Views.{Configured}
 use Rattle.cl_delegation.specs.Worlds.{world_of}
@@ -39,7 +39,7 @@ fits_last told p t f spelt named fits = λ before x e.
 
 -- ---- one that was accepted before
 
-judged_at : (w : World) (c : Class) (others : List Above) (places : List ℕ) (i place : ℕ) (a : Above) → Accepts w c (accepted_of others places) others → slice_get places i ≡ Some place → slice_get others i ≡ Some a
+judged_at : (w : World) (c : Class) (others : List Above) (places : List ℕ) (i place : ℕ) (a : Above) → AcceptsFirst w c (accepted_of others places) others → slice_get places i ≡ Some place → slice_get others i ≡ Some a
     → Judged w c a.role None (class a.name place)
 judged_at w c [] places i place a all p o = absurd cc
 judged_at w c (b ∷ others) [] i place a all p o = absurd cc

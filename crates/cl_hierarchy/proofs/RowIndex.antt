@@ -8,16 +8,16 @@ use Rattle.cl_classfile.specs.Files.{Name}
 use Rattle.cl_model.specs.Classes.{class, same_class}
 use Rattle.cl_hierarchy.specs.Rows.{Rowed}
 use Rattle.cl_hierarchy.specs.Lineages.{row_of}
-use Rattle.cl_hierarchy.specs.RowIndex.{IsIndexOf}
+use Rattle.cl_hierarchy.specs.RowIndex.{IsRowIndexOf}
 
 -- the table has the rows behind the rest
 pub record Indexes {A : Type 0} (row : A → Rowed) (entries : List (Class × A)) (above : List Rowed) (own : Rowed) (rest : List Rowed) : Type 0 where
   pub later : List Rowed
   pub split : above ++ own ∷ [] ≡ rest ++ later
-  pub has : IsIndexOf row entries later
+  pub has : IsRowIndexOf row entries later
 
 -- what a look-up gives
-pub found_in : {A : Type 0} (row : A → Rowed) (entries : List (Class × A)) (inside rows : List Rowed) (n m : Name) (loader : ℕ) (found : Option (Bor A)) → IsIndexOf row entries inside → inside ≡ rows → n ≡ m
+pub found_in : {A : Type 0} (row : A → Rowed) (entries : List (Class × A)) (inside rows : List Rowed) (n m : Name) (loader : ℕ) (found : Option (Bor A)) → IsRowIndexOf row entries inside → inside ≡ rows → n ≡ m
     → option_copied found ≡ lookup (same_class (class n loader)) entries → option_map (λ r. row r.now) found ≡ row_of rows (class m loader)
 found_in {A} row entries inside rows n m loader found h same named e =
     copied found
@@ -30,10 +30,10 @@ found_in {A} row entries inside rows n m loader found h same named e =
     copied None = refl
     copied (Some x) = refl
 
-pub index_first : {A : Type 0} (row : A → Rowed) (entries : List (Class × A)) → entries ≡ [] → IsIndexOf row entries []
+pub index_first : {A : Type 0} (row : A → Rowed) (entries : List (Class × A)) → entries ≡ [] → IsRowIndexOf row entries []
 index_first {A} row entries e = λ c. ap (λ (es : List (Class × A)). option_map row (lookup (same_class c) es)) e
 
-pub index_next : {A : Type 0} (row : A → Rowed) (old new : List (Class × A)) (above : List Rowed) (own : Rowed) (rest earlier : List A) (x : A) → rest ≡ earlier ++ x ∷ [] → ((rows : List Rowed) → IsIndexOf row old rows → IsIndexOf row new (row x ∷ rows))
+pub index_next : {A : Type 0} (row : A → Rowed) (old new : List (Class × A)) (above : List Rowed) (own : Rowed) (rest earlier : List A) (x : A) → rest ≡ earlier ++ x ∷ [] → ((rows : List Rowed) → IsRowIndexOf row old rows → IsRowIndexOf row new (row x ∷ rows))
     → Indexes row old above own (map row rest) → Indexes row new above own (map row earlier)
 index_next {A} row old new above own rest earlier x e put h = record {
   later = row x ∷ h.later;

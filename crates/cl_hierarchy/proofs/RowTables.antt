@@ -10,7 +10,7 @@ use Rattle.cl_config.specs.Views.{Configured}
 use Rattle.cl_delegation.specs.Worlds.{world_of}
 use Rattle.cl_hierarchy.specs.Frames.{accepted_of}
 use Rattle.cl_hierarchy.specs.Rows.{Rowed}
-use Rattle.cl_hierarchy.specs.Trees.{AllKnown, IsAfter, SupersBefore, forest, in_front, kin_named, kin_under, kins, kins_after}
+use Rattle.cl_hierarchy.specs.Trees.{AllKnown, MayComeAfter, SupersBefore, forest, in_front, kin_named, kin_under, kins, kins_after}
 use Rattle.cl_hierarchy.specs.RowTables.{AreRows, AreRowsAfter, IsRowAfter, StandAbove, StandsAbove}
 use Rattle.cl_hierarchy.proofs.Ancestry.{kins_push, no_row, row_kin}
 use Rattle.std.proofs.lemmas.Option.{same_Some}
@@ -46,7 +46,7 @@ module _ (told : Option Content) (config : Configured) (earlier : List Rowed) (o
   known_split (a ∷ xs) ys [] h = absurd h
   known_split (a ∷ xs) ys (place ∷ places) h = let parts = known_split xs ys places h.1 in ((known_at a place h.0, parts.0), parts.1)
 
-stands_after : (told : Option Content) (config : Configured) (earlier : List Rowed) (r : Rowed) → SupersBefore [] earlier → IsRowAfter told config earlier r → IsAfter (kins earlier) r
+stands_after : (told : Option Content) (config : Configured) (earlier : List Rowed) (r : Rowed) → SupersBefore [] earlier → IsRowAfter told config earlier r → MayComeAfter (kins earlier) r
 stands_after told config earlier r ordered h =
     let f = file_of r.file in
     let parts = known_split told config earlier ordered r.class (superclass_of f) (superinterfaces_of f) r.places h.above in
@@ -56,7 +56,7 @@ stands_after told config earlier r ordered h =
       interfaces = known_all told config earlier ordered r.class (superinterfaces_of f) (drop (length (superclass_of f)) r.places) parts.1;
     }
 
-pub before_push : (known : List Kin) (rows : List Rowed) (r : Rowed) → SupersBefore known rows → IsAfter (kins_after known rows) r → SupersBefore known (rows ++ r ∷ [])
+pub before_push : (known : List Kin) (rows : List Rowed) (r : Rowed) → SupersBefore known rows → MayComeAfter (kins_after known rows) r → SupersBefore known (rows ++ r ∷ [])
 before_push known [] r h a = (a, tt)
 before_push known (x ∷ rows) r h a = (h.0, before_push (kin_under known x ∷ known) rows r h.1 a)
 

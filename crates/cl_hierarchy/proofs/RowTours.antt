@@ -15,7 +15,7 @@ use Rattle.cl_hierarchy.specs.Lineages.{IsRowIn, row_of}
 use Rattle.cl_hierarchy.specs.NamedBefore.{AreNamedBefore, IsNamedBefore}
 use Rattle.cl_hierarchy.specs.Rows.{Rowed}
 use Rattle.cl_hierarchy.specs.Trees.{SupersBefore, forest, in_front, interfaces_in, kin_named, kin_under, kins, superclass_in}
-use Rattle.cl_hierarchy.specs.Tours.{Comes, Leaves, Marked, Stop, TakesStep, Toured, first_row, inner, interface_row, marked, marks, opened, over_from, size, step, steps_left, steps_of, stops, stops_left, stops_of, telling, tells, tells_after, tells_before, told_at, up_first, upwards_of, with_class}
+use Rattle.cl_hierarchy.specs.Tours.{Comes, Leaves, Marked, Stop, TakesStep, Toured, first_row, inner, interface_row, marked, marks, opened, over_from, size, step, steps_left, steps_to_go, stops, stops_left, stops_of, telling, tells, tells_after, tells_before, told_at, up_first, upwards_of, with_class}
 use Rattle.cl_hierarchy.proofs.Ancestry.{row_kin}
 use Rattle.cl_hierarchy.proofs.Skipped.{onwards}
 use Rattle.cl_hierarchy.proofs.Stages.{AreRowsOf, IsRowOf, IsStage, IsTold, first_stage, kin_is, left_both, one_more, opened_stops, over_here, over_stops, preserved_by, rows_before, smaller_by, steps_both, stops_front, telling_stack, told_before}
@@ -165,10 +165,10 @@ module _ (rows : List Rowed) (o : Order) (goal : List Kin) (t : Toured) (r : Row
     pub told : AreTold rows o t.seen (interfaces_in r) at
     pub goes : IsTold o rows goal t (stops_of o (kins rows) r (tasks.Over at) ++ rest)
     pub within : Within (told_for rows o (over_at from ∷ []) ++ t.seen) (told_for rows o (over_at at ∷ []) ++ t.seen)
-    pub steps : steps_of (kins rows) r (tasks.Over at) ≤ steps_of (kins rows) r (tasks.Over from)
+    pub steps : steps_to_go (kins rows) r (tasks.Over at) ≤ steps_to_go (kins rows) r (tasks.Over from)
 
   pass_by : (k : ℕ) (xs : List Stop) → from_on rows o t.seen r k ≡ xs ++ from_on rows o t.seen r (k + 1) → Within (classes (told_at o xs)) t.seen → AreTold rows o t.seen (interfaces_in r) (k + 1)
-      → steps_of (kins rows) r (tasks.Over (k + 1)) ≤ steps_of (kins rows) r (tasks.Over k) → MayGoOn k → MayGoOn (k + 1)
+      → steps_to_go (kins rows) r (tasks.Over (k + 1)) ≤ steps_to_go (kins rows) r (tasks.Over k) → MayGoOn k → MayGoOn (k + 1)
   pass_by k xs is w told less h =
       let ys : List Stop = from_on rows o t.seen r (k + 1) in
       let a = classes (told_at o xs) in
@@ -197,9 +197,9 @@ module _ (rows : List Rowed) (o : Order) (goal : List Kin) (t : Toured) (r : Row
       next : suc k ≡ k + 1
       next = omega arith
 
-      less : steps_of (kins rows) r (tasks.Over (k + 1)) ≤ steps_of (kins rows) r (tasks.Over k)
+      less : steps_to_go (kins rows) r (tasks.Over (k + 1)) ≤ steps_to_go (kins rows) r (tasks.Over k)
       less =
-          subst (λ (n : ℕ). steps_of (kins rows) r (tasks.Over n) ≤ steps_of (kins rows) r (tasks.Over k)) next
+          subst (λ (n : ℕ). steps_to_go (kins rows) r (tasks.Over n) ≤ steps_to_go (kins rows) r (tasks.Over k)) next
           (let fewer_ = fewer rows o t.seen r k (slice_get (interfaces_in r) k) refl in omega (arith, fewer_))
 
       told : AreTold rows o t.seen (interfaces_in r) (k + 1)
@@ -336,7 +336,7 @@ module _ (rows : List Rowed) (ordered : SupersBefore [] rows) (o : Order) (goal 
   ready_now = subst (λ (ms : List Marked). AllReady rows o seen ms) popped h.ready
 
   -- one step, of this task in place of the last
-  nearer : (task : Task) (new : Toured) → IsStage o rows goal (record before { stack = with task }) → AllReady rows o seen (with task) → steps_of (kins rows) next.row task ≤ steps_of (kins rows) next.row next.task → new ≡ step o rows before next.row task → IsNearer new
+  nearer : (task : Task) (new : Toured) → IsStage o rows goal (record before { stack = with task }) → AllReady rows o seen (with task) → steps_to_go (kins rows) next.row task ≤ steps_to_go (kins rows) next.row next.task → new ≡ step o rows before next.row task → IsNearer new
   nearer task new stage ready less e =
       let m : Marked = record { row = next.row; task = task } in
       let fewer_ = smaller_by rows ordered o goal told seen left (with task) rest m refl new stage e in
@@ -368,7 +368,7 @@ module _ (rows : List Rowed) (ordered : SupersBefore [] rows) (o : Order) (goal 
       let on = passed at to is all in
       let m : Marked = record { row = next.row; task = tasks.Over to } in
       let less = on.steps in
-      let most = ap (λ (task : Task). steps_of (kins rows) next.row task) is in
+      let most = ap (λ (task : Task). steps_to_go (kins rows) next.row task) is in
       nearer (tasks.Over to) new (one_more rows o goal before m is_row on.goes (rows_before rows ordered o goal told seen left stack rest next popped h.stage))
       (ready_swap rows o rest (next ∷ []) (m ∷ []) seen seen
       (subst (λ (task : Task). Within (told_for rows o (record { row = next.row; task = task } ∷ []) ++ seen) (told_for rows o (m ∷ []) ++ seen)) (sym is) on.within)

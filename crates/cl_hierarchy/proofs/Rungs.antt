@@ -8,7 +8,7 @@ use Rattle.cl_model.specs.Lineages.{Kin, superclasses}
 use Rattle.cl_config.specs.Views.{Configured}
 use Rattle.cl_hierarchy.specs.Above.{AreOvers}
 use Rattle.cl_hierarchy.specs.Fronts.{Climb, IsFront, IsOnStem}
-use Rattle.cl_hierarchy.specs.Ladders.{AreOthers, HasRung, IsCut, IsEarlier, IsLadder, IsMadeOf, IsOnLadder, IsRungAt, Laddered}
+use Rattle.cl_hierarchy.specs.Ladders.{AreOthers, HasRung, IsCut, IsEarlier, IsLadder, LadderIsMadeOf, IsOnLadder, IsRungAt, Laddered}
 use Rattle.cl_hierarchy.specs.Lineages.{IsLined, IsRowIn, Lined, kin_at, kin_of, others_of, rows_in}
 use Rattle.cl_hierarchy.specs.Places.{IsPlace}
 use Rattle.cl_hierarchy.specs.Rows.{Rowed}
@@ -227,7 +227,7 @@ rung_found marks place None b is meant h = absurd (not_none b is meant)
 rung_found marks place (Some g) b is meant h = (g, h)
 
 -- made of the rows of a lineage, it stands on the last rung
-pub made_on : (told : Option Content) (config : Configured) (above : List Rowed) (own : Rowed) (x : Laddered) (n : ℕ) → IsMadeOf config above own x → n ≡ length above → IsLined told (record { config = config; above = above; own = own })
+pub made_on : (told : Option Content) (config : Configured) (above : List Rowed) (own : Rowed) (x : Laddered) (n : ℕ) → LadderIsMadeOf config above own x → n ≡ length above → IsLined told (record { config = config; above = above; own = own })
     → IsOnLadder told x n own
 made_on told config above own x n m is h =
     subst (λ (k : ℕ). IsOnLadder told x k own) (sym is) (record {
@@ -243,7 +243,7 @@ made_on told config above own x n m is h =
     up_to : x.rows ≡ above ++ own ∷ [] → take (length above) x.rows ≡ above
     up_to e = ap (λ (rs : List Rowed). take (length above) rs) e ∙ take_length above (own ∷ [])
 
-pub made_is : (config : Configured) (above : List Rowed) (own : Rowed) (x : Laddered) (n : ℕ) → IsMadeOf config above own x → n ≡ length above
+pub made_is : (config : Configured) (above : List Rowed) (own : Rowed) (x : Laddered) (n : ℕ) → LadderIsMadeOf config above own x → n ≡ length above
     → record { config = x.config; above = take n x.rows; own = own } ≡ (let l : Lined = record { config = config; above = above; own = own } in l)
 made_is config above own x n m is =
     ap (λ (c : Configured). let l : Lined = record { config = c; above = take n x.rows; own = own } in l) m.config_is

@@ -9,7 +9,7 @@ use Rattle.cl_hierarchy.specs.declared.tour.Order.TheVariants as orders
 use Rattle.cl_hierarchy.specs.declared.tour.Task.TheVariants as tasks
 use Rattle.cl_hierarchy.specs.Lineages.{IsRowIn}
 use Rattle.cl_hierarchy.specs.Rows.{Rowed}
-use Rattle.cl_hierarchy.specs.Tours.{Leaves, Stop, Toured, inner, interface_row, steps_of, stops, stops_of, told_at}
+use Rattle.cl_hierarchy.specs.Tours.{Leaves, Stop, Toured, inner, interface_row, steps_to_go, stops, stops_of, told_at}
 use Rattle.cl_hierarchy.specs.Trees.{SupersBefore, interfaces_in, kin_under, kins}
 use Rattle.cl_hierarchy.proofs.Ancestry.{row_kin}
 use Rattle.cl_hierarchy.proofs.Stages.{IsOver, IsTold, kin_is, over_here, over_steps, over_stops}
@@ -54,14 +54,14 @@ module _ (rows : List Rowed) (ordered : SupersBefore [] rows) (goal : List Kin) 
         told_are = told.told_are;
       }
 
-  skipped_steps : (at : ℕ) → IsSkipped rows t r at → steps_of (kins rows) r (tasks.Over (at + 1)) ≤ steps_of (kins rows) r (tasks.Over at)
+  skipped_steps : (at : ℕ) → IsSkipped rows t r at → steps_to_go (kins rows) r (tasks.Over (at + 1)) ≤ steps_to_go (kins rows) r (tasks.Over at)
   skipped_steps at h = let less = over_steps rows orders.Superinterfaces r at (Some h.row) (over at h) in omega arith
 
   -- several
   pub skipped_on : (rest : List Stop) (from to : ℕ) → from ≤ to → ((k : ℕ) → from ≤ k → k < to → IsSkipped rows t r k) → Goes rest from → Goes rest to
   skipped_on rest from to le each told = onwards (Goes rest) (to - from) from to (omega (arith, le)) (λ k ge lt h. skipped_stops rest k (each k ge lt) h) told
 
-  pub skipped_less : (from to : ℕ) → from ≤ to → ((k : ℕ) → from ≤ k → k < to → IsSkipped rows t r k) → steps_of (kins rows) r (tasks.Over to) ≤ steps_of (kins rows) r (tasks.Over from)
+  pub skipped_less : (from to : ℕ) → from ≤ to → ((k : ℕ) → from ≤ k → k < to → IsSkipped rows t r k) → steps_to_go (kins rows) r (tasks.Over to) ≤ steps_to_go (kins rows) r (tasks.Over from)
   skipped_less from to le each =
-      onwards (λ k. steps_of (kins rows) r (tasks.Over k) ≤ steps_of (kins rows) r (tasks.Over from)) (to - from) from to (omega (arith, le))
+      onwards (λ k. steps_to_go (kins rows) r (tasks.Over k) ≤ steps_to_go (kins rows) r (tasks.Over from)) (to - from) from to (omega (arith, le))
       (λ k ge lt h. let less = skipped_steps k (each k ge lt) in omega (arith, less, h)) (omega arith)

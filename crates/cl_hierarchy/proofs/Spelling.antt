@@ -9,7 +9,7 @@ use Rattle.cl_classfile.specs.Reading.{read_of}
 use Rattle.cl_model.specs.declared.class.Class.{Class}
 use Rattle.cl_model.specs.Content.{Content, content_at}
 use Rattle.cl_model.specs.Classes.{HasFile, IsAtHome}
-use Rattle.cl_model.specs.Worlds.{seen}
+use Rattle.cl_model.specs.Worlds.{seen_file}
 use Rattle.cl_model.proofs.Ending.{file_at_home}
 use Rattle.cl_model.proofs.Reached.{file_is_read}
 use Rattle.cl_config.specs.Views.{Configured}
@@ -32,11 +32,11 @@ found_bytes (x ∷ xs) loader name bytes all e = by ((x.loader == loader) && poi
     by false others h = others h
 
 -- what linking sees was read
-seen_ok : (r : Result Structure Fault) (g : File) → seen r ≡ Ok g → (f : Structure) × (r ≡ Ok f) × (file_of f ≡ g)
+seen_ok : (r : Result Structure Fault) (g : File) → seen_file r ≡ Ok g → (f : Structure) × (r ≡ Ok f) × (file_of f ≡ g)
 seen_ok (Ok f) g e = (f, refl, (let same : file_of f ≡ g = cc in same))
 seen_ok (Err fault) g e = absurd cc
 
-spelled : (c : Configured) (content : Content) (t : Class) (g : File) → IsOfBytes content → (bytes : List ℕ) → content_at content t.loader t.name ≡ Some bytes → seen (read_of bytes) ≡ Ok g → g.name ≡ t.name
+spelled : (c : Configured) (content : Content) (t : Class) (g : File) → IsOfBytes content → (bytes : List ℕ) → content_at content t.loader t.name ≡ Some bytes → seen_file (read_of bytes) ≡ Ok g → g.name ≡ t.name
     → (f : Structure) × IsSpelt (Some content) t f × (file_of f ≡ g)
 spelled c content t g all bytes stored read named =
     let r = seen_ok (read_of bytes) g read in

@@ -17,7 +17,7 @@ use Rattle.cl_hierarchy.specs.Frames.{accepted_of}
 use Rattle.cl_hierarchy.specs.Lineages.{IsRowIn, row_of}
 use Rattle.cl_hierarchy.specs.Rows.{Rowed}
 use Rattle.cl_hierarchy.specs.Trees.{AllKnown, SupersBefore, forest, in_front, interfaces_in, kin_named, kin_under, kins, superclass_in}
-use Rattle.cl_hierarchy.specs.Tours.{Comes, Leaves, Marked, Stop, Toured, first_row, inner, interface_row, marks, opened, opening, over_from, size, step, steps_left, steps_of, stops, stops_left, stops_of, telling, tells, tells_after, tells_before, told_at, up_first, upwards_of, wants_up, with_class, with_row}
+use Rattle.cl_hierarchy.specs.Tours.{Comes, Leaves, Marked, Stop, Toured, first_row, inner, interface_row, marks, opened, opening_unless_left, over_from, size, step, steps_left, steps_to_go, stops, stops_left, stops_of, telling, tells, tells_after, tells_before, told_at, up_first, upwards_of, wants_up, with_class, with_row}
 use Rattle.cl_hierarchy.proofs.Ancestry.{no_row, row_kin}
 use Rattle.cl_hierarchy.proofs.Tours.{Goes, goes_first, goes_on, goes_past, goes_tell, told_both, with_has, with_one, within_join, classes_both, with_either, with_grows}
 use Rattle.cl_hierarchy.proofs.Ends.{all_push}
@@ -295,14 +295,14 @@ stepped rows ordered o goal t r tasks.Leave i h a = went rows ordered o goal r i
 
 -- and it comes nearer to the end
 opening_less : (rows : List Rowed) → SupersBefore [] rows → (o : Order) (t : Toured) (r : Rowed) (b : Bool) (wanted : Bool)
-    → steps_left (kins rows) (if b then t.stack else t.stack ++ opened o rows r) < steps_left (kins rows) t.stack + steps_of (kins rows) r (tasks.Come wanted)
+    → steps_left (kins rows) (if b then t.stack else t.stack ++ opened o rows r) < steps_left (kins rows) t.stack + steps_to_go (kins rows) r (tasks.Come wanted)
 opening_less rows ordered o t r true wanted = omega arith
 opening_less rows ordered o t r false wanted = let s = opened_steps rows ordered o r in let e = steps_both (kins rows) t.stack (opened o rows r) in omega arith
 
-nearer : (rows : List Rowed) → SupersBefore [] rows → (o : Order) (t : Toured) (r : Rowed) (k : Task) → IsRowIn rows r → steps_left (kins rows) (step o rows t r k).stack < steps_left (kins rows) t.stack + steps_of (kins rows) r k
+nearer : (rows : List Rowed) → SupersBefore [] rows → (o : Order) (t : Toured) (r : Rowed) (k : Task) → IsRowIn rows r → steps_left (kins rows) (step o rows t r k).stack < steps_left (kins rows) t.stack + steps_to_go (kins rows) r k
 nearer rows ordered o t r (tasks.Come wanted) i =
     let b = tells_before o wanted in
-    subst (λ (ms : List Marked). steps_left (kins rows) (opening o rows (telling b t r) r).stack < steps_left (kins rows) ms + steps_of (kins rows) r (tasks.Come wanted)) (telling_stack t b r)
+    subst (λ (ms : List Marked). steps_left (kins rows) (opening_unless_left o rows (telling b t r) r).stack < steps_left (kins rows) ms + steps_to_go (kins rows) r (tasks.Come wanted)) (telling_stack t b r)
     (opening_less rows ordered o (telling b t r) r (is_among (telling b t r).left r.class) wanted)
 nearer rows ordered o t r (tasks.Over place) i =
     let x = interface_row rows r place in

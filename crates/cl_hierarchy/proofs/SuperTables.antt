@@ -7,7 +7,7 @@ use Rattle.cl_model.specs.declared.class.Class.{Class}
 use Rattle.cl_model.specs.Classes.{class, same_class}
 use Rattle.cl_hierarchy.specs.Lineages.{row_of}
 use Rattle.cl_hierarchy.specs.Rows.{Rowed}
-use Rattle.cl_hierarchy.specs.Supers.{AreAllSupers, AreFirstOver, ArePlaces, AreSupers, HasRow, IsRowAt, Puts, place_in, row_at}
+use Rattle.cl_hierarchy.specs.Supers.{AreAllSupers, AreFirstOver, ArePlaces, AreSupers, HasRow, IsRowAt, AddsPlace, place_in, row_at}
 use Rattle.cl_hierarchy.specs.Tours.{interface_row}
 use Rattle.cl_hierarchy.specs.Trees.{interface_places}
 use Rattle.cl_hierarchy.specs.declared.supers.Supers.{Supers}
@@ -28,7 +28,7 @@ drop_at (y ∷ (w ∷ xs)) zero x e = ap (λ z. z ∷ (w ∷ xs)) (same_Some y x
 drop_at (y ∷ xs) (suc n) x e = drop_at xs n x e
 
 -- and one with one place more has one row more
-pub places_next : (rows : List Rowed) (n : ℕ) (old new : List (Class × ℕ)) (c : Class) (r : Rowed) → slice_get rows n ≡ Some r → c ≡ r.class → Puts old c n new → ArePlaces rows (suc n) old → ArePlaces rows n new
+pub places_next : (rows : List Rowed) (n : ℕ) (old new : List (Class × ℕ)) (c : Class) (r : Rowed) → slice_get rows n ≡ Some r → c ≡ r.class → AddsPlace old c n new → ArePlaces rows (suc n) old → ArePlaces rows n new
 places_next rows n old new c r at same puts h = λ d. record {
   row_is =
       ap (λ (o : Option ℕ). row_at rows o) (puts d) ∙ found d (same_class c d) refl

@@ -14,7 +14,7 @@ use Rattle.cl_model.proofs.Complete.{is_class, or_true}
 use Rattle.cl_config.specs.Views.{Configured}
 use Rattle.cl_hierarchy.specs.Rows.{Rowed}
 use Rattle.cl_hierarchy.specs.Trees.{AllKnown, SupersBefore, forest, in_front, interfaces_in, kin_named, kin_under, kins, kins_after, superclass_in}
-use Rattle.cl_hierarchy.specs.Lineages.{IsInOrder, IsLined, IsLineageOf, IsRowIn, IsWithin, Lined, kin_of, row_of}
+use Rattle.cl_hierarchy.specs.Lineages.{IsInOrder, IsLined, IsLineageOf, IsRowIn, IsWithinConfig, Lined, kin_of, row_of}
 use Rattle.cl_hierarchy.specs.RowTables.{AreRows, AreRowsAfter, IsMadeOf}
 use Rattle.cl_hierarchy.proofs.Ancestry.{IsRowKin, kin_stays, kins_push, row_kin}
 use Rattle.cl_hierarchy.proofs.Climbs.{before_split}
@@ -282,15 +282,15 @@ same_last xs ys x y e = same_Some x y (sym (last_of xs x) ∙ ap (λ (zs : List 
 
 -- ---- rows within the configuration, and lineages where a content is told
 
-row_within : (told : Option Content) (config : Configured) (earlier rows : List Rowed) (c : Class) (r : Rowed) → AreRowsAfter told config earlier rows → row_of rows c ≡ Some r → IsWithin config r
+row_within : (told : Option Content) (config : Configured) (earlier rows : List Rowed) (c : Class) (r : Rowed) → AreRowsAfter told config earlier rows → row_of rows c ≡ Some r → IsWithinConfig config r
 row_within told config earlier [] c r h e = absurd cc
 row_within told config earlier (x ∷ rows) c r h e = at (λ f. row_within told config (earlier ++ x ∷ []) rows c r h.1 f) (same_class x.class c) e
   where
-    at : (row_of rows c ≡ Some r → IsWithin config r) → (b : Bool) → (if b then Some x else row_of rows c) ≡ Some r → IsWithin config r
-    at further true f = subst (λ (y : Rowed). IsWithin config y) (same_Some x r f) h.0.within
+    at : (row_of rows c ≡ Some r → IsWithinConfig config r) → (b : Bool) → (if b then Some x else row_of rows c) ≡ Some r → IsWithinConfig config r
+    at further true f = subst (λ (y : Rowed). IsWithinConfig config y) (same_Some x r f) h.0.within
     at further false f = further f
 
-all_within : (told : Option Content) (config : Configured) (rows xs : List Rowed) → AreRows told config rows → AllByRecursion (IsRowIn rows) xs → AllByRecursion (IsWithin config) xs
+all_within : (told : Option Content) (config : Configured) (rows xs : List Rowed) → AreRows told config rows → AllByRecursion (IsRowIn rows) xs → AllByRecursion (IsWithinConfig config) xs
 all_within told config rows [] h all = tt
 all_within told config rows (x ∷ xs) h all = (row_within told config [] rows x.class x h all.0, all_within told config rows xs h all.1)
 

@@ -18,7 +18,7 @@ use Rattle.cl_hierarchy.specs.Lineages.{IsLined, above_in}
 use Rattle.cl_hierarchy.specs.Places.{IsPlace}
 use Rattle.cl_hierarchy.specs.Rows.{Rowed}
 use Rattle.cl_hierarchy.specs.Trees.{SupersBefore, forest, in_front, kin_named, kin_under, kins, superclass_in}
-use Rattle.cl_hierarchy.specs.Ways.{IsNext}
+use Rattle.cl_hierarchy.specs.Ways.{IsNextAbove}
 use Rattle.cl_hierarchy.proofs.Ancestry.{row_kin}
 use Rattle.cl_hierarchy.proofs.Climbs.{placed_kin, placed_row, upward_none}
 use Rattle.cl_hierarchy.proofs.Cuts.{cut_superclass}
@@ -156,7 +156,7 @@ module _ (told : Option Content) (config : Configured) (rows : List Rowed) (top 
       let at : slice_get (rest ++ last ∷ h.place.later) before ≡ Some s = sym (ap (λ (rs : List Rowed). slice_get rs before) h.place.split) ∙ e in
       nearest (take before rest) s (last_at rest (last ∷ h.place.later) before s n at) up ∙ ap (λ (m : ℕ). Some m) (take_many rest before (omega (arith, n)))
 
-  module _ (earlier : List Rowed) (row : Rowed) (next : IsNext rest last earlier row) where
+  module _ (earlier : List Rowed) (row : Rowed) (next : IsNextAbove rest last earlier row) where
     inner : IsPlace rows earlier row
     inner = record {
       later = next.place.later ++ last ∷ h.place.later;
@@ -222,7 +222,7 @@ module _ (told : Option Content) (config : Configured) (rows : List Rowed) (top 
 -- ---- the same of what lies behind them in memory
 
 module _ {A : Type 0} (v : A → Rowed) (rows earlier : List A) (row : A) (under : Rowed) where
-  pub next_super : (x : Rowed) (b : Bool) → rows ≡ earlier ++ row ∷ [] → x ≡ v row → b ≡ is_among (superclass_in under) x.class → b ≡ true → IsNext (map v rows) under (map v earlier) (v row)
+  pub next_super : (x : Rowed) (b : Bool) → rows ≡ earlier ++ row ∷ [] → x ≡ v row → b ≡ is_among (superclass_in under) x.class → b ≡ true → IsNextAbove (map v rows) under (map v earlier) (v row)
   next_super x b split is tested meant = record {
     place = record { later = []; split = ap (λ (xs : List A). map v xs) split ∙ map_push v earlier row };
     is_upper =
@@ -230,7 +230,7 @@ module _ {A : Type 0} (v : A → Rowed) (rows earlier : List A) (row : A) (under
         (ap (λ (y : Rowed). is_among (superclass_in under) y.class) (sym is) ∙ sym tested ∙ meant);
   }
 
-  pub next_found : Some (kin_under (kins (map v earlier)) (v row)) ≡ first (upward (forest (kins (map v rows)) (superclass_in under))) → IsPlace (map v rows) (map v earlier) (v row) → IsNext (map v rows) under (map v earlier) (v row)
+  pub next_found : Some (kin_under (kins (map v earlier)) (v row)) ≡ first (upward (forest (kins (map v rows)) (superclass_in under))) → IsPlace (map v rows) (map v earlier) (v row) → IsNextAbove (map v rows) under (map v earlier) (v row)
   next_found e p = record { place = p; is_upper = up_class (kins (map v rows)) under (kin_under (kins (map v earlier)) (v row)) e }
 
   pub not_before : (x : Rowed) (b : Bool) → rows ≡ earlier ++ row ∷ [] → x ≡ v row → b ≡ is_among (superclass_in under) x.class → b ≡ false → (e : List Rowed) (r : Rowed) → map v rows ≡ e ++ r ∷ [] → superclass_in under ≡ r.class ∷ [] → ⊥
@@ -264,13 +264,13 @@ module _ {A : Type 0} (v : A → Rowed) (told : Option Content) (config : Config
 
   module _ (rows : List Rowed) (top : ℕ) (ways new : List ℕ) (rest : List A) where
     pub goes_on_in : (earlier : List A) (row : A) (last under : Rowed) → Comes told config rows top ways (map v rest) last → under ≡ last
-        → IsNext (map v rest) under (map v earlier) (v row)
+        → IsNextAbove (map v rest) under (map v earlier) (v row)
         → ((e : List Rowed) (r : Rowed) → map v rest ≡ e ++ r ∷ [] → superclass_in under ≡ r.class ∷ [] → Some (length earlier) ≡ Some (length e))
         → (w : ℕ) → new ≡ ways ++ w ∷ [] → w ≡ length rest
         → Comes told config rows top new (map v earlier) (v row)
     goes_on_in earlier row last under h same next nearest w pushed place =
         subst (λ (ws : List ℕ). Comes told config rows top ws (map v earlier) (v row)) (sym pushed)
-        (comes_on told config rows top ways (map v rest) last h (map v earlier) (v row) (subst (λ (u : Rowed). IsNext (map v rest) u (map v earlier) (v row)) same next) w
+        (comes_on told config rows top ways (map v rest) last h (map v earlier) (v row) (subst (λ (u : Rowed). IsNextAbove (map v rest) u (map v earlier) (v row)) same next) w
         (place ∙ sym (length-map rest v))
         (λ e r split up. ap (λ (n : ℕ). Some n) (length-map earlier v) ∙ nearest e r split (ap (λ (u : Rowed). superclass_in u) same ∙ up)))
 

@@ -115,7 +115,7 @@ LeadUp told config rows (w ∷ ws) next =
     IsWay told config rows w (begins ws next) × LeadUp told config rows ws next
 
 -- one mark more, with this rung
-pub record IsPushed (old : Laddered) (rung : Option Rung) (new : Laddered) : Type 0 where
+pub record LadderPushes (old : Laddered) (rung : Option Rung) (new : Laddered) : Type 0 where
   pub config : new.config ≡ old.config
   pub rows : new.rows ≡ old.rows
   pub mark : Mark
@@ -131,12 +131,12 @@ pub record IsFilled (old : Laddered) (place : ℕ) (new : Laddered) : Type 0 whe
   pub many : length new.marks ≡ place
 
 -- marks more, the last of a place that has a rung
-pub record IsPassed (old : Laddered) (place : ℕ) (new : Laddered) : Type 0 where
+pub record LadderPasses (old : Laddered) (place : ℕ) (new : Laddered) : Type 0 where
   pub filled : IsFilled old (place + 1) new
   pub rung : HasRung new.marks (place + 1) (Some place)
 
 -- made of a lineage, whose own place has a rung (5.3.5)
-pub record IsMadeOf (config : Configured) (above : List Rowed) (own : Rowed) (x : Laddered)
+pub record LadderIsMadeOf (config : Configured) (above : List Rowed) (own : Rowed) (x : Laddered)
     : Type 0 where
   pub config_is : x.config ≡ config
   pub rows : x.rows ≡ above ++ own ∷ []

@@ -38,7 +38,7 @@ use Rattle.cl_model.specs.Lineages.{
 use Rattle.cl_config.specs.Views.{Configured}
 use Rattle.cl_delegation.specs.Worlds.{world_of}
 use Rattle.cl_hierarchy.specs.Rows.{Rowed}
-use Rattle.cl_hierarchy.specs.Trees.{IsAfter, SupersBefore, kin_under, kins}
+use Rattle.cl_hierarchy.specs.Trees.{MayComeAfter, SupersBefore, kin_under, kins}
 
 -- under which configuration, the rows of all that stands above a class, and its own (5.3.5)
 pub record Lined : Type 0 where
@@ -70,7 +70,7 @@ IsRowIn rows r = row_of rows r.class ≡ Some r
 -- each class once (5.3.5, 5.4)
 pub record IsInOrder (l : Lined) : Type 0 where
   pub above : SupersBefore [] l.above
-  pub own : IsAfter (kins l.above) l.own
+  pub own : MayComeAfter (kins l.above) l.own
   pub ordered : reverse (kin_of l ∷ kins l.above) ≡ lineage (kin_of l)
 
 -- where a content is told, the tree is the lineage of the class in its world (5.3.5)
@@ -79,14 +79,14 @@ IsLineageOf None l = Unit {0}
 IsLineageOf (Some content) l = IsLineage (world_of l.config content) (kin_of l)
 
 -- a row's loader is one of the configuration
-abbrev pub IsWithin : Configured → Rowed → Type 0
-IsWithin config r = r.class.loader < length config.loaders
+abbrev pub IsWithinConfig : Configured → Rowed → Type 0
+IsWithinConfig config r = r.class.loader < length config.loaders
 
 -- what a lineage keeps (5.3.5, 5.4)
 pub record IsLined (told : Option Content) (l : Lined) : Type 0 where
   pub order : IsInOrder l
   pub lineage : IsLineageOf told l
-  pub within : AllByRecursion (IsWithin l.config) (rows_in l)
+  pub within : AllByRecursion (IsWithinConfig l.config) (rows_in l)
 
 -- ---- questions
 

@@ -73,7 +73,7 @@ is_on p c = list_any (λ x. same_class c x.class) (frames_of p)
 
 -- a frame is of what this loader is asked for under this configuration, and wants a supertype,
 -- whatever the source tells (5.3.5, steps 3 and 4)
-pub record Stands (c : Configured) (loader : ℕ) (name : List ℕ) (x : Framed) : Type 0 where
+pub record FrameStands (c : Configured) (loader : ℕ) (name : List ℕ) (x : Framed) : Type 0 where
   pub config : x.draft.home.config ≡ c
   pub asked : x.draft.home.asked ≡ loader
   pub named : x.draft.class.name ≡ name
@@ -83,7 +83,7 @@ pub record Stands (c : Configured) (loader : ℕ) (name : List ℕ) (x : Framed)
 abbrev pub AllStand : Configured → ℕ → List ℕ → List Framed → Type 0
 AllStand c loader name [] = Unit {0}
 AllStand c loader name (x ∷ xs) =
-    Stands c loader name x × AllStand c x.draft.class.loader (name_of (wanted (frame_of x))) xs
+    FrameStands c loader name x × AllStand c x.draft.class.loader (name_of (wanted (frame_of x))) xs
 
 -- where a content is told, they are frames as the rules have them (5.3.5, steps 3 and 4)
 abbrev pub KeepsRules : Option Content → Pathed → Type 0

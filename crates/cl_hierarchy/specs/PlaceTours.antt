@@ -64,7 +64,7 @@ toured_at rows left t =
     }
 
 -- each place is of a row, and of each it is told whether its class was told, and whether it was left
-pub record IsPlaced (rows : List Rowed) (left : List Class) (t : Placed) : Type 0 where
+pub record TourIsPlaced (rows : List Rowed) (left : List Class) (t : Placed) : Type 0 where
   pub told_in : AllByRecursion (HasRow rows) t.told
   pub stack_in : AllByRecursion (λ (s : Spot). HasRow rows s.place) t.stack
   pub is_told_is : AreMarked rows (classes_at rows t.told) t.is_told
@@ -72,7 +72,7 @@ pub record IsPlaced (rows : List Rowed) (left : List Class) (t : Placed) : Type 
 
 -- the state of a tour by places is this one by rows
 pub record IsTour (rows : List Rowed) (t : Toured) (new : Placed) : Type 0 where
-  pub placed : IsPlaced rows t.left new
+  pub placed : TourIsPlaced rows t.left new
   pub toured : toured_at rows t.left new ≡ t
 
 -- what is done for the row at a place is this of the tour by rows, whatever the rows are whose direct
@@ -81,12 +81,12 @@ abbrev pub Does : List Supers → Placed → ℕ → (List Rowed → Toured → 
     → Type 0
 Does table old place does new =
     (rows : List Rowed) (left : List Class) (r : Rowed) → SupersBefore [] rows
-    → AreAllSupers rows rows table → slice_get rows place ≡ Some r → IsPlaced rows left old
+    → AreAllSupers rows rows table → slice_get rows place ≡ Some r → TourIsPlaced rows left old
     → IsTour rows (does rows (toured_at rows left old) r) new
 
 -- the class at a place is told, where that is wanted and it was not
-abbrev pub IsTold : List Supers → Placed → ℕ → Bool → Placed → Type 0
-IsTold table old place wanted new = Does table old place (λ rows t r. telling wanted t r) new
+abbrev pub IsToldAt : List Supers → Placed → ℕ → Bool → Placed → Type 0
+IsToldAt table old place wanted new = Does table old place (λ rows t r. telling wanted t r) new
 
 -- what stands above the class at a place is to be come to, and then the class to be left
 abbrev pub IsOpened : List Supers → Placed → ℕ → Placed → Type 0
@@ -95,8 +95,8 @@ IsOpened table old place new =
     (λ rows t r. record t { stack = t.stack ++ opened orders.Superinterfaces rows r }) new
 
 -- one step
-abbrev pub Steps : List Supers → Placed → ℕ → Task → Placed → Type 0
-Steps table old place task new =
+abbrev pub TourSteps : List Supers → Placed → ℕ → Task → Placed → Type 0
+TourSteps table old place task new =
     Does table old place (λ rows t r. step orders.Superinterfaces rows t r task) new
 
 -- the rows at these places are those of the superinterfaces of the class of one (5.4.3.3)
@@ -110,25 +110,25 @@ pub record AreSuperinterfacesAt (rows : List Rowed) (start : Rowed) (places : Li
 -- ---- superinterfaces that were told and left
 
 -- a place is given, and where it has marks the class there was told and left
-abbrev pub IsDone : List Bool → List Bool → Option ℕ → Type 0
-IsDone told left place =
+abbrev pub IsToldAndLeft : List Bool → List Bool → Option ℕ → Type 0
+IsToldAndLeft told left place =
     (p : ℕ) × (place ≡ Some p) × IfSome (slice_get told p) (λ b. b ≡ true)
     × IfSome (slice_get left p) (λ b. b ≡ true)
 
 -- those at these places, from one number on and before another
 pub record AreSkipped (over : List (Option ℕ)) (told left : List Bool) (from to : ℕ) : Type 0 where
   pub onwards : from ≤ to
-  pub each : (k : ℕ) → from ≤ k → k < to → IsDone told left (place_in over k)
+  pub each : (k : ℕ) → from ≤ k → k < to → IsToldAndLeft told left (place_in over k)
 
 -- one step, which may skip superinterfaces that were told and left: to come to them would change
 -- nothing (5.4.3.3)
-abbrev pub GoesOn : List Supers → Placed → ℕ → Task → Placed → Type 0
-GoesOn table old place (tasks.Over at) new =
+abbrev pub TourGoesOn : List Supers → Placed → ℕ → Task → Placed → Type 0
+TourGoesOn table old place (tasks.Over at) new =
     (next : ℕ)
     × ((s : Supers) → slice_get table place ≡ Some s
     → AreSkipped s.over.items old.is_told old.is_left at next)
-    × Steps table old place (tasks.Over next) new
-GoesOn table old place task new = Steps table old place task new
+    × TourSteps table old place (tasks.Over next) new
+TourGoesOn table old place task new = TourSteps table old place task new
 
 -- ---- a class of which the superinterfaces are known
 
@@ -136,25 +136,25 @@ GoesOn table old place task new = Steps table old place task new
 abbrev pub AreTold : List Supers → Placed → List ℕ → Placed → Type 0
 AreTold table old places new =
     (rows : List Rowed) (left : List Class) → SupersBefore [] rows → AreAllSupers rows rows table
-    → AllByRecursion (HasRow rows) places → IsPlaced rows left old
+    → AllByRecursion (HasRow rows) places → TourIsPlaced rows left old
     → IsTour rows (telling_all (toured_at rows left old) (rows_at rows places)) new
 
 -- the class at a place is told, where that is wanted, then those at these places, and it is left
-abbrev pub Passes : List Supers → Placed → ℕ → Bool → List ℕ → Placed → Type 0
-Passes table old place wanted over new =
+abbrev pub PassesAt : List Supers → Placed → ℕ → Bool → List ℕ → Placed → Type 0
+PassesAt table old place wanted over new =
     (rows : List Rowed) (left : List Class) (r : Rowed) → SupersBefore [] rows
     → AreAllSupers rows rows table → AllByRecursion (HasRow rows) over
-    → slice_get rows place ≡ Some r → IsPlaced rows left old
+    → slice_get rows place ≡ Some r → TourIsPlaced rows left old
     → IsTour rows
     (passing orders.Superinterfaces rows (toured_at rows left old) r wanted (rows_at rows over)) new
 
 -- one step, or the class is passed of which these are known
 abbrev pub Moves : List Supers → Placed → Spot → Option OverAt → Placed → Type 0
 Moves table old next known new =
-    GoesOn table old next.place next.task new
+    TourGoesOn table old next.place next.task new
     ⊎ ((o : OverAt) × (known ≡ Some o) × (o.of ≡ next.place)
     × ((wanted : Bool) × (next.task ≡ tasks.Come wanted)
-    × Passes table old next.place wanted o.places.items new))
+    × PassesAt table old next.place wanted o.places.items new))
 
 -- the places that are known are those of the superinterfaces of the class there
 abbrev pub AreKnown : List Rowed → Option OverAt → Type 0

@@ -8,6 +8,6 @@ use Rattle.cl_hierarchy.specs.Rows.{Rowed}
 use Rattle.cl_hierarchy.specs.Lineages.{row_of}
 
 -- a table has the row of each class of these, and no other
-abbrev pub IsIndexOf : {A : Type 0} → (A → Rowed) → List (Class × A) → List Rowed → Type 0
-IsIndexOf row entries rows =
+abbrev pub IsRowIndexOf : {A : Type 0} → (A → Rowed) → List (Class × A) → List Rowed → Type 0
+IsRowIndexOf row entries rows =
     (c : Class) → option_map row (lookup (same_class c) entries) ≡ row_of rows c

@@ -26,7 +26,7 @@ use Rattle.cl_delegation.specs.Worlds.{world_of}
 use Rattle.cl_hierarchy.specs.Rows.{FitsAs, Rowed}
 use Rattle.cl_model.specs.Lineages.{IsLineage, Kin}
 use Rattle.cl_hierarchy.specs.Trees.{SupersBefore, kin_named, kins}
-use Rattle.cl_hierarchy.specs.Lineages.{IsRowIn, IsWithin, Lined, kin_of, row_of, rows_in}
+use Rattle.cl_hierarchy.specs.Lineages.{IsRowIn, IsWithinConfig, Lined, kin_of, row_of, rows_in}
 use Rattle.cl_hierarchy.specs.declared.making.LineageFault.{LineageFault}
 use Rattle.cl_hierarchy.specs.declared.making.LineageFault.TheVariants.{Memory, Unknown}
 
@@ -55,7 +55,7 @@ HasItsFile (Some content) config r = HasFile (world_of config content) r.class (
 pub record IsRowAfter (told : Option Content) (config : Configured) (earlier : List Rowed)
     (r : Rowed) : Type 0 where
   pub is_new : row_of earlier r.class ≡ None
-  pub within : IsWithin config r
+  pub within : IsWithinConfig config r
   pub above : StandAbove told config earlier r.class (supers (file_of r.file)) r.places
   pub has_file : HasItsFile told config r
 

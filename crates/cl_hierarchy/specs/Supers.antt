@@ -19,8 +19,8 @@ abbrev pub HasRow : List Rowed → ℕ → Type 0
 HasRow rows place = (r : Rowed) × (slice_get rows place ≡ Some r)
 
 -- one place more of a class
-abbrev pub Puts : List (Class × ℕ) → Class → ℕ → List (Class × ℕ) → Type 0
-Puts old class place new =
+abbrev pub AddsPlace : List (Class × ℕ) → Class → ℕ → List (Class × ℕ) → Type 0
+AddsPlace old class place new =
     (c : Class)
     → lookup (same_class c) new
     ≡ (if same_class class c then Some place else lookup (same_class c) old)

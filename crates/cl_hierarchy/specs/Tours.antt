@@ -148,16 +148,16 @@ size Bare = 0
 size (Tree c f sup ints others) = 1 + size sup + size ints + size others
 
 -- how many steps are left for a row, or more
-abbrev pub steps_of : List Kin → Rowed → Task → ℕ
-steps_of known r (tasks.Come wanted) =
+abbrev pub steps_to_go : List Kin → Rowed → Task → ℕ
+steps_to_go known r (tasks.Come wanted) =
     4 * size (forest known (superclass_in r)) + 4 * size (forest known (interfaces_in r)) + 3
-steps_of known r (tasks.Over place) = 4 * size (forest known (drop place (interfaces_in r))) + 1
-steps_of known r tasks.Leave = 1
+steps_to_go known r (tasks.Over place) = 4 * size (forest known (drop place (interfaces_in r))) + 1
+steps_to_go known r tasks.Leave = 1
 
 -- the same of all
 abbrev pub steps_left : List Kin → List Marked → ℕ
 steps_left known [] = 0
-steps_left known (m ∷ ms) = steps_of known m.row m.task + steps_left known ms
+steps_left known (m ∷ ms) = steps_to_go known m.row m.task + steps_left known ms
 
 -- ---- the state of a tour
 
@@ -189,13 +189,13 @@ telling_all t [] = t
 telling_all t (r ∷ rs) = telling_all (telling true t r) rs
 
 -- what is left to do, once the tour came to a class that it left before, or not
-abbrev pub opening : Order → List Rowed → Toured → Rowed → Toured
-opening o rows t r =
+abbrev pub opening_unless_left : Order → List Rowed → Toured → Rowed → Toured
+opening_unless_left o rows t r =
     record t { stack = if is_among t.left r.class then t.stack else t.stack ++ opened o rows r }
 
 -- one step
 abbrev pub step : Order → List Rowed → Toured → Rowed → Task → Toured
-step o rows t r (tasks.Come wanted) = opening o rows (telling (tells_before o wanted) t r) r
+step o rows t r (tasks.Come wanted) = opening_unless_left o rows (telling (tells_before o wanted) t r) r
 step o rows t r (tasks.Over place) =
     record t { stack = t.stack ++ over_from r place (interface_row rows r place) }
 step o rows t r tasks.Leave =

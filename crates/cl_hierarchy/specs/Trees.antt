@@ -73,7 +73,7 @@ AllKnown known cs = AllByRecursion (λ (c : Class). is_some (kin_named known c) 
 
 -- a row may stand after these: its class is new, and its direct supertypes are known
 -- (5.3.5, steps 3 and 4)
-pub record IsAfter (known : List Kin) (r : Rowed) : Type 0 where
+pub record MayComeAfter (known : List Kin) (r : Rowed) : Type 0 where
   pub is_new : kin_named known r.class ≡ None
   pub superclass : AllKnown known (superclass_in r)
   pub interfaces : AllKnown known (interfaces_in r)
@@ -81,4 +81,4 @@ pub record IsAfter (known : List Kin) (r : Rowed) : Type 0 where
 -- each row's class is new, and stands after its direct supertypes (5.3.5, steps 3 and 4)
 abbrev pub SupersBefore : List Kin → List Rowed → Type 0
 SupersBefore known [] = Unit {0}
-SupersBefore known (r ∷ rs) = IsAfter known r × SupersBefore (kin_under known r ∷ known) rs
+SupersBefore known (r ∷ rs) = MayComeAfter known r × SupersBefore (kin_under known r ∷ known) rs

@@ -3,7 +3,7 @@
 ghost use Rattle.std.specs.Prelude.{◌≡◌, ◌<◌, ◌≤◌, ◌+◌, ◌-◌, ℕ, [], None, Some, List, is_some, length, map, slice_get, take, true, IfOk, IfSome, OnOk};
 ghost use Rattle.std.specs.Option.{option_map};
 ghost use Rattle.cl_hierarchy.specs.Above.{AreOvers};
-ghost use Rattle.cl_hierarchy.specs.Ladders.{AreOthers, HasRung, IsFilled, IsLadder, IsMadeOf, IsNearest, IsPassed, IsPushed, IsRung, IsRungAt, IsRungOf, IsWay, LeadUp, begins};
+ghost use Rattle.cl_hierarchy.specs.Ladders.{AreOthers, HasRung, IsFilled, IsLadder, LadderIsMadeOf, IsNearest, LadderPasses, LadderPushes, IsRung, IsRungAt, IsRungOf, IsWay, LeadUp, begins};
 ghost use Rattle.cl_hierarchy.specs.Lineages.{IsLined, above_in};
 ghost use Rattle.cl_hierarchy.specs.Rows.{Rowed};
 ghost use Rattle.cl_model.specs.Lineages.{Kin};
@@ -60,7 +60,7 @@ impl<T: Told> Ladder<T> {
           above = map (λ r. r.value) above.items;
           own = own.now.value;
         }) }
-        ensures { IfOk result (IsMadeOf config.value (map (λ r. r.value) above.items)
+        ensures { IfOk result (LadderIsMadeOf config.value (map (λ r. r.value) above.items)
             own.now.value) }
     {
         let ways = way_up(alloc, above.as_slice(), own)?;
@@ -151,7 +151,7 @@ impl<T: Told> Ladder<T> {
         requires room { length self.old.marks < length self.old.rows }
         requires rung { (r : Rowed) → slice_get self.old.rows (length self.old.marks) ≡ Some r
             → IfSome rung (IsRung T.told self.old (length self.old.marks) r) }
-        ensures { OnOk result (IsPushed self.old rung self.new) }
+        ensures { OnOk result (LadderPushes self.old rung self.new) }
     {
         let overs = self.overs_so_far();
         self.marks.push(Mark { overs, rung })?;
@@ -175,7 +175,7 @@ impl<T: Told> Ladder<T> {
         requires way { IsWay T.told self.old.config self.old.rows place up }
         requires up { HasRung self.old.marks place up }
         requires before { length self.old.marks ≤ place }
-        ensures { OnOk result (IsPassed self.old place self.new) }
+        ensures { OnOk result (LadderPasses self.old place self.new) }
     {
         self.fill(place)?;
         let own = self.rows[place].class().loader;
@@ -188,7 +188,7 @@ impl<T: Told> Ladder<T> {
         requires ways { LeadUp T.told self.old.config self.old.rows ways.items None }
         requires begins { begins ways.items None ≡ Some (length self.old.rows - 1) }
         requires none { self.old.marks ≡ [] }
-        ensures { OnOk result (IsPassed self.old (length self.old.rows - 1) self.new) }
+        ensures { OnOk result (LadderPasses self.old (length self.old.rows - 1) self.new) }
     {
         let mut ways = ways;
         let mut up = None;

@@ -9,7 +9,7 @@ ghost use Rattle.cl_model.specs.Frames.{wanted};
 ghost use Rattle.cl_model.specs.Views.{error_of};
 ghost use Rattle.cl_hierarchy.specs.Frames.{frame_of};
 ghost use Rattle.cl_hierarchy.specs.Kept.{LastAccepts, last_wants};
-ghost use Rattle.cl_hierarchy.specs.Paths.{Accepts, Completes, IsPath, Stands, at_loader, at_name, fresh, name_of, is_on, misfit_under, sought_class, with_frame};
+ghost use Rattle.cl_hierarchy.specs.Paths.{Accepts, Completes, IsPath, FrameStands, at_loader, at_name, fresh, name_of, is_on, misfit_under, sought_class, with_frame};
 ghost use Rattle.cl_hierarchy.specs.Repeats.{FitsLast, Goes, RepeatsLast};
 
 use crate::draft::Draft;
@@ -190,7 +190,7 @@ impl<T: Told> Path<T> {
 
     /// The class that is looked for is being derived from now on, and its first supertype is looked for.
     pub fn push(&mut self, draft: Draft<T>) -> Result<(), Draft<T>>
-        requires stands { Stands self.old.config (at_loader self.old) (at_name self.old)
+        requires stands { FrameStands self.old.config (at_loader self.old) (at_name self.old)
             (fresh draft) }
         requires absent { is_on self.old draft.class ≡ false }
         ensures pushed { OnOk result (self.new ≡ with_frame self.old (fresh draft)) }

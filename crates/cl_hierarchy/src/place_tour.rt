@@ -3,7 +3,7 @@
 
 ghost use Rattle.std.specs.Prelude.{◌≡◌, ◌<◌, ◌≤◌, ◌+◌, List, [], ◌++◌, Some, false, length, map, option_map, option_to_list, slice_get, true, IfOk, IfSome, OnOk};
 ghost use Rattle.cl_hierarchy.specs.OversAt.{sharing_in};
-ghost use Rattle.cl_hierarchy.specs.PlaceTours.{AreKnown, AreSkipped, AreSuperinterfacesAt, AreTold, GoesOn, IsDone, IsOpened, IsPushed, IsTold, Moves, Passes, Steps, rows_at};
+ghost use Rattle.cl_hierarchy.specs.PlaceTours.{AreKnown, AreSkipped, AreSuperinterfacesAt, AreTold, TourGoesOn, IsToldAndLeft, IsOpened, IsPushed, IsToldAt, Moves, PassesAt, TourSteps, rows_at};
 ghost use Rattle.cl_hierarchy.specs.Rows.{Rowed};
 ghost use Rattle.cl_hierarchy.specs.Supers.{AreAllSupers, place_in};
 ghost use Rattle.cl_hierarchy.specs.Trees.{SupersBefore};
@@ -128,7 +128,7 @@ impl PlaceTour {
 
     /// Tells the class at a place, where that is wanted and it was not told.
     fn tell(&mut self, place: usize, wanted: bool) -> Result<(), AllocError>
-        ensures { OnOk result ((table : List Supers) → IsTold table self.old place wanted
+        ensures { OnOk result ((table : List Supers) → IsToldAt table self.old place wanted
             self.new) }
     {
         if !wanted {
@@ -158,7 +158,7 @@ impl PlaceTour {
 
     /// Comes to the class at a place: tells it, where it is wanted, and opens what stands above it, unless it was left before.
     fn come(&mut self, table: &[Supers], place: usize, wanted: bool) -> Result<(), AllocError>
-        ensures { OnOk result (Steps table.now self.old place (tasks.Come wanted) self.new) }
+        ensures { OnOk result (TourSteps table.now self.old place (tasks.Come wanted) self.new) }
     {
         self.tell(place, wanted)?;
         if is_marked(self.is_left.as_slice(), place) {
@@ -170,7 +170,7 @@ impl PlaceTour {
     /// Comes to the next superinterface of the class at a place, but for those that were told and left: to come to them would change
     /// nothing. Then goes on behind it.
     fn go_over(&mut self, table: &[Supers], place: usize, at: usize) -> Result<(), AllocError>
-        ensures { OnOk result (GoesOn table.now self.old place (tasks.Over at) self.new) }
+        ensures { OnOk result (TourGoesOn table.now self.old place (tasks.Over at) self.new) }
     {
         let over = all_over(table, place);
         let next = first_undone(over, self.is_told.as_slice(), self.is_left.as_slice(), at);
@@ -186,7 +186,7 @@ impl PlaceTour {
 
     /// Leaves the class at a place: all that stands above it was told.
     fn leave(&mut self, place: usize)
-        ensures { (table : List Supers) → Steps table self.old place tasks.Leave self.new }
+        ensures { (table : List Supers) → TourSteps table self.old place tasks.Leave self.new }
     {
         if is_marked(self.is_left.as_slice(), place) {
             return;
@@ -196,7 +196,7 @@ impl PlaceTour {
 
     /// Takes one step.
     fn go(&mut self, table: &[Supers], next: Spot) -> Result<(), AllocError>
-        ensures { OnOk result (GoesOn table.now self.old next.place next.task self.new) }
+        ensures { OnOk result (TourGoesOn table.now self.old next.place next.task self.new) }
     {
         match next.task {
             Task::Come(wanted) => self.come(table, next.place, wanted),
@@ -221,7 +221,7 @@ impl PlaceTour {
     /// Passes the class at a place, of which the superinterfaces stand at these: it is told, where that is wanted, and these, and it
     /// is left.
     fn pass(&mut self, place: usize, wanted: bool, over: &[usize]) -> Result<(), AllocError>
-        ensures { OnOk result ((table : List Supers) → Passes table self.old place wanted over.now
+        ensures { OnOk result ((table : List Supers) → PassesAt table self.old place wanted over.now
             self.new) }
     {
         self.tell(place, wanted)?;
@@ -290,7 +290,7 @@ fn over_at(over: &[Option<usize>], at: usize) -> Option<usize>
 
 /// Whether the class at a place was told and left, by these marks; not where there is none.
 fn is_done(is_told: &[bool], is_left: &[bool], place: Option<usize>) -> bool
-    ensures { result ≡ true → IsDone is_told.now is_left.now place }
+    ensures { result ≡ true → IsToldAndLeft is_told.now is_left.now place }
 {
     match place {
         None => false,

@@ -4,7 +4,7 @@ ghost use Rattle.std.specs.Prelude.{◌≡◌, ◌++◌, ◌∷◌, [], List, ma
 ghost use Rattle.std.specs.Option.{option_map};
 ghost use Rattle.cl_model.specs.Classes.{class};
 ghost use Rattle.cl_hierarchy.specs.Lineages.{row_of};
-ghost use Rattle.cl_hierarchy.specs.RowIndex.{IsIndexOf};
+ghost use Rattle.cl_hierarchy.specs.RowIndex.{IsRowIndexOf};
 ghost use Rattle.cl_hierarchy.specs.Rows.{Rowed};
 
 use crate::row::ClassRow;
@@ -37,14 +37,14 @@ impl<'a, T: Told> Drop for RowIndex<'a, T> {
 
 impl<'a, T: Told> Model for RowIndex<'a, T> {
     ghost use Rattle.std.specs.Prelude.{List, ◌++◌, ◌∷◌, [], map};
-    ghost use Rattle.cl_hierarchy.specs.RowIndex.{IsIndexOf};
+    ghost use Rattle.cl_hierarchy.specs.RowIndex.{IsRowIndexOf};
     ghost use Rattle.cl_hierarchy.specs.Rows.{Rowed};
 
     ghost Value = { List Rowed };
 
     ghost view = { λ x. map (λ r. r.value) x.above.now ++ x.own.now.value ∷ [] };
 
-    ghost invariant = { λ x. IsIndexOf (λ r. r.value) x.table.entries (map (λ r. r.value) x.above.now ++ x.own.now.value ∷ []) };
+    ghost invariant = { λ x. IsRowIndexOf (λ r. r.value) x.table.entries (map (λ r. r.value) x.above.now ++ x.own.now.value ∷ []) };
 }
 
 /// Puts a row in front of those that stand there.
@@ -53,8 +53,8 @@ fn put<T: Told>(
     table: &mut Table<T>,
     row: &Arc<ClassRow<T>>,
 ) -> Result<(), AllocError>
-    ensures { OnOk result ((rows : List Rowed) → IsIndexOf (λ r. r.value) table.old.entries rows
-        → IsIndexOf (λ r. r.value) table.new.entries (row.now.value ∷ rows)) }
+    ensures { OnOk result ((rows : List Rowed) → IsRowIndexOf (λ r. r.value) table.old.entries rows
+        → IsRowIndexOf (λ r. r.value) table.new.entries (row.now.value ∷ rows)) }
 {
     let class = row.class().try_clone(alloc)?;
     let row = Arc::try_clone(row)?;

@@ -5,7 +5,7 @@ ghost use Rattle.std.specs.Prelude.{◌≡◌, List, length, map, IfOk, OnOk};
 ghost use Rattle.cl_model.specs.Classes.{class};
 ghost use Rattle.cl_hierarchy.specs.Lineages.{row_of};
 ghost use Rattle.cl_hierarchy.specs.Rows.{Rowed};
-ghost use Rattle.cl_hierarchy.specs.Supers.{ArePlaces, AreAllSupers, AreFirstOver, AreSupers, IsRowAt, Puts};
+ghost use Rattle.cl_hierarchy.specs.Supers.{ArePlaces, AreAllSupers, AreFirstOver, AreSupers, IsRowAt, AddsPlace};
 ghost use Rattle.cl_hierarchy.specs.Tours.{first_row, interface_row};
 ghost use Rattle.cl_hierarchy.specs.Trees.{superclass_in};
 
@@ -36,7 +36,7 @@ impl Drop for Supers {
 
 /// Keeps where the row of a class stands.
 fn put(alloc: Global, places: &mut Places, class: &Class, place: usize) -> Result<(), AllocError>
-    ensures { OnOk result (Puts places.old.entries class.now place places.new.entries) }
+    ensures { OnOk result (AddsPlace places.old.entries class.now place places.new.entries) }
 {
     let class = class.try_clone(alloc)?;
     places.insert(class, place)?;

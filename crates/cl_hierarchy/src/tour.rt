@@ -7,7 +7,7 @@ ghost use Rattle.cl_model.specs.Classes.{class, is_among};
 ghost use Rattle.cl_model.specs.Lineages.{alone, once};
 ghost use Rattle.cl_hierarchy.specs.Lineages.{IsRowIn, row_of};
 ghost use Rattle.cl_hierarchy.specs.Rows.{Rowed};
-ghost use Rattle.cl_hierarchy.specs.Tours.{TakesStep, first_row, interface_row, marks, opened, opening, over_from, step, stops, telling, tells_after, tells_before, told_at, toured, up_first, upwards_of, wants_up, with_class, with_row};
+ghost use Rattle.cl_hierarchy.specs.Tours.{TakesStep, first_row, interface_row, marks, opened, opening_unless_left, over_from, step, stops, telling, tells_after, tells_before, told_at, toured, up_first, upwards_of, wants_up, with_class, with_row};
 ghost use Rattle.cl_hierarchy.specs.declared.tour.Task.TheVariants as tasks;
 ghost use Rattle.cl_hierarchy.specs.Trees.{SupersBefore, kin_under, kins, superclass_in};
 
@@ -280,7 +280,7 @@ impl<T: Told> Tour<T> {
         row: &Arc<ClassRow<T>>,
         wanted: bool,
     ) -> Result<(), AllocError>
-        ensures { OnOk result (toured self.new ≡ opening order (F.rows table.now)
+        ensures { OnOk result (toured self.new ≡ opening_unless_left order (F.rows table.now)
             (telling (tells_before order wanted) (toured self.old) row.now.value) row.now.value) }
     {
         self.tell_if(alloc, order.tells_before(wanted), row)?;

@@ -8,7 +8,7 @@ ghost use Rattle.cl_hierarchy.specs.Ladders.{LeadUp, begins};
 ghost use Rattle.cl_hierarchy.specs.Lineages.{IsLined, above_in};
 ghost use Rattle.cl_hierarchy.specs.Rows.{Rowed};
 ghost use Rattle.cl_hierarchy.specs.Trees.{superclass_in};
-ghost use Rattle.cl_hierarchy.specs.Ways.{IsNext};
+ghost use Rattle.cl_hierarchy.specs.Ways.{IsNextAbove};
 ghost use Rattle.cl_model.specs.Classes.{class, is_among};
 ghost use Rattle.cl_model.specs.Lineages.{first};
 
@@ -45,7 +45,7 @@ fn next_up<'a, T: Told>(
     rows: &'a [Arc<ClassRow<T>>],
     under: &ClassRow<T>,
 ) -> Option<(&'a Arc<ClassRow<T>>, &'a [Arc<ClassRow<T>>])>
-    ensures next { IfSome result (λ p. IsNext (map (λ r. r.value) rows.now) under.now
+    ensures next { IfSome result (λ p. IsNextAbove (map (λ r. r.value) rows.now) under.now
         (map (λ r. r.value) p.1.now) p.0.now.value) }
     ensures shorter { IfSome result (λ p. length p.1.now < length rows.now) }
     ensures none { result ≡ None → None ≡ first (above_in (map (λ r. r.value) rows.now) under.now) }

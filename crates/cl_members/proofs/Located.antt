@@ -15,7 +15,7 @@ use Rattle.cl_hierarchy.specs.Lineages.{Lined, IsInOrder, IsRowIn, field_order, 
 use Rattle.cl_hierarchy.specs.Imposed.{AreOfReference}
 use Rattle.cl_members.specs.declared.fault.LookupFault.{LookupFault}
 use Rattle.cl_members.specs.declared.fault.LookupFault.TheVariants as faults
-use Rattle.cl_members.specs.Asking.{AsksField, AsksMethod, AsksInterfaceMethod, LooksUp, IsDeniedIn, IsFoundAs, IsLocated, Located, Reaches, asked_key, key_at, verdict_of}
+use Rattle.cl_members.specs.Asking.{AsksField, AsksMethod, AsksInterfaceMethod, LooksUp, IsDeniedIn, IsFoundAs, IsLocated, LocatedMember, Reaches, asked_key, key_at, verdict_of}
 use Rattle.cl_members.specs.Members.{field_in, method_in}
 use Rattle.cl_members.proofs.Keyed.{field_keyed, method_keyed}
 use Rattle.cl_members.proofs.Lists.{among_is}
@@ -59,7 +59,7 @@ pub located_is : (d c : Lined) (i : ℕ) (s : Symbol) (owner : Rowed) (flags : �
 located_is d c i s owner flags x k same told =
     subst (λ (y : Key). IsLocated (record { d = d; c = c; index = i; owner = owner; key = y; flags = flags })) (sym (same ∙ x.keyed)) (located_by d c i s owner flags x told)
 
-pub located_answers : (d c : Lined) (i : ℕ) (f : Located) → IsLocated f → f.d ≡ d → f.c ≡ c → f.index ≡ i → LooksUp d c i (Ok f)
+pub located_answers : (d c : Lined) (i : ℕ) (f : LocatedMember) → IsLocated f → f.d ≡ d → f.c ≡ c → f.index ≡ i → LooksUp d c i (Ok f)
 located_answers d c i f is from through at =
     subst (λ (y : ℕ). LooksUp d c y (Ok f)) at (
     subst (λ (y : Lined). LooksUp d y f.index (Ok f)) through (
@@ -85,13 +85,13 @@ located_copy d c e f i owner copy k flags p q r is =
 
 -- ---- the constraints of a member
 
-pub asks_key : (f : Located) → IsLocated f → key_at (kin_of f.d).file f.index ≡ Some f.key
+pub asks_key : (f : LocatedMember) → IsLocated f → key_at (kin_of f.d).file f.index ≡ Some f.key
 asks_key f is = ap (option_and_then asked_key) is.cites.found ∙ is.asks
 
 names_told : (o : Option Key) (key : Key) (names : List (List ℕ)) → o ≡ Some key → option_map (λ k. class_names k.descriptor) o ≡ Some names → names ≡ class_names key.descriptor
 names_told o key names e f = let told : Some names ≡ Some (class_names key.descriptor) = sym f ∙ ap (option_map (λ (k : Key). class_names k.descriptor)) e in cc
 
-pub are_of : (f : Located) → IsLocated f → (needs : List Need)
+pub are_of : (f : LocatedMember) → IsLocated f → (needs : List Need)
     → needs ≡ equals_of f.key f.owner.class.loader (kin_of f.d).class.loader → AreOfReference (kin_of f.d) (kin_of f.c) f.index needs
 are_of f is needs e = record {
   cites = is.cites;
@@ -101,14 +101,14 @@ are_of f is needs e = record {
 }
 
 -- the equalities that the code made are those of the member
-imposed_by : (f : Located) → IsLocated f → (names : List (List ℕ)) → option_map (λ k. class_names k.descriptor) (key_at (kin_of f.d).file f.index) ≡ Some names → (one other : ℕ) → one ≡ f.owner.class.loader
+imposed_by : (f : LocatedMember) → IsLocated f → (names : List (List ℕ)) → option_map (λ k. class_names k.descriptor) (key_at (kin_of f.d).file f.index) ≡ Some names → (one other : ℕ) → one ≡ f.owner.class.loader
     → other ≡ (kin_of f.d).class.loader → (needs : List Need) → needs ≡ map (λ (n : List ℕ). equal_between n one other) names → needs ≡ equals_of f.key f.owner.class.loader (kin_of f.d).class.loader
 imposed_by f is names told one other p q needs e =
     e ∙ ap (λ (l : ℕ). map (λ (n : List ℕ). equal_between n l other) names) p ∙ ap (λ (l : ℕ). map (λ (n : List ℕ). equal_between n f.owner.class.loader l) names) q
     ∙ ap (map (λ (n : List ℕ). equal_between n f.owner.class.loader (kin_of f.d).class.loader)) (names_told (key_at (kin_of f.d).file f.index) f.key names (asks_key f is) told)
 
 -- the same of what lies behind them in memory
-pub imposed_in : (f : Located) → IsLocated f → (file : Structure) (i : ℕ) (names : List (List ℕ)) (one other : Class) (needs : List Need) → file ≡ f.d.own.file → i ≡ f.index → option_map (λ k. class_names k.descriptor) (key_at (file_of file) i) ≡ Some names
+pub imposed_in : (f : LocatedMember) → IsLocated f → (file : Structure) (i : ℕ) (names : List (List ℕ)) (one other : Class) (needs : List Need) → file ≡ f.d.own.file → i ≡ f.index → option_map (λ k. class_names k.descriptor) (key_at (file_of file) i) ≡ Some names
     → one ≡ f.owner.class → other ≡ (kin_of f.d).class → needs ≡ map (λ (n : List ℕ). equal_between n one.loader other.loader) names → needs ≡ equals_of f.key f.owner.class.loader (kin_of f.d).class.loader
 imposed_in f is file i names one other needs at here told owner from e =
     imposed_by f is names

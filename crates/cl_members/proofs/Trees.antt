@@ -13,7 +13,7 @@ use Rattle.cl_model.proofs.Complete.{is_class}
 use Rattle.cl_model.proofs.Derivations.{all_map}
 use Rattle.cl_model.proofs.Derived.{all_both}
 use Rattle.cl_hierarchy.specs.Rows.{Rowed}
-use Rattle.cl_hierarchy.specs.Trees.{IsAfter, SupersBefore, forest, in_front, kin_named, kin_under, kins_after, kins, interfaces_in, superclass_in}
+use Rattle.cl_hierarchy.specs.Trees.{MayComeAfter, SupersBefore, forest, in_front, kin_named, kin_under, kins_after, kins, interfaces_in, superclass_in}
 use Rattle.cl_hierarchy.specs.Lineages.{Lined, IsInOrder, kin_of, upwards, field_order}
 use Rattle.cl_hierarchy.proofs.Ancestry.{keeps}
 use Rattle.cl_members.proofs.Lists.{find_append, or_assoc}
@@ -98,7 +98,7 @@ forest_told : (known : List Kin) → Closed known → (cs : List Class) → AllB
 forest_told known closed [] = tt
 forest_told known closed (c ∷ cs) = front_told known closed c (forest known cs) (kin_named known c) refl (forest_told known closed cs)
 
-grow : (known : List Kin) (r : Rowed) → Closed known → IsAfter known r → Closed (kin_under known r ∷ known)
+grow : (known : List Kin) (r : Rowed) → Closed known → MayComeAfter known r → Closed (kin_under known r ∷ known)
 grow known r closed after c k e = at (same_class c r.class) refl e
   where
     stays : (x : Kin) → Told known x → Told (kin_under known r ∷ known) x

@@ -55,24 +55,25 @@ pub record IsMemberOf (kind : FieldType → Key → Reference) (entry : Option R
   pub named : member_target target ≡ Some name
 
 -- the entry of d's pool at an index asks for such a member of the class c (5.4.3.2 to 5.4.3.4)
-abbrev pub Asks : (FieldType → Key → Reference) → Lined → Lined → ℕ → Type 0
-Asks kind d c index = IsMemberOf kind (reference (kin_of d).file index) (kin_of c).class.name
+abbrev pub AsksForMember : (FieldType → Key → Reference) → Lined → Lined → ℕ → Type 0
+AsksForMember kind d c index =
+    IsMemberOf kind (reference (kin_of d).file index) (kin_of c).class.name
 
 -- for a field (5.4.3.2)
 abbrev pub AsksField : Lined → Lined → ℕ → Type 0
-AsksField d c index = Asks (λ t k. ToField t k) d c index
+AsksField d c index = AsksForMember (λ t k. ToField t k) d c index
 
 -- for a method of a class (5.4.3.3)
 abbrev pub AsksMethod : Lined → Lined → ℕ → Type 0
-AsksMethod d c index = Asks (λ t k. ToMethod t k) d c index
+AsksMethod d c index = AsksForMember (λ t k. ToMethod t k) d c index
 
 -- for a method of an interface (5.4.3.4)
 abbrev pub AsksInterfaceMethod : Lined → Lined → ℕ → Type 0
-AsksInterfaceMethod d c index = Asks (λ t k. ToInterfaceMethod t k) d c index
+AsksInterfaceMethod d c index = AsksForMember (λ t k. ToInterfaceMethod t k) d c index
 
 -- a member that was looked up: for which entry of d, through which class c, whose it is, and its
 -- flags (5.4.3.2 to 5.4.3.4)
-pub record Located : Type 0 where
+pub record LocatedMember : Type 0 where
   pub d : Lined
   pub c : Lined
   pub index : ℕ
@@ -96,7 +97,7 @@ verdict_of (ToInterfaceMethod t asked) owner key = IsMethod owner key
 
 -- what is found is the end of what the reference asks of c, with its equalities as needs; a fault
 -- is its error (5.4.3.2 to 5.4.3.4)
-abbrev pub IsFoundAs : Kin → Reference → Kin → Result Located LookupFault → Type 0
+abbrev pub IsFoundAs : Kin → Reference → Kin → Result LocatedMember LookupFault → Type 0
 IsFoundAs d r c (Ok f) =
     resolve_in d r c
     ≡ ending_after (equals_of f.key f.owner.class.loader d.class.loader)
@@ -109,14 +110,14 @@ IsFoundAs d r c (Err (faults.Inaccessible owner)) = resolve_in d r c ≡ fail (I
 
 -- what is found is of this entry of d, through c, and a class of the lineage of c declares it
 -- (5.4.3)
-pub record IsOf (d c : Lined) (index : ℕ) (f : Located) : Type 0 where
+pub record IsFoundOf (d c : Lined) (index : ℕ) (f : LocatedMember) : Type 0 where
   pub from : f.d ≡ d
   pub through : f.c ≡ c
   pub at : f.index ≡ index
   pub owner : IsRowIn (rows_in c) f.owner
 
 -- the class whose member is not accessible is of the lineage of c (5.4.4)
-abbrev pub IsDeniedIn : Lined → Result Located LookupFault → Type 0
+abbrev pub IsDeniedIn : Lined → Result LocatedMember LookupFault → Type 0
 IsDeniedIn c (Ok f) = Unit {0}
 IsDeniedIn c (Err faults.Memory) = Unit {0}
 IsDeniedIn c (Err faults.NoSuchField) = Unit {0}
@@ -126,10 +127,11 @@ IsDeniedIn c (Err (faults.Inaccessible owner)) =
     (row : Rowed) × IsRowIn (rows_in c) row × (owner ≡ row.class)
 
 -- what looking up the member of an entry answers (5.4.3.2 to 5.4.3.4)
-pub record LooksUp (d c : Lined) (index : ℕ) (result : Result Located LookupFault) : Type 0 where
+pub record LooksUp (d c : Lined) (index : ℕ) (result : Result LocatedMember LookupFault)
+    : Type 0 where
   pub found : (r : Reference) → reference (kin_of d).file index ≡ Some r
       → IsFoundAs (kin_of d) r (kin_of c) result
-  pub of : IfOk result (IsOf d c index)
+  pub of : IfOk result (IsFoundOf d c index)
   pub denied : IsDeniedIn c result
 
 -- the key of the member that a reference asks for (4.4.2)
@@ -161,7 +163,7 @@ pub record Reaches (d c : Lined) (index : ℕ) (symbol : Symbol) (owner : Rowed)
 
 -- what was looked up is what its entry asks for: a class of the lineage of c has it, and it is the
 -- end of the reference (5.4.3.2 to 5.4.3.4)
-pub record IsLocated (f : Located) : Type 0 where
+pub record IsLocated (f : LocatedMember) : Type 0 where
   pub cites : CitesClass (kin_of f.d).file f.index (kin_of f.c).class.name
   pub asks : asked_key cites.cited ≡ Some f.key
   pub row : IsRowIn (rows_in f.c) f.owner

@@ -41,9 +41,9 @@ impl<T: Told> Drop for Found<T> {
 }
 
 impl<T: Told> Model for Found<T> {
-    ghost use Rattle.cl_members.specs.Asking.{IsLocated, Located};
+    ghost use Rattle.cl_members.specs.Asking.{IsLocated, LocatedMember};
 
-    ghost Value = { Located };
+    ghost Value = { LocatedMember };
 
     ghost view = { λ f. record { d = f.d; c = f.c; index = f.index; owner = f.owner.value; key = f.key; flags = f.flags } };
 

@@ -12,8 +12,8 @@ use Rattle.cl_model.specs.States.{State, Need, Entry, Equal, Verdict, settled_to
 use Rattle.cl_model.specs.Works.{Ask}
 use Rattle.cl_model.specs.Plans.{Request, Load, Resolve, Link, Plan, plan_needs, nodes_of, homes_of, asked_at_home, edges_of, is_equal, cost}
 use Rattle.cl_model.specs.Machine.{Setting, Step, Settle, HasLineage, IsPlan, after}
-use Rattle.cl_model.specs.Service.{Want, ToStand, ToPrepare, IsFirst, MayServe, serving, to_stand, to_link, WantsPast, HasWants, Settles, IsNextStep}
-use Rattle.cl_model.specs.Progress.{Takes}
+use Rattle.cl_model.specs.Service.{Want, ToStand, ToPrepare, IsFirst, MayServe, serving_step, to_stand, to_link, WantsPast, HasWants, SettlesByStep, IsNextStep}
+use Rattle.cl_model.specs.Progress.{TakesSteps}
 use Rattle.cl_model.proofs.Bind.{some_same, step_is, none_not_some}
 use Rattle.cl_model.proofs.Planned.{one_plan, one_lineage}
 use Rattle.cl_model.proofs.Reached.{reached}
@@ -55,7 +55,7 @@ record Marked (w : World) (r : Request) (p : Plan) (marks : List Mark) : Type 0 
   asks : (a : Ask) → In a p.asked → In (OfAsk a) marks
   equals : (name : Name) (a b : ℕ) → In (Equal name a b) (plan_needs p) → In (OfEqual name a b) marks
   prepares : (wants : List Want) (c : Class) → HasWants w r p wants → In (ToPrepare c) wants → In (OfClass c) marks
-  settles : (g : Setting) (s : State) (e : Step) → Settles g s r p e → (d : Class) × (i : ℕ) × (v : Verdict) × (e ≡ Settle d i v) × (settled_to s.settled d i ≡ None) × In (OfReference d i) marks
+  settles : (g : Setting) (s : State) (e : Step) → SettlesByStep g s r p e → (d : Class) × (i : ℕ) × (v : Verdict) × (e ≡ Settle d i v) × (settled_to s.settled d i ≡ None) × In (OfReference d i) marks
 
 needs_only : (ns : List Need) (c : Class) → In (ToPrepare c) (to_stand ns) → ⊥
 needs_only [] c h = h
@@ -122,7 +122,7 @@ past_prepares w r p wants c has h = elim (in_split (ToPrepare c) (to_stand p.own
 -- marks of what is asked, of these classes, of the equalities and of these references
 built : (w : World) (r : Request) (p : Plan) (cs : List Class) (refs : List Mark) → length cs ≤ length (nodes_of w p) → length refs ≤ 1
     → ((wants : List Want) (c : Class) → HasWants w r p wants → In (ToPrepare c) wants → In c cs)
-    → ((g : Setting) (s : State) (e : Step) → Settles g s r p e → (d : Class) × (i : ℕ) × (v : Verdict) × (e ≡ Settle d i v) × (settled_to s.settled d i ≡ None) × In (OfReference d i) refs)
+    → ((g : Setting) (s : State) (e : Step) → SettlesByStep g s r p e → (d : Class) × (i : ℕ) × (v : Verdict) × (e ≡ Settle d i v) × (settled_to s.settled d i ≡ None) × In (OfReference d i) refs)
     → (marks : List Mark) × Marked w r p marks × (length marks + 1 ≤ cost w p)
 built w r p cs refs few one prepares settles =
     let asks = map (λ (a : Ask). OfAsk a) (nodes_of w p) in
@@ -191,7 +191,7 @@ need_marked : (w : World) (r : Request) (p : Plan) (marks : List Mark) (n : Need
 need_marked w r p marks (Entry loader name place) is m h = m.asks (record { loader = loader; name = name }) (all_in (Asked p.asked) (plan_needs p) (Entry loader name place) (plan_covers w r p is) h)
 need_marked w r p marks (Equal name a b) is m h = m.equals name a b h
 
-want_closes : (w : World) (s : State) (r : Request) (p : Plan) (wants : List Want) (marks : List Mark) (x : Want) → HasWants w r p wants → Marked w r p marks → In x wants → MayServe s x → (m : Mark) × In m marks × Closes s (serving x) m
+want_closes : (w : World) (s : State) (r : Request) (p : Plan) (wants : List Want) (marks : List Mark) (x : Want) → HasWants w r p wants → Marked w r p marks → In x wants → MayServe s x → (m : Mark) × In m marks × Closes s (serving_step x) m
 want_closes w s r p wants marks (ToStand n) has m h may = (mark_of n, need_marked w r p marks n has.planned m (wants_needs w r p wants n has h), need_closes s n may)
 want_closes w s r p wants marks (ToPrepare c) has m h may = (OfClass c, m.prepares wants c has h, prepare_closes s c may)
 
@@ -203,11 +203,11 @@ step_closes g s r p marks e is m next =
           let k = want_closes g.world s r p next.wants marks x.0 (subst (λ (q : Plan). HasWants g.world r q next.wants) same next.wanted) m (first_in s next.wants x.0 x.1) x.2 in
           (k.0, k.1, subst (λ (f : Step). Closes s f k.0) (sym x.3) k.2)
       | inr x ↦
-          let k = m.settles g s e (subst (λ (q : Plan). Settles g s r q e) same x) in
+          let k = m.settles g s e (subst (λ (q : Plan). SettlesByStep g s r q e) same x) in
           (OfReference k.0 k.1, k.5, subst (λ (f : Step). Closes s f (OfReference k.0 k.1)) (sym k.3) (settle_closes s k.0 k.1 k.2 k.4))
     ]
 
-takes_left : (g : Setting) (r : Request) (p : Plan) (marks : List Mark) (n : ℕ) (s : State) (es : List Step) → IsPlan g.world r p → Marked g.world r p marks → Takes g r n s es → n ≤ left (open_in s) marks
+takes_left : (g : Setting) (r : Request) (p : Plan) (marks : List Mark) (n : ℕ) (s : State) (es : List Step) → IsPlan g.world r p → Marked g.world r p marks → TakesSteps g r n s es → n ≤ left (open_in s) marks
 takes_left g r p marks n s [] is m h = let e : n ≡ 0 = h in omega arith
 takes_left g r p marks n s (e ∷ es) is m (inl h) =
     let ih : h.0 ≤ left (open_in (after s e)) marks = takes_left g r p marks h.0 (after s e) es is m h.3 in
@@ -221,7 +221,7 @@ takes_left g r p marks n s (e ∷ es) is m (inr h) =
     omega arith
 
 -- the steps of a request's service, and its post, are within its cost
-pub takes_within : (g : Setting) (r : Request) (p : Plan) (n : ℕ) (s : State) (es : List Step) → IsPlan g.world r p → Takes g r n s es → n + 1 ≤ cost g.world p
+pub takes_within : (g : Setting) (r : Request) (p : Plan) (n : ℕ) (s : State) (es : List Step) → IsPlan g.world r p → TakesSteps g r n s es → n + 1 ≤ cost g.world p
 takes_within g r p n s es is h =
     let m = marked g.world r p is in
     let few : n ≤ left (open_in s) m.0 = takes_left g r p m.0 n s es is m.1 h in

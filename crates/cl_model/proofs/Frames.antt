@@ -14,7 +14,7 @@ use Rattle.cl_model.specs.Works.{Work, Made, Ask, ask, need, done, or_fail, unle
 use Rattle.cl_model.specs.Plans.{initiating, load_by, loads_above, derive_new, derive, load, Request, loaded_by, go_on_with, Plan, plan_after, plan_from, plan_needs, class_named, through, resolve_named, resolve, Resolve, ending}
 use Rattle.cl_model.specs.Machine.{Setting, IsPlan, AnswersPlan, IsClosed}
 use Rattle.cl_model.specs.Service.{IsNextNeed}
-use Rattle.cl_model.specs.Frames.{Frame, wanted, Judged, Accepts, KeepsAccepted, AllKept, IsFrame, IsFrames, path_of, absent_under, EndsHere, OfReference, Starts, Under}
+use Rattle.cl_model.specs.Frames.{Frame, wanted, Judged, AcceptsFirst, KeepsAccepted, AllKept, IsFrame, IsFrames, path_of, absent_under, EndsHere, OfReference, Starts, Under}
 use Rattle.cl_model.proofs.Bind.{some_same, ok_same, err_same, ok_not_err}
 use Rattle.cl_model.proofs.Heights.{loaded, found, sought, grown, others_after, checked, finished, interfaces_next, superclass_next, circle_or}
 use Rattle.cl_model.proofs.Derived.{derive_yields}
@@ -161,13 +161,13 @@ judged_at w s c t a wrong closed kept named fit = record {
 }
 
 -- those that were accepted are so in a closed state, and what stands behind them is wanted
-accepted_first : (w : World) (s : State) (c : Class) (Q : Above → Type 0) → IsClosed w s → (ts : List Class) (others : List Above) (a : Above) → Accepts w c ts others → AllByRecursion (Keeps s c.loader) ts → slice_get others (length ts) ≡ Some a → Q a → FirstWrong (IsAccepted w s c) Q others
+accepted_first : (w : World) (s : State) (c : Class) (Q : Above → Type 0) → IsClosed w s → (ts : List Class) (others : List Above) (a : Above) → AcceptsFirst w c ts others → AllByRecursion (Keeps s c.loader) ts → slice_get others (length ts) ≡ Some a → Q a → FirstWrong (IsAccepted w s c) Q others
 accepted_first w s c Q closed [] [] a fit kept h q = absurd cc
 accepted_first w s c Q closed [] (b ∷ others) a fit kept h q = inl (subst Q (sym (some_same b a h)) q)
 accepted_first w s c Q closed (t ∷ ts) [] a fit kept h q = absurd fit
 accepted_first w s c Q closed (t ∷ ts) (b ∷ others) a fit kept h q = inr (judged_at w s c t b None closed kept.0 fit.0 fit.1, accepted_first w s c Q closed ts others a fit.2 kept.1 h q)
 
-accepted_all : (w : World) (s : State) (c : Class) → IsClosed w s → (ts : List Class) (others : List Above) → Accepts w c ts others → AllByRecursion (Keeps s c.loader) ts → slice_get others (length ts) ≡ None → AllByRecursion (IsAccepted w s c) others
+accepted_all : (w : World) (s : State) (c : Class) → IsClosed w s → (ts : List Class) (others : List Above) → AcceptsFirst w c ts others → AllByRecursion (Keeps s c.loader) ts → slice_get others (length ts) ≡ None → AllByRecursion (IsAccepted w s c) others
 accepted_all w s c closed [] [] fit kept h = tt
 accepted_all w s c closed [] (b ∷ others) fit kept h = absurd cc
 accepted_all w s c closed (t ∷ ts) [] fit kept h = absurd fit

@@ -16,7 +16,7 @@ use Rattle.cl_model.specs.Machine.{Setting, HasLineage, IsPlan, IsClosed, Answer
 use Rattle.cl_model.specs.Service.{Want, ToStand, ToPrepare, FulfilsAll, IsFirst, to_stand, to_link, WantsPast, HasWants, IsNextNeed, IsNextStep, IsLinkedIn, ComesTo}
 use Rattle.cl_model.specs.Frames.{EndsHere}
 use Rattle.cl_model.specs.Tables.{Records, Bears}
-use Rattle.cl_model.specs.References.{GoesThrough, GoesOn}
+use Rattle.cl_model.specs.References.{GoesThrough, PlanGoesOn}
 use Rattle.cl_model.proofs.Ancestors.{lineage_has}
 use Rattle.cl_model.proofs.Bind.{some_same, step_is, none_not_some}
 use Rattle.cl_model.proofs.Closed.{met_both}
@@ -34,7 +34,7 @@ use Rattle.cl_model.proofs.Derived.{all_both}
 
 -- ---- plans whose request's class is recorded
 
-pub load_goes_on : (w : World) (s : State) (loader place : ℕ) (name : Name) → IsClosed w s → recorded s.records loader name ≡ Some place → GoesOn w s (Load loader name) (class name place) [] (IsClass (class name place))
+pub load_goes_on : (w : World) (s : State) (loader place : ℕ) (name : Name) → IsClosed w s → recorded s.records loader name ≡ Some place → PlanGoesOn w s (Load loader name) (class name place) [] (IsClass (class name place))
 load_goes_on w s loader place name closed rec =
     let q = Load loader name in
     let p = plan_exists w q in
@@ -52,7 +52,7 @@ load_goes_on w s loader place name closed rec =
     }
 
 pub resolve_goes_on : (w : World) (s : State) (loader place i : ℕ) (name : Name) (m : Made Verdict) → IsClosed w s → recorded s.records loader name ≡ Some place → GoesThrough w s (class name place) i m
-    → GoesOn w s (Resolve loader name i) (class name place) m.needs (ending m.ends)
+    → PlanGoesOn w s (Resolve loader name i) (class name place) m.needs (ending m.ends)
 resolve_goes_on w s loader place i name m closed rec goes =
     let q = Resolve loader name i in
     let d = class name place in
@@ -71,7 +71,7 @@ resolve_goes_on w s loader place i name m closed rec goes =
     }
 
 pub link_goes_on : (w : World) (s : State) (loader place : ℕ) (name : Name) (k : Kin) → IsClosed w s → recorded s.records loader name ≡ Some place → HasLineage w (class name place) k
-    → GoesOn w s (Link loader name) (class name place) (flat_map constraints_of (lineage k)) (IsLinked (class name place))
+    → PlanGoesOn w s (Link loader name) (class name place) (flat_map constraints_of (lineage k)) (IsLinked (class name place))
 link_goes_on w s loader place name k closed rec lin =
     let q = Link loader name in
     let d = class name place in
@@ -92,7 +92,7 @@ link_goes_on w s loader place name k closed rec lin =
 
 -- ---- where they end, and how they go on
 
-pub gone_on_ends : (w : World) (s : State) (r : Request) (c : Class) (needs : List Need) (v : Verdict) → GoesOn w s r c needs v → AllMet s needs → EndsHere w s r v
+pub gone_on_ends : (w : World) (s : State) (r : Request) (c : Class) (needs : List Need) (v : Verdict) → PlanGoesOn w s r c needs v → AllMet s needs → EndsHere w s r v
 gone_on_ends w s r c needs v goes all = record {
   plan = goes.plan;
   planned = goes.planned;
@@ -100,7 +100,7 @@ gone_on_ends w s r c needs v goes all = record {
   ends = goes.ends;
 }
 
-pub gone_on_next : (w : World) (s : State) (r : Request) (c : Class) (needs : List Need) (v : Verdict) (n : Need) → GoesOn w s r c needs v → IsNext s needs n → IsNextNeed w s r n
+pub gone_on_next : (w : World) (s : State) (r : Request) (c : Class) (needs : List Need) (v : Verdict) (n : Need) → PlanGoesOn w s r c needs v → IsNext s needs n → IsNextNeed w s r n
 gone_on_next w s r c needs v n goes h = record {
   plan = goes.plan;
   planned = goes.planned;

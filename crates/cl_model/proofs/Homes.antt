@@ -5,7 +5,7 @@ use Rattle.std.specs.Option.{option_or}
 use Rattle.std.proofs.lemmas.Bool.Decides.{nat_tests}
 use Rattle.std.proofs.lemmas.Cmp.{nat_eq_equiv}
 use Rattle.cl_classfile.specs.Files.{Name}
-use Rattle.cl_model.specs.Homes.{World, Loader, Order, ParentFirst, ChildFirst, own_home, first_home, in_order, undecided, decisive, home_at, home_below, home, is_java, is_loader}
+use Rattle.cl_model.specs.Homes.{World, WorldLoader, Order, ParentFirst, ChildFirst, own_home, first_home, in_order, undecided, decisive, home_by_earlier, home_below, home, is_java, is_loader}
 use Rattle.cl_model.specs.Content.{content_at}
 
 or_is : (a b : Option ℕ) (m : ℕ) → option_or a b ≡ Some m → (a ≡ Some m) ⊎ (b ≡ Some m)
@@ -28,15 +28,15 @@ order_is : (earlier : ℕ → Option ℕ) (o : Order) (above own : Option ℕ) (
 order_is earlier ParentFirst above own n m f g h = elim (or_is above own m h) [ inl k ↦ inl (f k) | inr k ↦ inr (g k) ]
 order_is earlier ChildFirst above own n m f g h = elim (or_is own above m h) [ inl k ↦ inr (g k) | inr k ↦ inl (f k) ]
 
-undecided_is : (w : World) (name : Name) (earlier : ℕ → Option ℕ) (n : ℕ) (l : Loader) (m : ℕ) → undecided w name earlier n l ≡ Some m → From earlier n m
+undecided_is : (w : World) (name : Name) (earlier : ℕ → Option ℕ) (n : ℕ) (l : WorldLoader) (m : ℕ) → undecided w name earlier n l ≡ Some m → From earlier n m
 undecided_is w name earlier n l m h =
     order_is earlier l.order (first_home earlier l.parents) (own_home w n name) n m (first_is earlier l.parents m) (if_is (is_some (content_at w.content n name)) n m) h
 
-decided_is : (w : World) (name : Name) (earlier : ℕ → Option ℕ) (n : ℕ) (l : Loader) (m : ℕ) (d : Option ℕ) → (elim d as (λ x. Option ℕ) [ Some target ↦ earlier target | None ↦ undecided w name earlier n l ]) ≡ Some m → From earlier n m
+decided_is : (w : World) (name : Name) (earlier : ℕ → Option ℕ) (n : ℕ) (l : WorldLoader) (m : ℕ) (d : Option ℕ) → (elim d as (λ x. Option ℕ) [ Some target ↦ earlier target | None ↦ undecided w name earlier n l ]) ≡ Some m → From earlier n m
 decided_is w name earlier n l m (Some target) h = inl (target, h)
 decided_is w name earlier n l m None h = undecided_is w name earlier n l m h
 
-at_is : (w : World) (name : Name) (earlier : ℕ → Option ℕ) (n m : ℕ) (l : Option Loader) → option_and_then (home_at w name earlier n) l ≡ Some m → From earlier n m
+at_is : (w : World) (name : Name) (earlier : ℕ → Option ℕ) (n m : ℕ) (l : Option WorldLoader) → option_and_then (home_by_earlier w name earlier n) l ≡ Some m → From earlier n m
 at_is w name earlier n m None h = absurd cc
 at_is w name earlier n m (Some l) h = decided_is w name earlier n l m (decisive l.imports name) h
 
@@ -45,7 +45,7 @@ own_equal n = nat_eq_equiv.refl n
 
 -- the home at a loader, or below
 abbrev AtOrBelow : World → Name → ℕ → ℕ → Bool → Option ℕ
-AtOrBelow w name n k b = elim b [ true ↦ option_and_then (home_at w name (home_below w name n) n) (slice_get w.loaders n) | false ↦ home_below w name n k ]
+AtOrBelow w name n k b = elim b [ true ↦ option_and_then (home_by_earlier w name (home_below w name n) n) (slice_get w.loaders n) | false ↦ home_below w name n k ]
 
 -- what is found at a loader is found there by its own home, if what is found below is
 step : (w : World) (name : Name) (n k m : ℕ) → ((p : ℕ) → home_below w name n p ≡ Some m → home_below w name (suc m) m ≡ Some m) → (b : Bool) → AtOrBelow w name n k b ≡ Some m → home_below w name (suc m) m ≡ Some m

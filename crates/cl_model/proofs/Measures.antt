@@ -5,13 +5,13 @@ use Rattle.std.proofs.lemmas.Option.{slice_get_within}
 use Rattle.cl_model.specs.declared.class.Class.{Class}
 use Rattle.cl_model.specs.Classes.{Above, supers}
 use Rattle.cl_model.specs.Frames.{Frame, wanted, accepting}
-use Rattle.cl_model.specs.Measures.{whole, behind, left, left_loading, left_ended}
+use Rattle.cl_model.specs.Measures.{whole, supers_behind, left, left_loading, left_ended}
 
 -- the last frame alone decides which is less
 left_less : (most : ℕ) (f g : ℕ → ℕ) (xs ys zs : List Frame) (room : ℕ) → length xs ≤ room → ((r : ℕ) → length xs + r ≡ room → left most f r ys < left most g r zs) → left most f room (xs ++ ys) < left most g room (xs ++ zs)
 left_less most f g [] ys zs room h k = k room (omega arith)
 left_less most f g (x ∷ xs) ys zs zero h k = absurd (omega arith)
-left_less most f g (x ∷ xs) ys zs (suc room) h k = add_less (suc (behind x * whole most room)) (left most f room (xs ++ ys)) (left most g room (xs ++ zs)) (left_less most f g xs ys zs room (omega arith) (λ r e. k r (omega arith)))
+left_less most f g (x ∷ xs) ys zs (suc room) h k = add_less (suc (supers_behind x * whole most room)) (left most f room (xs ++ ys)) (left most g room (xs ++ zs)) (left_less most f g xs ys zs room (omega arith) (λ r e. k r (omega arith)))
   where
     add_less : (a b c : ℕ) → b < c → (a + b) < (a + c)
     add_less a b c h = omega arith
@@ -29,9 +29,9 @@ more_than most f g xs zs room h k = subst (λ (n : ℕ). n < left most g room (x
 times_less : (b w most : ℕ) → b + 1 ≤ most → suc (b * w) + w < 3 + most * w
 times_less b w most h = let k : (b + 1) * w ≤ most * w = mul-le-mul_right w h in omega arith
 
-pushed_less : (most r : ℕ) (x : Frame) → behind x + 1 ≤ most → 1 ≤ r → left most (whole most) r (x ∷ []) < whole most r
+pushed_less : (most r : ℕ) (x : Frame) → supers_behind x + 1 ≤ most → 1 ≤ r → left most (whole most) r (x ∷ []) < whole most r
 pushed_less most zero x h k = absurd (omega arith)
-pushed_less most (suc r) x h k = times_less (behind x) (whole most r) most h
+pushed_less most (suc r) x h k = times_less (supers_behind x) (whole most r) most h
 
 pub push_falls : (most room : ℕ) (xs : List Frame) (x : Frame) (a : Above) → length xs < room → length (supers x.file) ≤ most → x.accepted ≡ [] → wanted x ≡ Some a → left_loading most room (xs ++ x ∷ []) < left_loading most room xs
 push_falls most room xs x a h k z want =
@@ -43,7 +43,7 @@ whole_more : (most r : ℕ) → 3 ≤ whole most r
 whole_more most zero = omega arith
 whole_more most (suc r) = omega arith
 
-behind_none : (x : Frame) → wanted x ≡ None → behind x ≡ 0
+behind_none : (x : Frame) → wanted x ≡ None → supers_behind x ≡ 0
 behind_none x h = past (supers x.file) (length x.accepted) h
   where
     past : {A : Type 0} (ys : List A) (k : ℕ) → slice_get ys k ≡ None → length ys - suc k ≡ 0
@@ -51,9 +51,9 @@ behind_none x h = past (supers x.file) (length x.accepted) h
     past (y ∷ ys) zero h = absurd cc
     past (y ∷ ys) (suc k) h = let r = past ys k h in omega arith
 
-rooted_less : (most r : ℕ) (x : Frame) → behind x ≡ 0 → 1 ≤ r → left most (λ n. 1) r (x ∷ []) < whole most r
+rooted_less : (most r : ℕ) (x : Frame) → supers_behind x ≡ 0 → 1 ≤ r → left most (λ n. 1) r (x ∷ []) < whole most r
 rooted_less most zero x h k = absurd (omega arith)
-rooted_less most (suc r) x h k = none_less (behind x) (whole most r) (most * whole most r) h
+rooted_less most (suc r) x h k = none_less (supers_behind x) (whole most r) (most * whole most r) h
   where
     none_less : (b w y : ℕ) → b ≡ 0 → suc (b * w) + 1 < 3 + y
     none_less b w y h = let e : b * w ≡ 0 * w = ap (λ (z : ℕ). z * w) h in omega arith
@@ -69,9 +69,9 @@ load_falls most room xs h =
 next_less : (b c w : ℕ) → c ≡ b + 1 → suc (b * w) + w < suc (c * w) + 1
 next_less b c w h = let e : c * w ≡ (b + 1) * w = ap (λ (z : ℕ). z * w) h in omega arith
 
-accepted_less : (most r : ℕ) (x y : Frame) → behind x ≡ behind y + 1 → 1 ≤ r → left most (whole most) r (y ∷ []) < left most (λ n. 1) r (x ∷ [])
+accepted_less : (most r : ℕ) (x y : Frame) → supers_behind x ≡ supers_behind y + 1 → 1 ≤ r → left most (whole most) r (y ∷ []) < left most (λ n. 1) r (x ∷ [])
 accepted_less most zero x y h k = absurd (omega arith)
-accepted_less most (suc r) x y h k = next_less (behind y) (behind x) (whole most r) h
+accepted_less most (suc r) x y h k = next_less (supers_behind y) (supers_behind x) (whole most r) h
 
 pub accept_falls : (most room : ℕ) (xs : List Frame) (x : Frame) (t : Class) (b : Above) → length xs < room → wanted (accepting x t) ≡ Some b → left_loading most room (xs ++ accepting x t ∷ []) < left_ended most room (xs ++ x ∷ [])
 accept_falls most room xs x t b h want =

@@ -12,7 +12,7 @@ use Rattle.cl_model.specs.Ancestors.{SupersFirst}
 use Rattle.cl_model.specs.States.{State, Need, Verdict, IsSettling, AllMet, Refused, IsNext, IsRecorded, recorded, MayAdd}
 use Rattle.cl_model.specs.Plans.{Request, Load, Resolve, Link, Plan, plan_needs}
 use Rattle.cl_model.specs.Machine.{Setting, Step, Settle, IsPlan, IsPastLoad, Answers, AnswersReference, MaySay, May, after, Run, IsClosed, Scheduled, Prepare, NextRound, HasLineage, MaySettle, MayGoOn, state_after, step_for}
-use Rattle.cl_model.specs.Service.{Want, ToStand, ToPrepare, Fulfils, FulfilsAll, IsFirst, MayServe, serving, to_stand, to_link, WantsPast, HasWants, Settles, IsNextStep, IsOver, ComesTo, IsBegun, IsLinkedIn, PassesRounds, AllServed}
+use Rattle.cl_model.specs.Service.{Want, ToStand, ToPrepare, Fulfils, FulfilsAll, IsFirst, MayServe, serving_step, to_stand, to_link, WantsPast, HasWants, SettlesByStep, IsNextStep, IsOver, ComesTo, IsBegun, IsLinkedIn, PassesRounds, AllServed}
 use Rattle.cl_model.proofs.Complete.{is_class, or_true}
 use Rattle.cl_model.proofs.Closed.{closed_after}
 use Rattle.cl_model.proofs.Progress.{IsKept, lineage_kept, link_next, next_may}
@@ -96,16 +96,16 @@ above_prepared w s before c [] all h = tt
 above_prepared w s before c (a ∷ others) all h = (record { place = h.0.place; found = h.0.found; holds = all (class a.name h.0.place) h.0.holds }, above_prepared w s before c others all h.1)
 
 -- the first unfulfilled of what links these classes
-links_may : (g : Setting) (s : State) (before : List Class) (ks : List Kin) (x : Want) → AllByRecursion (IsKept g.world s) ks → SupersFirst g.world before ks → Prepared s before → IsFirst s (flat_map to_link ks) x → MayServe s x → May g s (serving x)
+links_may : (g : Setting) (s : State) (before : List Class) (ks : List Kin) (x : Want) → AllByRecursion (IsKept g.world s) ks → SupersFirst g.world before ks → Prepared s before → IsFirst s (flat_map to_link ks) x → MayServe s x → May g s (serving_step x)
 links_may g s before [] x kept order all h may = absurd h
 links_may g s before (k ∷ ks) x kept order all h may = elim (first_split s (to_link k) (flat_map to_link ks) x h) [
   | inr a ↦ links_may g s (k.class ∷ before) ks x kept.1 order.1 (prepared_more s before k.class all (link_done s (constraints_of k) k.class a.0).1) a.1 may
   | inl a ↦ elim (link_first s k x a) [
     | inl n ↦
-        subst (λ (y : Want). May g s (serving y)) (sym n.1)
+        subst (λ (y : Want). May g s (serving_step y)) (sym n.1)
         (link_next g s (k ∷ []) n.0 (kept.0, tt) (next_left s (constraints_of k) [] n.0 n.2) (subst (λ (y : Want). MayServe s y) n.1 may))
     | inr p ↦
-        subst (λ (y : Want). May g s (serving y)) (sym p.0)
+        subst (λ (y : Want). May g s (serving_step y)) (sym p.0)
         (record {
           unprepared = subst (λ (y : Want). MayServe s y) p.0 may;
           preparable = record {
@@ -121,20 +121,20 @@ links_may g s before (k ∷ ks) x kept order all h may = elim (first_split s (to
 
 -- ---- what comes next may happen
 
-needs_may : (g : Setting) (s : State) (r : Request) (p : Plan) (x : Want) → IsClosed g.world s → IsPlan g.world r p → IsFirst s (to_stand (plan_needs p)) x → MayServe s x → May g s (serving x)
+needs_may : (g : Setting) (s : State) (r : Request) (p : Plan) (x : Want) → IsClosed g.world s → IsPlan g.world r p → IsFirst s (to_stand (plan_needs p)) x → MayServe s x → May g s (serving_step x)
 needs_may g s r p (ToStand n) closed is h may = next_may g s r p n closed is (next_of s (plan_needs p) n h) may
 needs_may g s r p (ToPrepare c) closed is h may = absurd (needs_alone s (plan_needs p) c h)
 
-own_may : (g : Setting) (s : State) (r : Request) (p : Plan) (x : Want) → IsClosed g.world s → IsPlan g.world r p → IsFirst s (to_stand p.own) x → MayServe s x → May g s (serving x)
+own_may : (g : Setting) (s : State) (r : Request) (p : Plan) (x : Want) → IsClosed g.world s → IsPlan g.world r p → IsFirst s (to_stand p.own) x → MayServe s x → May g s (serving_step x)
 own_may g s r p (ToStand n) closed is h may = next_may g s r p n closed is (next_left s p.own p.more n (next_of s p.own n h)) may
 own_may g s r p (ToPrepare c) closed is h may = absurd (needs_alone s p.own c h)
 
 -- wants that are needs alone
-alone_may : (g : Setting) (s : State) (r : Request) (p : Plan) (past wants : List Want) (x : Want) → IsClosed g.world s → IsPlan g.world r p → past ≡ to_stand p.more → wants ≡ to_stand p.own ++ past → IsFirst s wants x → MayServe s x → May g s (serving x)
+alone_may : (g : Setting) (s : State) (r : Request) (p : Plan) (past wants : List Want) (x : Want) → IsClosed g.world s → IsPlan g.world r p → past ≡ to_stand p.more → wants ≡ to_stand p.own ++ past → IsFirst s wants x → MayServe s x → May g s (serving_step x)
 alone_may g s r p past wants x closed is e whole h may =
     needs_may g s r p x closed is (subst (λ (ws : List Want). IsFirst s ws x) (whole ∙ ap (λ (ws : List Want). to_stand p.own ++ ws) e ∙ sym (to_stand_both p.own p.more)) h) may
 
-past_may : (g : Setting) (s : State) (r : Request) (p : Plan) (o : Option Class) (past wants : List Want) (x : Want) → IsClosed g.world s → IsPlan g.world r p → p.reached ≡ o → WantsPast g.world r p o past → wants ≡ to_stand p.own ++ past → IsFirst s wants x → MayServe s x → May g s (serving x)
+past_may : (g : Setting) (s : State) (r : Request) (p : Plan) (o : Option Class) (past wants : List Want) (x : Want) → IsClosed g.world s → IsPlan g.world r p → p.reached ≡ o → WantsPast g.world r p o past → wants ≡ to_stand p.own ++ past → IsFirst s wants x → MayServe s x → May g s (serving_step x)
 past_may g s (Load loader name) p o past wants x closed is reach follows whole h may = alone_may g s (Load loader name) p past wants x closed is follows whole h may
 past_may g s (Resolve loader name i) p o past wants x closed is reach follows whole h may = alone_may g s (Resolve loader name i) p past wants x closed is follows whole h may
 past_may g s (Link loader name) p None past wants x closed is reach follows whole h may = alone_may g s (Link loader name) p past wants x closed is follows whole h may
@@ -150,7 +150,7 @@ past_may g s (Link loader name) p (Some c) past wants x closed is reach follows 
           links_may g s [] (lineage k) x kept (lineage_first g.world k at.1) (λ d e. absurd cc) (subst (λ (ws : List Want). IsFirst s ws x) follows.2 a.1) may
     ]
 
-settles_may : (g : Setting) (s : State) (r : Request) (p : Plan) (e : Step) → Settles g s r p e → May g s e
+settles_may : (g : Setting) (s : State) (r : Request) (p : Plan) (e : Step) → SettlesByStep g s r p e → May g s e
 settles_may g s (Load loader name) p e h = absurd h
 settles_may g s (Resolve loader name i) p e h = subst (λ (f : Step). May g s f) (sym h.2.2) h.2.1
 settles_may g s (Link loader name) p e h = absurd h
@@ -204,7 +204,7 @@ answered_none s (n ∷ ns) ends v x (inr a) (inl e) may = let add : MayServe s (
 answered_none s (n ∷ ns) ends v x (inr a) (inr h) may = a.0.unmet h.0
 
 -- where the reference may be settled none of the needs may be made
-settled_none : (g : Setting) (s : State) (r : Request) (p q : Plan) (wants : List Want) (e : Step) (x : Want) → HasWants g.world r q wants → IsPlan g.world r p → Settles g s r p e → IsFirst s wants x → MayServe s x → ⊥
+settled_none : (g : Setting) (s : State) (r : Request) (p q : Plan) (wants : List Want) (e : Step) (x : Want) → HasWants g.world r q wants → IsPlan g.world r p → SettlesByStep g s r p e → IsFirst s wants x → MayServe s x → ⊥
 settled_none g s (Load loader name) p q wants e x has is h first may = h
 settled_none g s (Link loader name) p q wants e x has is h first may = h
 settled_none g s (Resolve loader name i) p q wants e x has is h first may =
@@ -213,7 +213,7 @@ settled_none g s (Resolve loader name i) p q wants e x has is h first may =
     let plan_of : answered.plan ≡ p = one_plan g.world (Resolve loader name i) answered.plan p answered.planned is in
     answered_none s (plan_needs p) p.ends h.2.0 x (subst (λ (y : Plan). Answers s (plan_needs y) y.ends h.2.0) plan_of answered.answered) (subst (λ (ws : List Want). IsFirst s ws x) same first) may
 
-one_settled : (g : Setting) (s : State) (r : Request) (p q : Plan) (e f : Step) → p ≡ q → Settles g s r p e → Settles g s r q f → e ≡ f
+one_settled : (g : Setting) (s : State) (r : Request) (p q : Plan) (e f : Step) → p ≡ q → SettlesByStep g s r p e → SettlesByStep g s r q f → e ≡ f
 one_settled g s (Load loader name) p q e f same h k = absurd h
 one_settled g s (Link loader name) p q e f same h k = absurd h
 one_settled g s (Resolve loader name i) p q e f same h k =
@@ -227,7 +227,7 @@ one_next_step g s r e f a b =
     let same : b.wants ≡ a.wants = wants_same g.world r b.plan a.plan b.wants a.wants b.wanted a.wanted in
     elim (a.next) [
       | inl x ↦ elim (b.next) [
-        | inl y ↦ x.3 ∙ ap serving (one_first s a.wants x.0 y.0 x.1 (subst (λ (ws : List Want). IsFirst s ws y.0) same y.1) x.2 y.2) ∙ sym y.3
+        | inl y ↦ x.3 ∙ ap serving_step (one_first s a.wants x.0 y.0 x.1 (subst (λ (ws : List Want). IsFirst s ws y.0) same y.1) x.2 y.2) ∙ sym y.3
         | inr y ↦ absurd (settled_none g s r b.plan a.plan a.wants f x.0 a.wanted b.wanted.planned y x.1 x.2)
       ]
       | inr x ↦ elim (b.next) [
@@ -255,7 +255,7 @@ over_none s wants x (inr n) h may = refused_none s wants n.0 x n.1 n.2 h may
 none_some : {v : Verdict} → None ≡ Some v → ⊥
 none_some h = cc
 
-unsettled_none : (g : Setting) (s : State) (r : Request) (p : Plan) (v : Verdict) (e : Step) → MaySay g s r v → IsPlan g.world r p → Settles g s r p e → ⊥
+unsettled_none : (g : Setting) (s : State) (r : Request) (p : Plan) (v : Verdict) (e : Step) → MaySay g s r v → IsPlan g.world r p → SettlesByStep g s r p e → ⊥
 unsettled_none g s (Load loader name) p v e say is h = h
 unsettled_none g s (Link loader name) p v e say is h = h
 unsettled_none g s (Resolve loader name i) p v e say is h =
@@ -305,7 +305,7 @@ links_first s (b ∷ before) behind k x all h = first_right s (to_link b) (flat_
 
 -- what links a class of the lineage comes next
 link_step : (g : Setting) (s : State) (loader : ℕ) (name : Name) (p : Plan) (c : Class) (l k : Kin) (before behind : List Kin) (x : Want) → IsPlan g.world (Link loader name) p → p.reached ≡ Some c → AllMet s p.own → HasLineage g.world c l → lineage l ≡ before ++ k ∷ behind
-    → AllByRecursion (IsLinkedIn s) before → IsFirst s (to_link k) x → MayServe s x → IsNextStep g s (Link loader name) (serving x)
+    → AllByRecursion (IsLinkedIn s) before → IsFirst s (to_link k) x → MayServe s x → IsNextStep g s (Link loader name) (serving_step x)
 link_step g s loader name p c l k before behind x is reach met lin parts all h may =
     let past = flat_map to_link (lineage l) in
     record {

@@ -9,7 +9,7 @@ use Rattle.std.proofs.lemmas.Cmp.{nat_eq_equiv}
 use Rattle.std.proofs.lemmas.Bool.Decides.{nat_tests}
 use Rattle.std.proofs.Common.{arith}
 use Rattle.cl_classfile.specs.Files.{Name}
-use Rattle.cl_model.specs.Homes.{World, Loader, Order, ParentFirst, ChildFirst, own_home, first_home, in_order, undecided, decisive, home_at, home_below, home, is_java, is_loader}
+use Rattle.cl_model.specs.Homes.{World, WorldLoader, Order, ParentFirst, ChildFirst, own_home, first_home, in_order, undecided, decisive, home_by_earlier, home_below, home, is_java, is_loader}
 use Rattle.cl_model.specs.Probes.{in_turn, route_at, route_below, route_from, route, is_in, first_places, probes, has_own, EachOnce}
 use Rattle.cl_model.proofs.Homes.{first_is_loader}
 use Rattle.cl_model.proofs.Derived.{all_both}
@@ -53,14 +53,14 @@ first_finds hit homes earlier h (p ∷ ps) =
     ∙ ap (λ (o : Option ℕ). option_or (find hit (earlier p)) o) (first_finds hit homes earlier h ps)
     ∙ sym (find-append hit (earlier p) (flat_map earlier ps))
 
-at_finds : (w : World) (name : Name) (homes : ℕ → Option ℕ) (routes : ℕ → List ℕ) (n : ℕ) (l : Loader) (d : Option ℕ) → ((m : ℕ) → homes m ≡ find (has_own w name) (routes m))
+at_finds : (w : World) (name : Name) (homes : ℕ → Option ℕ) (routes : ℕ → List ℕ) (n : ℕ) (l : WorldLoader) (d : Option ℕ) → ((m : ℕ) → homes m ≡ find (has_own w name) (routes m))
     → elim d [ Some target ↦ homes target | None ↦ undecided w name homes n l ] ≡ find (has_own w name) (elim d [ Some target ↦ routes target | None ↦ in_turn l.order (flat_map routes l.parents) (n ∷ []) ])
 at_finds w name homes routes n l (Some target) same = same target
 at_finds w name homes routes n l None same =
     turn_finds (has_own w name) l.order (first_home homes l.parents) (own_home w n name) (flat_map routes l.parents) (n ∷ []) (first_finds (has_own w name) homes routes same l.parents) refl
 
-routed_finds : (w : World) (name : Name) (homes : ℕ → Option ℕ) (routes : ℕ → List ℕ) (n : ℕ) (o : Option Loader) → ((m : ℕ) → homes m ≡ find (has_own w name) (routes m))
-    → option_and_then (home_at w name homes n) o ≡ find (has_own w name) (unwrap_or (option_map (route_at name routes n) o) [])
+routed_finds : (w : World) (name : Name) (homes : ℕ → Option ℕ) (routes : ℕ → List ℕ) (n : ℕ) (o : Option WorldLoader) → ((m : ℕ) → homes m ≡ find (has_own w name) (routes m))
+    → option_and_then (home_by_earlier w name homes n) o ≡ find (has_own w name) (unwrap_or (option_map (route_at name routes n) o) [])
 routed_finds w name homes routes n None same = refl
 routed_finds w name homes routes n (Some l) same = at_finds w name homes routes n l (decisive l.imports name) same
 
@@ -69,7 +69,7 @@ below_finds w name zero loader = refl
 below_finds w name (suc n) loader = at (λ m. below_finds w name n m) (loader == n)
   where
     at : ((m : ℕ) → home_below w name n m ≡ find (has_own w name) (route_below w.loaders name n m)) → (b : Bool)
-        → (elim b [ true ↦ option_and_then (home_at w name (home_below w name n) n) (slice_get w.loaders n) | false ↦ home_below w name n loader ])
+        → (elim b [ true ↦ option_and_then (home_by_earlier w name (home_below w name n) n) (slice_get w.loaders n) | false ↦ home_below w name n loader ])
         ≡ find (has_own w name) (elim b [ true ↦ unwrap_or (option_map (route_at name (route_below w.loaders name n) n) (slice_get w.loaders n)) [] | false ↦ route_below w.loaders name n loader ])
     at same true = routed_finds w name (home_below w name n) (route_below w.loaders name n) n (slice_get w.loaders n) same
     at same false = same loader
@@ -141,12 +141,12 @@ loader_is [] n x h = absurd cc
 loader_is (y ∷ ys) zero x h = grind (arith, nat_tests)
 loader_is (y ∷ ys) (suc n) x h = let k : nat_lt n (length ys) ≡ true = loader_is ys n x h in grind (arith, nat_tests)
 
-at_are : (w : World) (routes : ℕ → List ℕ) (n : ℕ) (l : Loader) (d : Option ℕ) → ((m : ℕ) → AreLoaders w (routes m)) → is_loader w n ≡ true
+at_are : (w : World) (routes : ℕ → List ℕ) (n : ℕ) (l : WorldLoader) (d : Option ℕ) → ((m : ℕ) → AreLoaders w (routes m)) → is_loader w n ≡ true
     → AreLoaders w (elim d [ Some target ↦ routes target | None ↦ in_turn l.order (flat_map routes l.parents) (n ∷ []) ])
 at_are w routes n l (Some target) are own = are target
 at_are w routes n l None are own = turn_are w l.order (flat_map routes l.parents) (n ∷ []) (flat_are w routes l.parents are) (own, tt)
 
-routed_are : (w : World) (name : Name) (routes : ℕ → List ℕ) (n : ℕ) (o : Option Loader) → slice_get w.loaders n ≡ o → ((m : ℕ) → AreLoaders w (routes m)) → AreLoaders w (unwrap_or (option_map (route_at name routes n) o) [])
+routed_are : (w : World) (name : Name) (routes : ℕ → List ℕ) (n : ℕ) (o : Option WorldLoader) → slice_get w.loaders n ≡ o → ((m : ℕ) → AreLoaders w (routes m)) → AreLoaders w (unwrap_or (option_map (route_at name routes n) o) [])
 routed_are w name routes n None e are = tt
 routed_are w name routes n (Some l) e are = at_are w routes n l (decisive l.imports name) are (loader_is w.loaders n l e)
 

@@ -8,7 +8,7 @@ use Rattle.std.proofs.lemmas.Bool.{eqb-true, and_parts}
 use Rattle.std.proofs.Common.{nat_eq, ◌≢◌, ◌<◌, arith, slice_index_or}
 use Rattle.std.proofs.lemmas.Cmp.{nat_eq_equiv, nat_list_eq_equiv}
 use Rattle.cl_classfile.specs.Files.{Name, same_name}
-use Rattle.cl_model.specs.States.{State, start, Record, Equality, Need, Entry, Equal, Verdict, recorded, Linked, IsPath, Joined, Violated, Met, Clashes, Refused, added, IsFresh}
+use Rattle.cl_model.specs.States.{State, start, Record, Equality, Need, Entry, Equal, Verdict, recorded, Linked, IsPathBetween, Joined, Violated, Met, Clashes, Refused, added, IsFresh}
 use Rattle.cl_model.specs.Machine.{Setting, Step, Define, Initiate, Constrain, Settle, Prepare, Post, NextRound, Stray, May, after, state_after, Run, Answers}
 
 pub run_goes_on : (g : Setting) (s : State) (es : List Step) (e : Step) → Run g s es → May g (state_after s es) e → Run g s (es ++ e ∷ [])
@@ -56,7 +56,7 @@ run_later s (e ∷ es) = later_later s (after s e) (state_after s (e ∷ es)) (a
 pub records_stay : (s : State) (es : List Step) (loader place : ℕ) (name : Name) → recorded s.records loader name ≡ Some place → recorded (state_after s es).records loader name ≡ Some place
 records_stay s es loader place name h = (run_later s es).records loader place name h
 
-path_later : (s t : State) → IsLater s t → (name : Name) (a : ℕ) (path : List ℕ) (b : ℕ) → IsPath s.equalities name a path b → IsPath t.equalities name a path b
+path_later : (s t : State) → IsLater s t → (name : Name) (a : ℕ) (path : List ℕ) (b : ℕ) → IsPathBetween s.equalities name a path b → IsPathBetween t.equalities name a path b
 path_later s t l name a [] b h = h
 path_later s t l name a (c ∷ cs) b h =
     (record { equality = h.0.equality; imposed = l.equalities h.0.equality h.0.imposed; named = h.0.named; ends = h.0.ends }, path_later s t l name c cs b h.1)
@@ -90,8 +90,8 @@ violated_as s t r e v =
 
 -- ---- paths
 
-path_then : (ks : List Equality) (name : Name) (a : ℕ) (path : List ℕ) (b : ℕ) → IsPath ks name a path b → (more : List ℕ) (c : ℕ) → IsPath ks name b more c → IsPath ks name a (path ++ more) c
-path_then ks name a [] b h more c k = subst (λ (x : ℕ). IsPath ks name x more c) (sym h) k
+path_then : (ks : List Equality) (name : Name) (a : ℕ) (path : List ℕ) (b : ℕ) → IsPathBetween ks name a path b → (more : List ℕ) (c : ℕ) → IsPathBetween ks name b more c → IsPathBetween ks name a (path ++ more) c
+path_then ks name a [] b h more c k = subst (λ (x : ℕ). IsPathBetween ks name x more c) (sym h) k
 path_then ks name a (d ∷ ds) b h more c k = (h.0, path_then ks name d ds b h.1 more c k)
 
 pub joined_then : (ks : List Equality) (name : Name) (a b c : ℕ) → Joined ks name a b → Joined ks name b c → Joined ks name a c
@@ -106,7 +106,7 @@ linked_back ks name a b h = record { equality = h.equality; imposed = h.imposed;
 pub joined_link : (ks : List Equality) (name : Name) (a b : ℕ) → Linked ks name a b → Joined ks name a b
 joined_link ks name a b h = record { path = b ∷ []; along = (h, refl) }
 
-path_back : (ks : List Equality) (name : Name) (a : ℕ) (path : List ℕ) (b : ℕ) → IsPath ks name a path b → Joined ks name b a
+path_back : (ks : List Equality) (name : Name) (a : ℕ) (path : List ℕ) (b : ℕ) → IsPathBetween ks name a path b → Joined ks name b a
 path_back ks name a [] b h = record { path = []; along = sym h }
 path_back ks name a (c ∷ cs) b h = joined_then ks name b c a (path_back ks name c cs b h.1) (joined_link ks name c a (linked_back ks name a c h.0))
 
@@ -264,7 +264,7 @@ through_edge : (ks : List Equality) (e : Equality) (name : Name) (x c y : ℕ) �
 through_edge ks e name x c y (inl k) t = across_edge ks name e.one e.other x c y k.0 k.1 (across_of ks e name c y t)
 through_edge ks e name x c y (inr k) t = across_back ks name e.one e.other x c y k.0 k.1 (across_of ks e name c y t)
 
-pub path_added : (ks : List Equality) (e : Equality) (name : Name) (x : ℕ) (path : List ℕ) (y : ℕ) → IsPath (ks ++ e ∷ []) name x path y → Through ks e name x y
+pub path_added : (ks : List Equality) (e : Equality) (name : Name) (x : ℕ) (path : List ℕ) (y : ℕ) → IsPathBetween (ks ++ e ∷ []) name x path y → Through ks e name x y
 path_added ks e name x [] y h = inl (record { path = []; along = h })
 path_added ks e name x (c ∷ cs) y h =
     elim (link_added ks e name x c h.0) [

@@ -6,7 +6,7 @@ use Rattle.cl_model.specs.declared.class.Class.{Class}
 use Rattle.cl_model.specs.Homes.{World}
 use Rattle.cl_model.specs.Classes.{class, Error, ClassNotFound, IsGood}
 use Rattle.cl_model.specs.Lineages.{Kin, Bare, alone}
-use Rattle.cl_model.specs.States.{State, Verdict, Need, Met, Said, Entry, Equal, Equality, Joined, IsPath, MayAdd, answer_to, recorded, settled_to, start}
+use Rattle.cl_model.specs.States.{State, Verdict, Need, Met, Said, Entry, Equal, Equality, Joined, IsPathBetween, MayAdd, answer_to, recorded, settled_to, start}
 use Rattle.cl_model.specs.Works.{Made}
 use Rattle.cl_model.specs.Plans.{derive, resolve, Plan, Request}
 use Rattle.cl_model.specs.Machine.{HasLineage, IsResolution, Answers, Setting, Scheduled, IsPlan, RestsOn, MayPost, MaySay, NextRound, Prepare, state_after}
@@ -24,9 +24,9 @@ the_made (Some m) = m
 
 -- without an equality a loader is joined with itself alone
 pub joined_alone : (ks : List Equality) (name : Name) (a b : ℕ) → ks ≡ [] → Joined ks name a b → a ≡ b
-joined_alone ks name a b none h = along h.path (subst (λ (es : List Equality). IsPath es name a h.path b) none h.along)
+joined_alone ks name a b none h = along h.path (subst (λ (es : List Equality). IsPathBetween es name a h.path b) none h.along)
   where
-    along : (path : List ℕ) → IsPath [] name a path b → a ≡ b
+    along : (path : List ℕ) → IsPathBetween [] name a path b → a ≡ b
     along [] h = h
     along (c ∷ cs) h = absurd (no_equality h.0.equality h.0.imposed)
 

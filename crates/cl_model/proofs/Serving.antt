@@ -8,7 +8,7 @@ use Rattle.cl_model.specs.States.{State, Need, Entry, Equal, BadEntry, IsClass, 
 use Rattle.cl_model.specs.Plans.{Request, Load, Resolve, Link, Plan, plan, plan_needs}
 use Rattle.cl_model.specs.Machine.{Setting, Step, Define, Initiate, Answers, state_after, Post}
 use Rattle.cl_model.specs.Steps.{IsOfService}
-use Rattle.cl_model.specs.Service.{Want, ToStand, ToPrepare, serving, Settles, IsNextStep, MayEnd}
+use Rattle.cl_model.specs.Service.{Want, ToStand, ToPrepare, serving_step, SettlesByStep, IsNextStep, MayEnd}
 use Rattle.cl_model.specs.Examples.{boot, the_root, load_of}
 use Rattle.cl_model.specs.ExampleReferences.{service}
 use Rattle.cl_model.specs.ExampleRuns.{over}
@@ -25,12 +25,12 @@ one_of_two : (b : Bool) (c : Class) (name : Name) (place loader : ℕ) → IsOfS
 one_of_two true c name place loader = tt
 one_of_two false c name place loader = tt
 
-serving_is : (x : Want) → IsOfService (serving x)
+serving_is : (x : Want) → IsOfService (serving_step x)
 serving_is (ToStand (Entry loader name place)) = one_of_two (loader == place) (class name place) name place loader
 serving_is (ToStand (Equal name one other)) = tt
 serving_is (ToPrepare c) = tt
 
-settles : (g : Setting) (s : State) (r : Request) (p : Plan) (e : Step) → Settles g s r p e → IsOfService e
+settles : (g : Setting) (s : State) (r : Request) (p : Plan) (e : Step) → SettlesByStep g s r p e → IsOfService e
 settles g s (Load loader name) p e h = absurd h
 settles g s (Resolve loader name i) p e h = subst (λ (d : Step). IsOfService d) (sym h.2.2) tt
 settles g s (Link loader name) p e h = absurd h

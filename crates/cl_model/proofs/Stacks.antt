@@ -13,7 +13,7 @@ use Rattle.cl_model.specs.Machine.{Setting, Step, state_after, AnswersPlan}
 use Rattle.cl_model.specs.Service.{IsNextNeed}
 use Rattle.cl_model.proofs.Bind.{some_same}
 use Rattle.cl_model.proofs.Runs.{records_stay}
-use Rattle.cl_model.specs.Frames.{Frame, wanted, Judged, Accepts, NamedAs, KeepsAccepted, AllKept, IsFrame, IsFrames, path_of, asking, kept_of, accepting}
+use Rattle.cl_model.specs.Frames.{Frame, wanted, Judged, AcceptsFirst, NamedAs, KeepsAccepted, AllKept, IsFrame, IsFrames, path_of, asking, kept_of, accepting}
 use Rattle.cl_model.proofs.Gone.{refused_answer}
 
 -- ---- frames
@@ -37,9 +37,9 @@ frame_pop w path loader al name an (y ∷ ys) x f =
     ((f.0, (f.1.0, f.1.1, r.0)), r.1, r.2)
 
 -- what was accepted, and one more that fits
-fit_more : (w : World) (c : Class) (ts : List Class) (t : Class) (others : List Above) (a : Above) → Accepts w c ts others → slice_get others (length ts) ≡ Some a → t.name ≡ a.name → Judged w c a.role None t → Accepts w c (ts ++ t ∷ []) others
+fit_more : (w : World) (c : Class) (ts : List Class) (t : Class) (others : List Above) (a : Above) → AcceptsFirst w c ts others → slice_get others (length ts) ≡ Some a → t.name ≡ a.name → Judged w c a.role None t → AcceptsFirst w c (ts ++ t ∷ []) others
 fit_more w c [] t [] a fit h named f = absurd cc
-fit_more w c [] t (b ∷ others) a fit h named f = let same : b ≡ a = some_same b a h in subst (λ (z : Above). Accepts w c (t ∷ []) (z ∷ others)) (sym same) (named, f, tt)
+fit_more w c [] t (b ∷ others) a fit h named f = let same : b ≡ a = some_same b a h in subst (λ (z : Above). AcceptsFirst w c (t ∷ []) (z ∷ others)) (sym same) (named, f, tt)
 fit_more w c (u ∷ us) t [] a fit h named f = absurd fit
 fit_more w c (u ∷ us) t (b ∷ others) a fit h named f = (fit.0, fit.1, fit_more w c us t others a fit.2 h named f)
 
@@ -133,7 +133,7 @@ complete_kept s loader (t ∷ ts) (a ∷ others) n h e = (subst (λ (z : Name). 
 pub complete_is_kept : (s : State) (x : Frame) → NamedAs x.accepted (supers x.file) → KeepsAccepted s x → wanted x ≡ None → AllByRecursion (λ a. IsSome (recorded s.records x.class.loader a.name)) (supers x.file)
 complete_is_kept s x n h e = complete_kept s x.class.loader x.accepted (supers x.file) n h e
 
-pub accepted_is_named : (w : World) (c : Class) (ts : List Class) (others : List Above) → Accepts w c ts others → NamedAs ts others
+pub accepted_is_named : (w : World) (c : Class) (ts : List Class) (others : List Above) → AcceptsFirst w c ts others → NamedAs ts others
 accepted_is_named w c [] others f = tt
 accepted_is_named w c (t ∷ ts) [] f = absurd f
 accepted_is_named w c (t ∷ ts) (a ∷ others) f = (f.0, accepted_is_named w c ts others f.2)

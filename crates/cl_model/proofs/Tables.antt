@@ -13,7 +13,7 @@ use Rattle.cl_model.specs.States.{State, start, Record, Posted, Need, Entry, Equ
 use Rattle.cl_model.specs.Works.{Made}
 use Rattle.cl_model.specs.Plans.{derive, load, Request, Load, Resolve, Link, loaded_by, go_on_with, Plan, ending, plan_after, plan_from, plan_needs}
 use Rattle.cl_model.specs.Machine.{Setting, Scheduled, Step, Define, Initiate, Constrain, Settle, Prepare, Post, NextRound, Stray, IsPlan, Answers, MaySay, MayAnswer, May, after, state_after, Run, IsClosed}
-use Rattle.cl_model.specs.Tables.{Records, Bears, BearsAnswer, Allows, Orderly, AreTrusted, EachNew, NoneRecordedTwice, NoneAnsweredTwice, IsConsistent, Stands}
+use Rattle.cl_model.specs.Tables.{Records, Bears, BearsAnswer, Allows, Orderly, AreTrusted, EachNew, NoneRecordedTwice, NoneAnsweredTwice, IsConsistent, StepsHave}
 use Rattle.cl_model.proofs.Bind.{some_same, ok_same, ok_not_err, step_is}
 use Rattle.cl_model.proofs.Derived.{load_ok}
 use Rattle.cl_model.proofs.Runs.{IsLater, after_later, run_later, recorded_added, record_found, adds, violated_as, start_unviolated}
@@ -248,7 +248,7 @@ trusted_goes_on script rounds es e h may = orderly_then script rounds start es e
 
 -- ---- a class is defined once
 
-not_again : (script : List Scheduled) (rounds : ℕ) (s : State) (es : List Step) (c : Class) (p : ℕ) → recorded s.records c.loader c.name ≡ Some p → Orderly script rounds s es → Stands es (Define c) → ⊥
+not_again : (script : List Scheduled) (rounds : ℕ) (s : State) (es : List Step) (c : Class) (p : ℕ) → recorded s.records c.loader c.name ≡ Some p → Orderly script rounds s es → StepsHave es (Define c) → ⊥
 not_again script rounds s [] c p h run x = x
 not_again script rounds s (e ∷ es) c p h run (inl x) = let may = subst (λ (f : Step). Allows script rounds s f) x run.0 in nothing (sym may.fresh ∙ h)
 not_again script rounds s (e ∷ es) c p h run (inr x) = not_again script rounds (after s e) es c p ((after_later s e).records c.loader p c.name h) run.1 x
@@ -256,14 +256,14 @@ not_again script rounds s (e ∷ es) c p h run (inr x) = not_again script rounds
 defined : (s : State) (c : Class) → recorded s.records c.loader c.name ≡ None → recorded (after s (Define c)).records c.loader c.name ≡ Some c.loader
 defined s c h = record_found s.records (record { loader = c.loader; name = c.name; place = c.loader }) h
 
-stands_defined : (script : List Scheduled) (rounds : ℕ) (s : State) (es : List Step) (c : Class) → Orderly script rounds s es → Stands es (Define c) → recorded (state_after s es).records c.loader c.name ≡ Some c.loader
+stands_defined : (script : List Scheduled) (rounds : ℕ) (s : State) (es : List Step) (c : Class) → Orderly script rounds s es → StepsHave es (Define c) → recorded (state_after s es).records c.loader c.name ≡ Some c.loader
 stands_defined script rounds s [] c run x = absurd x
 stands_defined script rounds s (e ∷ es) c run (inl x) =
     let may = subst (λ (f : Step). Allows script rounds s f) x run.0 in
     (run_later (after s e) es).records c.loader c.loader c.name (subst (λ (f : Step). recorded (after s f).records c.loader c.name ≡ Some c.loader) (sym x) (defined s c may.fresh))
 stands_defined script rounds s (e ∷ es) c run (inr x) = stands_defined script rounds (after s e) es c run.1 x
 
-pub defined_once : (script : List Scheduled) (rounds : ℕ) (es fs : List Step) (c : Class) → AreTrusted script rounds (es ++ Define c ∷ fs) → Stands es (Define c) ⊎ Stands fs (Define c) → ⊥
+pub defined_once : (script : List Scheduled) (rounds : ℕ) (es fs : List Step) (c : Class) → AreTrusted script rounds (es ++ Define c ∷ fs) → StepsHave es (Define c) ⊎ StepsHave fs (Define c) → ⊥
 defined_once script rounds es fs c run (inl x) =
     let parts = trusted_parts script rounds es (Define c ∷ fs) run in
     nothing (sym parts.1.0.fresh ∙ stands_defined script rounds start es c parts.0 x)
@@ -287,19 +287,19 @@ answer_found (p ∷ ps) q a h = at (p.request == q) (answer_found ps q a) h
     at false ih k = ih k
 
 -- no post of a request that has an answer
-not_posted : (script : List Scheduled) (rounds : ℕ) (s : State) (es : List Step) (q : ℕ) (a b : Answer) → answer_to s.answers q ≡ Some a → Orderly script rounds s es → Stands es (Post q b) → ⊥
+not_posted : (script : List Scheduled) (rounds : ℕ) (s : State) (es : List Step) (q : ℕ) (a b : Answer) → answer_to s.answers q ≡ Some a → Orderly script rounds s es → StepsHave es (Post q b) → ⊥
 not_posted script rounds s [] q a b h run x = x
 not_posted script rounds s (e ∷ es) q a b h run (inl x) = let may = subst (λ (f : Step). Allows script rounds s f) x run.0 in no_answer (sym may.unposted ∙ h)
 not_posted script rounds s (e ∷ es) q a b h run (inr x) = not_posted script rounds (after s e) es q a b (posted_stay s (e ∷ []) q a h) run.1 x
 
-stands_posted : (script : List Scheduled) (rounds : ℕ) (s : State) (es : List Step) (q : ℕ) (b : Answer) → Orderly script rounds s es → Stands es (Post q b) → answer_to (state_after s es).answers q ≡ Some b
+stands_posted : (script : List Scheduled) (rounds : ℕ) (s : State) (es : List Step) (q : ℕ) (b : Answer) → Orderly script rounds s es → StepsHave es (Post q b) → answer_to (state_after s es).answers q ≡ Some b
 stands_posted script rounds s [] q b run x = absurd x
 stands_posted script rounds s (e ∷ es) q b run (inl x) =
     let may = subst (λ (f : Step). Allows script rounds s f) x run.0 in
     posted_stay (after s e) es q b (subst (λ (f : Step). answer_to (after s f).answers q ≡ Some b) (sym x) (answer_found s.answers q b may.unposted))
 stands_posted script rounds s (e ∷ es) q b run (inr x) = stands_posted script rounds (after s e) es q b run.1 x
 
-pub answered_once : (script : List Scheduled) (rounds : ℕ) (es fs : List Step) (q : ℕ) (a b : Answer) → AreTrusted script rounds (es ++ Post q a ∷ fs) → Stands es (Post q b) ⊎ Stands fs (Post q b) → ⊥
+pub answered_once : (script : List Scheduled) (rounds : ℕ) (es fs : List Step) (q : ℕ) (a b : Answer) → AreTrusted script rounds (es ++ Post q a ∷ fs) → StepsHave es (Post q b) ⊎ StepsHave fs (Post q b) → ⊥
 answered_once script rounds es fs q a b run (inl x) =
     let parts = trusted_parts script rounds es (Post q a ∷ fs) run in
     no_answer (sym parts.1.0.unposted ∙ stands_posted script rounds start es q b parts.0 x)

@@ -18,5 +18,5 @@ content_at [] loader name = None
 content_at (e ∷ es) loader name = if (e.loader == loader) && pointwise nat_eq e.name name then Some e.bytes else content_at es loader name
 
 -- a naming tells just this content, or none
-abbrev pub Tells : Option Content → Content → Type 0
-Tells told content = (told ≡ None) ⊎ (told ≡ Some content)
+abbrev pub TellsContent : Option Content → Content → Type 0
+TellsContent told content = (told ≡ None) ⊎ (told ≡ Some content)

@@ -1,11 +1,11 @@
 -- Worlds of the examples of homes and derivations (JVMS SE 8, 5.3 to 5.3.5).
 use Rattle.std.specs.Prelude.{ℕ, List, [], ◌∷◌, ◌++◌, codes}
-use Rattle.cl_model.specs.Homes.{World, Loader, Order, Import, ParentFirst, ChildFirst}
-use Rattle.cl_model.specs.Examples.{boot, app, plug, kid, fifth, four, root, under, plain, of_package, interface, interface_of_package, with_interfaces, with_loaders, bundle, with_bytes}
+use Rattle.cl_model.specs.Homes.{World, WorldLoader, Order, Import, ParentFirst, ChildFirst}
+use Rattle.cl_model.specs.Examples.{boot, app, plug, kid, fifth, four, root, under, plain, of_package, interface_named, interface_of_package, with_interfaces, with_loaders, world_with_files, with_bytes}
 
 -- T in app and in plug, which also has a root of its own (5.3, 5.3.2)
 abbrev pub copies : World
-copies = bundle ((boot, root) ∷ (plug, root) ∷ (app, plain "p/T") ∷ (plug, plain "p/T") ∷ [])
+copies = world_with_files ((boot, root) ∷ (plug, root) ∷ (app, plain "p/T") ∷ (plug, plain "p/T") ∷ [])
 
 -- the same, with other bytes for T in app before its own (5.3)
 abbrev pub twice : World
@@ -13,18 +13,18 @@ twice = with_bytes app "p/T" (7 ∷ []) copies
 
 -- bytes of no class file in app, of a good one in kid (5.3.5, step 2)
 abbrev pub bad : World
-bad = with_bytes app "p/B" (9 ∷ []) (bundle ((boot, root) ∷ (kid, plain "p/B") ∷ []))
+bad = with_bytes app "p/B" (9 ∷ []) (world_with_files ((boot, root) ∷ (kid, plain "p/B") ∷ []))
 
 -- p/A under p/B, p/B under p/A, p/C under p/A (5.3.5, step 3)
 abbrev pub circle : World
-circle = bundle ((boot, root) ∷ (app, under "p/A" "p/B") ∷ (app, under "p/B" "p/A") ∷ (app, under "p/C" "p/A") ∷ [])
+circle = world_with_files ((boot, root) ∷ (app, under "p/A" "p/B") ∷ (app, under "p/B" "p/A") ∷ (app, under "p/C" "p/A") ∷ [])
 
 -- p/A has the interfaces p/I, which nobody has, and p/J, which is its own (5.3.5, step 4)
 abbrev pub missing : World
-missing = bundle (
+missing = world_with_files (
     (boot, root)
     ∷ (app, with_interfaces ("p/I" ∷ "p/J" ∷ []) (plain "p/A"))
-    ∷ (app, with_interfaces ("p/J" ∷ []) (interface "p/J"))
+    ∷ (app, with_interfaces ("p/J" ∷ []) (interface_named "p/J"))
     ∷ [])
 
 -- an import of names that begin so from a loader (5.3.2)
@@ -32,7 +32,7 @@ abbrev pub importing_from : List ℕ → ℕ → Import
 importing_from prefix target = record { prefix = prefix; target = target }
 
 -- a loader over app (5.3.2)
-abbrev pub over_app : Order → List Import → Loader
+abbrev pub over_app : Order → List Import → WorldLoader
 over_app order imports = record { parents = app ∷ []; order = order; imports = imports }
 
 -- a fifth loader takes names that begin with q/ from boot alone, though it has q/Y of its own (5.3.2)
@@ -51,10 +51,10 @@ imports = with_bytes app "q/V" [] (with_bytes app "q/B" (3 ∷ []) (
 -- app has p/H of package access, p/L under the interface p/J, p/N which implements the class p/S, and the
 -- interface p/X of package access; plug has p/K under p/H and p/G under p/X (5.3.5, steps 3 and 4)
 abbrev pub misfits : World
-misfits = bundle (
+misfits = world_with_files (
     (boot, root)
     ∷ (app, of_package "p/H")
-    ∷ (app, interface "p/J")
+    ∷ (app, interface_named "p/J")
     ∷ (app, under "p/L" "p/J")
     ∷ (app, plain "p/S")
     ∷ (app, with_interfaces ("p/S" ∷ []) (plain "p/N"))

@@ -9,27 +9,27 @@ use Rattle.cl_model.specs.Classes.{Error, ClassNotFound}
 use Rattle.cl_model.specs.Lineages.{Kin, classes}
 use Rattle.cl_model.specs.Plans.{load}
 use Rattle.cl_model.specs.States.{Verdict}
-use Rattle.cl_model.specs.Examples.{boot, app, enough, root, under, plain, interface, taking_none, an_int, a_class, with_fields, with_methods, with_interfaces, referring, bundle, ends_at, resolve_of}
+use Rattle.cl_model.specs.Examples.{boot, app, enough, root, under, plain, interface_named, taking_none, an_int, a_class, with_fields, with_methods, with_interfaces, referring, world_with_files, ends_at, resolve_of}
 
 -- p/J1 and p/J2 have m with a body, p/J3 and p/J4 under it without, p/J5 under p/J1 declares nothing; p/D has the first
 -- three, p/E the third and the first, p/F the third and the fourth, p/H the third and the fifth; p/G has the field x from
 -- the second of its interfaces;
 -- p/C has the field x from p/I, which it implements, and from p/S, which it is under; p/U names these (5.4.3.2 to 5.4.3.4)
 abbrev pub several : World
-several = bundle (
+several = world_with_files (
     (boot, root)
-    ∷ (app, with_fields ((flag.public + flag.static, an_int "x") ∷ []) (interface "p/I"))
+    ∷ (app, with_fields ((flag.public + flag.static, an_int "x") ∷ []) (interface_named "p/I"))
     ∷ (app, with_fields ((flag.public, an_int "x") ∷ []) (plain "p/S"))
     ∷ (app, with_interfaces ("p/I" ∷ []) (under "p/C" "p/S"))
-    ∷ (app, with_methods ((flag.public, taking_none "m") ∷ []) (interface "p/J1"))
-    ∷ (app, with_methods ((flag.public, taking_none "m") ∷ []) (interface "p/J2"))
-    ∷ (app, with_methods ((flag.public + flag.abstract, taking_none "m") ∷ []) (interface "p/J3"))
+    ∷ (app, with_methods ((flag.public, taking_none "m") ∷ []) (interface_named "p/J1"))
+    ∷ (app, with_methods ((flag.public, taking_none "m") ∷ []) (interface_named "p/J2"))
+    ∷ (app, with_methods ((flag.public + flag.abstract, taking_none "m") ∷ []) (interface_named "p/J3"))
     ∷ (app, with_interfaces ("p/J3" ∷ "p/J1" ∷ "p/J2" ∷ []) (plain "p/D"))
     ∷ (app, with_interfaces ("p/J3" ∷ "p/J1" ∷ []) (plain "p/E"))
-    ∷ (app, with_methods ((flag.public + flag.abstract, taking_none "m") ∷ []) (with_interfaces ("p/J3" ∷ []) (interface "p/J4")))
+    ∷ (app, with_methods ((flag.public + flag.abstract, taking_none "m") ∷ []) (with_interfaces ("p/J3" ∷ []) (interface_named "p/J4")))
     ∷ (app, with_interfaces ("p/J3" ∷ "p/J4" ∷ []) (plain "p/F"))
     ∷ (app, with_interfaces ("p/J1" ∷ "p/I" ∷ []) (plain "p/G"))
-    ∷ (app, with_interfaces ("p/J1" ∷ []) (interface "p/J5"))
+    ∷ (app, with_interfaces ("p/J1" ∷ []) (interface_named "p/J5"))
     ∷ (app, with_interfaces ("p/J3" ∷ "p/J5" ∷ []) (plain "p/H"))
     ∷ (
       app,
@@ -55,15 +55,15 @@ chosen i = ends_at several (resolve_of app "p/U" i)
 -- implements p/N, where n is too; p/X is under p/V; p/Y implements p/I and p/J; the root has h and e public, f protected and s static;
 -- p/U names these (5.4.3.2 to 5.4.3.4)
 abbrev pub inherited : World
-inherited = bundle (
+inherited = world_with_files (
     (boot, with_methods ((flag.public, taking_none "h") ∷ (flag.protected, taking_none "f") ∷ (flag.public + flag.static, taking_none "s") ∷ (flag.public, taking_none "e") ∷ []) root)
-    ∷ (app, with_methods ((flag.public, taking_none "m") ∷ (flag.public, taking_none "f") ∷ (flag.public, taking_none "e") ∷ []) (interface "p/I"))
-    ∷ (app, with_methods ((flag.public, taking_none "m") ∷ []) (with_interfaces ("p/I" ∷ []) (interface "p/J")))
-    ∷ (app, with_interfaces ("p/J" ∷ []) (interface "p/K"))
+    ∷ (app, with_methods ((flag.public, taking_none "m") ∷ (flag.public, taking_none "f") ∷ (flag.public, taking_none "e") ∷ []) (interface_named "p/I"))
+    ∷ (app, with_methods ((flag.public, taking_none "m") ∷ []) (with_interfaces ("p/I" ∷ []) (interface_named "p/J")))
+    ∷ (app, with_interfaces ("p/J" ∷ []) (interface_named "p/K"))
     ∷ (app, with_fields ((flag.public, an_int "y") ∷ []) (with_methods ((flag.public, taking_none "a") ∷ []) (with_interfaces ("p/K" ∷ []) (plain "p/S"))))
     ∷ (app, with_interfaces ("p/M" ∷ []) (under "p/C" "p/S"))
-    ∷ (app, with_methods ((flag.public + flag.abstract, taking_none "n") ∷ (flag.private, taking_none "r") ∷ (flag.public + flag.static, taking_none "t") ∷ (flag.public, taking_none "a") ∷ []) (interface "p/M"))
-    ∷ (app, with_methods ((flag.public + flag.abstract, taking_none "n") ∷ []) (interface "p/N"))
+    ∷ (app, with_methods ((flag.public + flag.abstract, taking_none "n") ∷ (flag.private, taking_none "r") ∷ (flag.public + flag.static, taking_none "t") ∷ (flag.public, taking_none "a") ∷ []) (interface_named "p/M"))
+    ∷ (app, with_methods ((flag.public + flag.abstract, taking_none "n") ∷ []) (interface_named "p/N"))
     ∷ (app, with_interfaces ("p/M" ∷ []) (under "p/V" "p/W"))
     ∷ (app, with_interfaces ("p/N" ∷ []) (plain "p/W"))
     ∷ (
@@ -99,7 +99,7 @@ found i = ends_at inherited (resolve_of app "p/U" i)
 -- p/P has m protected, s protected and static, k of package access and v private; p/Q and q/D are under it, q/E under
 -- q/D; p/R has m and s, both protected; q/D and p/R name these (5.4.4)
 abbrev pub accesses : World
-accesses = bundle (
+accesses = world_with_files (
     (boot, root)
     ∷ (app, with_methods ((flag.protected, taking_none "m") ∷ (flag.protected + flag.static, taking_none "s") ∷ (0, taking_none "k") ∷ (flag.private, taking_none "v") ∷ []) (plain "p/P"))
     ∷ (app, under "p/Q" "p/P")

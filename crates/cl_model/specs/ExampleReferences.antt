@@ -5,7 +5,7 @@ use Rattle.cl_classfile.specs.Files.{File, ToClass, ToField, ToMethod}
 use Rattle.cl_classfile.specs.Flags as flag
 use Rattle.cl_model.specs.Homes.{World}
 use Rattle.cl_model.specs.States.{Need, Verdict}
-use Rattle.cl_model.specs.Examples.{boot, app, plug, kid, root, plain, under, of_package, taking_none, taking_t, an_array, a_class, an_array_of, method_key, with_fields, with_methods, referring, bundle, resolve_of, ends_at, ResolveNeeds}
+use Rattle.cl_model.specs.Examples.{boot, app, plug, kid, root, plain, under, of_package, taking_none, taking_t, an_array, a_class, an_array_of, method_key, with_fields, with_methods, referring, world_with_files, resolve_of, ends_at, ResolveNeeds}
 
 -- a class with a method that takes a T (4.6)
 abbrev pub svc : File
@@ -17,20 +17,20 @@ use_of_svc = referring (ToMethod (a_class "p/Svc") (taking_t "m") ∷ []) (plain
 
 -- T and Svc in app; T and Use in plug (5.3.4, 5.4.3.3)
 abbrev pub service : World
-service = bundle ((boot, root) ∷ (app, plain "p/T") ∷ (app, svc) ∷ (plug, plain "p/T") ∷ (plug, use_of_svc) ∷ [])
+service = world_with_files ((boot, root) ∷ (app, plain "p/T") ∷ (app, svc) ∷ (plug, plain "p/T") ∷ (plug, use_of_svc) ∷ [])
 
 -- Svc in app; T and Use in plug and in kid (5.3.4)
 abbrev pub three_users : World
-three_users = bundle ((boot, root) ∷ (app, svc) ∷ (plug, plain "p/T") ∷ (plug, use_of_svc) ∷ (kid, plain "p/T") ∷ (kid, use_of_svc) ∷ [])
+three_users = world_with_files ((boot, root) ∷ (app, svc) ∷ (plug, plain "p/T") ∷ (plug, use_of_svc) ∷ (kid, plain "p/T") ∷ (kid, use_of_svc) ∷ [])
 
 -- p/Hid in app is of package access, p/Peek in plug names it (5.4.4)
 abbrev pub hidden : World
-hidden = bundle ((boot, root) ∷ (app, of_package "p/Hid") ∷ (plug, referring (ToClass (a_class "p/Hid") ∷ []) (plain "p/Peek")) ∷ [])
+hidden = world_with_files ((boot, root) ∷ (app, of_package "p/Hid") ∷ (plug, referring (ToClass (a_class "p/Hid") ∷ []) (plain "p/Peek")) ∷ [])
 
 -- p/X names a method of an array of a base type, an array of arrays of p/T, an array of a base type, a method and a field of
 -- an array of p/T, and p/T (5.3.3, 5.4.3.1)
 abbrev pub arrays : World
-arrays = bundle (
+arrays = world_with_files (
     (boot, root)
     ∷ (app, plain "p/T")
     ∷ (
@@ -49,7 +49,7 @@ arrays = bundle (
 -- app has p/F with x and m, p/H of package access, and p/P with k protected; plug has q/G under p/F and q/X under p/P,
 -- and q/U, which names these, p/Z, which nobody has, and arrays (5.4.3.1 to 5.4.3.3)
 abbrev pub references : World
-references = bundle (
+references = world_with_files (
     (boot, root)
     ∷ (app, with_fields ((flag.public, an_array "x") ∷ []) (with_methods ((flag.public, taking_t "m") ∷ []) (plain "p/F")))
     ∷ (app, of_package "p/H")

@@ -6,7 +6,7 @@ use Rattle.cl_model.specs.Homes.{World}
 use Rattle.cl_model.specs.States.{State, start, Verdict, IsMethod, IsLinked, BadEntry, Linkage, Said, OutOfMemory}
 use Rattle.cl_model.specs.Plans.{Request}
 use Rattle.cl_model.specs.Machine.{Setting, Step, Define, Initiate, Constrain, Settle, Prepare, Post, NextRound, AnswersPlan, state_after}
-use Rattle.cl_model.specs.Examples.{boot, app, plug, kid, object, the_root, in_app, in_plug, in_kid, own, same_t, load_of, resolve_of, link_of, root, under, taking_t, a_class, with_methods, referring, bundle}
+use Rattle.cl_model.specs.Examples.{boot, app, plug, kid, object, the_root, in_app, in_plug, in_kid, own, same_t, load_of, resolve_of, link_of, root, under, taking_t, a_class, with_methods, referring, world_with_files}
 use Rattle.cl_model.specs.ExampleReferences.{svc, service, three_users}
 
 -- a setting of one round without requests
@@ -18,8 +18,8 @@ abbrev pub standing : List Step → State
 standing steps = state_after start steps
 
 -- after these steps over this world a request is answered so (5.3 to 5.4.3)
-abbrev pub Answered : World → List Step → Request → Verdict → Type 0
-Answered w steps q v = AnswersPlan (over w) (standing steps) q v
+abbrev pub AnswerIs : World → List Step → Request → Verdict → Type 0
+AnswerIs w steps q v = AnswersPlan (over w) (standing steps) q v
 
 -- Use of this loader resolves its reference to the method of Svc (5.4.3.3)
 abbrev pub of_use : ℕ → Request
@@ -79,7 +79,7 @@ user = with_methods ((flag.public, taking_t "m") ∷ []) (referring (ToMethod (a
 
 -- Svc in app, and in plug Use under it (5.4.2, 5.4.3.3)
 abbrev pub overridden_service : World
-overridden_service = bundle ((boot, root) ∷ (app, svc) ∷ (plug, user) ∷ [])
+overridden_service = world_with_files ((boot, root) ∷ (app, svc) ∷ (plug, user) ∷ [])
 
 -- Use resolves that method in the first round and is linked in the second, where an entry that is no reference is resolved too
 abbrev pub serving : Setting
@@ -118,8 +118,8 @@ abbrev pub unconstrained : State
 unconstrained = standing (loading ++ Prepare the_root ∷ Prepare (in_app "p/Svc") ∷ [])
 
 -- what stands at the end
-abbrev pub ended : State
-ended = standing (loading ++ resolving ++ linking)
+abbrev pub end_state : State
+end_state = standing (loading ++ resolving ++ linking)
 
 -- a class of kid's own is asked for an entry of its pool (5.4.3)
 abbrev pub resolved_in_kid : Setting
@@ -127,7 +127,7 @@ resolved_in_kid = record { world = three_users; script = record { request = reso
 
 -- Svc in app, and in plug a class under it which overrides its method and names nothing (5.4.2)
 abbrev pub overridden_alone : World
-overridden_alone = bundle ((boot, root) ∷ (app, svc) ∷ (plug, with_methods ((flag.public, taking_t "m") ∷ []) (under "p/Use" "p/Svc")) ∷ [])
+overridden_alone = world_with_files ((boot, root) ∷ (app, svc) ∷ (plug, with_methods ((flag.public, taking_t "m") ∷ []) (under "p/Use" "p/Svc")) ∷ [])
 
 -- the steps before a class under p/H, which is not accessible to it (5.3.5, step 3)
 abbrev pub below_hidden : List Step

@@ -9,7 +9,7 @@ use Rattle.cl_classfile.specs.Files.{Name, File, FileFault, BadVersion, BadForma
 use Rattle.cl_classfile.specs.Flags as flag
 use Rattle.cl_model.specs.declared.class.Class.{Class}
 use Rattle.cl_model.specs.Content.{Content, content_at}
-use Rattle.cl_model.specs.Homes.{World, Loader, ParentFirst, ChildFirst}
+use Rattle.cl_model.specs.Homes.{World, WorldLoader, ParentFirst, ChildFirst}
 use Rattle.cl_model.specs.Classes.{class, Error}
 use Rattle.cl_model.specs.States.{Need, Entry, Equal, Verdict, Wrong}
 use Rattle.cl_model.specs.Plans.{Request, Load, Resolve, Link, plan, plan_needs, cost}
@@ -37,7 +37,7 @@ abbrev pub fifth : ℕ
 fifth = 4
 
 -- the four, in the order of their numbers (5.3)
-abbrev pub four : List Loader
+abbrev pub four : List WorldLoader
 four =
     record { parents = []; order = ParentFirst; imports = [] }
     ∷ record { parents = boot ∷ []; order = ParentFirst; imports = [] }
@@ -150,24 +150,24 @@ abbrev pub of_package : String → File
 of_package name = flagged flag.super (codes name) (Some object)
 
 -- a public interface (4.1)
-abbrev pub interface : String → File
-interface name = flagged (flag.public + flag.interface + flag.abstract) (codes name) (Some object)
+abbrev pub interface_named : String → File
+interface_named name = flagged (flag.public + flag.interface + flag.abstract) (codes name) (Some object)
 
 -- an interface of package access (4.1)
 abbrev pub interface_of_package : String → File
 interface_of_package name = flagged (flag.interface + flag.abstract) (codes name) (Some object)
 
 -- members by their flags and keys (4.5, 4.6)
-abbrev pub members : List (ℕ × Key) → List Member
-members ms = map (λ m. record { flags = m.0; key = m.1 }) ms
+abbrev pub members_by_flags : List (ℕ × Key) → List Member
+members_by_flags ms = map (λ m. record { flags = m.0; key = m.1 }) ms
 
 -- the file, with these fields (4.5)
 abbrev pub with_fields : List (ℕ × Key) → File → File
-with_fields ms f = record f { fields = members ms }
+with_fields ms f = record f { fields = members_by_flags ms }
 
 -- the file, with these methods (4.6)
 abbrev pub with_methods : List (ℕ × Key) → File → File
-with_methods ms f = record f { methods = members ms }
+with_methods ms f = record f { methods = members_by_flags ms }
 
 -- the file, with these superinterfaces (4.1)
 abbrev pub with_interfaces : List String → File → File
@@ -195,12 +195,12 @@ told_from i [] = []
 told_from i (e ∷ es) = record { loader = e.0; name = e.1.name; bytes = i ∷ [] } ∷ told_from (suc i) es
 
 -- the world of these loaders, each with its files (5.3)
-abbrev pub with_loaders : List Loader → List (ℕ × File) → World
+abbrev pub with_loaders : List WorldLoader → List (ℕ × File) → World
 with_loaders loaders files = record { loaders = loaders; content = told_from 0 files; read = file_numbered (map (λ e. e.1) files) }
 
 -- the world of the four, each with its files (5.3)
-abbrev pub bundle : List (ℕ × File) → World
-bundle files = with_loaders four files
+abbrev pub world_with_files : List (ℕ × File) → World
+world_with_files files = with_loaders four files
 
 -- the world, with these bytes for this name at this loader too (5.3)
 abbrev pub with_bytes : ℕ → String → List ℕ → World → World
@@ -265,8 +265,8 @@ abbrev pub ends_at : World → Request → Option Verdict
 ends_at w q = option_map (λ p. p.ends) (plan w enough q)
 
 -- all needs of the plan of a request (5.3 to 5.4.3)
-abbrev pub needs_at : World → Request → Option (List Need)
-needs_at w q = option_map plan_needs (plan w enough q)
+abbrev pub all_needs : World → Request → Option (List Need)
+all_needs w q = option_map plan_needs (plan w enough q)
 
 -- the needs that follow the load (5.4.2, 5.4.3)
 abbrev pub more_at : World → Request → Option (List Need)
@@ -288,11 +288,11 @@ LoadFails w loader name e = Loads w loader name (Wrong e)
 
 -- the load of this name through this loader needs these in turn (5.3.5)
 abbrev pub LoadNeeds : World → ℕ → String → List Need → Type 0
-LoadNeeds w loader name needs = needs_at w (load_of loader name) ≡ Some needs
+LoadNeeds w loader name needs = all_needs w (load_of loader name) ≡ Some needs
 
 -- this reference of the class that this loader has for the name is resolved so (5.4.3)
-abbrev pub Resolves : World → ℕ → String → ℕ → Verdict → Type 0
-Resolves w loader name i v = ends_at w (resolve_of loader name i) ≡ Some v
+abbrev pub ResolvesTo : World → ℕ → String → ℕ → Verdict → Type 0
+ResolvesTo w loader name i v = ends_at w (resolve_of loader name i) ≡ Some v
 
 -- it needs these in turn past the load of its class (5.4.3)
 abbrev pub ResolveNeeds : World → ℕ → String → ℕ → List Need → Type 0

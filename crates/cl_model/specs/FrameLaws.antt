@@ -9,7 +9,7 @@ use Rattle.cl_model.specs.States.{State, Need, Entry, entry_for, Verdict, Wrong,
 use Rattle.cl_model.specs.Plans.{Request}
 use Rattle.cl_model.specs.Machine.{Setting, Step, state_after, AnswersPlan, IsClosed}
 use Rattle.cl_model.specs.Service.{IsNextNeed}
-use Rattle.cl_model.specs.Frames.{Frame, wanted, Judged, Accepts, NamedAs, KeepsAccepted, AllKept, IsFrame, IsFrames, path_of, asking, absent_under, EndsHere, Under, kept_of, accepting}
+use Rattle.cl_model.specs.Frames.{Frame, wanted, Judged, AcceptsFirst, NamedAs, KeepsAccepted, AllKept, IsFrame, IsFrames, path_of, asking, absent_under, EndsHere, Under, kept_of, accepting}
 use Rattle.cl_model.specs.Measures.{left_loading, left_ended}
 
 -- where all supertypes of what is loaded now are accepted, its own record is the need that comes next (5.3.5)
@@ -133,4 +133,4 @@ CompleteIsKept =
 
 -- what fits is named so
 abbrev pub AcceptedIsNamed : Type 0
-AcceptedIsNamed = (w : World) (c : Class) (ts : List Class) (others : List Above) → Accepts w c ts others → NamedAs ts others
+AcceptedIsNamed = (w : World) (c : Class) (ts : List Class) (others : List Above) → AcceptsFirst w c ts others → NamedAs ts others

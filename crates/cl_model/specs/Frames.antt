@@ -24,10 +24,10 @@ abbrev pub Judged : World → Class → Role → Option Error → Class → Type
 Judged w c role wrong t = IsAtHome w t → Fitting w c role wrong t
 
 -- these are the first direct supertypes of c, and fit (5.3.5, steps 3 and 4)
-abbrev pub Accepts : World → Class → List Class → List Above → Type 0
-Accepts w c [] others = Unit {0}
-Accepts w c (t ∷ ts) [] = ⊥
-Accepts w c (t ∷ ts) (a ∷ others) = (t.name ≡ a.name) × Judged w c a.role None t × Accepts w c ts others
+abbrev pub AcceptsFirst : World → Class → List Class → List Above → Type 0
+AcceptsFirst w c [] others = Unit {0}
+AcceptsFirst w c (t ∷ ts) [] = ⊥
+AcceptsFirst w c (t ∷ ts) (a ∷ others) = (t.name ≡ a.name) × Judged w c a.role None t × AcceptsFirst w c ts others
 
 -- these have the names of the first direct supertypes, whatever the source tells (5.3.5, steps 3 and 4)
 abbrev pub NamedAs : List Class → List Above → Type 0
@@ -49,7 +49,7 @@ pub record IsFrame (w : World) (path : List Class) (loader : ℕ) (name : Name) 
   pub found : home w loader name ≡ Some x.class.loader
   pub has_file : HasFile w x.class x.file
   pub new : is_among path x.class ≡ false
-  pub fits : Accepts w x.class x.accepted (supers x.file)
+  pub fits : AcceptsFirst w x.class x.accepted (supers x.file)
 
 -- from a loader and a name each frame wants what the next is of, and the last what is looked for now;
 -- no class stands twice on the path (5.3.5, steps 3 and 4)

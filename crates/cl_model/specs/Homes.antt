@@ -17,14 +17,14 @@ pub record Import : Type 0 where
   pub target : ℕ
 
 -- a loader: whom it asks, when, and what it takes from where (5.3)
-pub record Loader : Type 0 where
+pub record WorldLoader : Type 0 where
   pub parents : List ℕ
   pub order : Order
   pub imports : List Import
 
 -- what is given: the loaders, the first of which is numbered 0, their contents, and what bytes spell (5.3)
 pub record World : Type 0 where
-  pub loaders : List Loader
+  pub loaders : List WorldLoader
   pub content : Content
   pub read : List ℕ → Result File FileFault
 
@@ -59,12 +59,12 @@ in_order ParentFirst above own = option_or above own
 in_order ChildFirst above own = option_or own above
 
 -- without a decisive import: the loaders above and the own content, in order (5.3.2)
-abbrev pub undecided : World → Name → (ℕ → Option ℕ) → ℕ → Loader → Option ℕ
+abbrev pub undecided : World → Name → (ℕ → Option ℕ) → ℕ → WorldLoader → Option ℕ
 undecided w name earlier loader l = in_order l.order (first_home earlier l.parents) (own_home w loader name)
 
 -- the home at one loader, by those at earlier ones (5.3.2)
-abbrev pub home_at : World → Name → (ℕ → Option ℕ) → ℕ → Loader → Option ℕ
-home_at w name earlier loader l =
+abbrev pub home_by_earlier : World → Name → (ℕ → Option ℕ) → ℕ → WorldLoader → Option ℕ
+home_by_earlier w name earlier loader l =
     elim (decisive l.imports name) [
       | Some target ↦ earlier target
       | None ↦ undecided w name earlier loader l
@@ -75,7 +75,7 @@ abbrev pub home_below : World → Name → ℕ → ℕ → Option ℕ
 home_below w name zero loader = None
 home_below w name (suc n) loader =
     elim (loader == n) [
-      | true ↦ option_and_then (home_at w name (home_below w name n) n) (slice_get w.loaders n)
+      | true ↦ option_and_then (home_by_earlier w name (home_below w name n) n) (slice_get w.loaders n)
       | false ↦ home_below w name n loader
     ]
 

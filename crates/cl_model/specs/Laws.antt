@@ -11,7 +11,7 @@ use Rattle.cl_model.specs.Ancestors.{EachClassOnce, SupersFirst}
 use Rattle.cl_model.specs.Works.{Made}
 use Rattle.cl_model.specs.Plans.{derive, load, Load, Request, Plan, Resolve, Link, loaded_by, plan_needs, cost}
 use Rattle.cl_model.specs.States.{State, start, Entry, Equal, IsClass, Answer, settled_to, answer_to, IsFresh, Clashes, added, Need, Verdict, IsSettling, IsLinkageError, recorded, Violated, Met, AllMet, IsRecorded, IsLinked, MayAdd, Said, Wrong, IsNext}
-use Rattle.cl_model.specs.Progress.{Takes}
+use Rattle.cl_model.specs.Progress.{TakesSteps}
 use Rattle.cl_model.specs.Service.{IsNextNeed, IsNextStep, ComesTo, MayEnd, IsBegun, Serves, PassesRounds, AllServed, IsLinkedIn}
 use Rattle.cl_model.specs.Machine.{Setting, Scheduled, Step, Post, Settle, Prepare, May, state_after, Run, Answers, IsClosed, IsSound, after, AnswersPlan, AnswersReference, MaySay, IsPlan, IsPastLoad, HasLineage, IsResolution, step_for, MaySettle, MayGoOn, MayConstrain, AreOfRecorded}
 use Rattle.std.specs.List.{AllByRecursion}
@@ -334,7 +334,7 @@ ResolutionComes = (g : Setting) (s : State) (loader : ℕ) (name : Name) (i : �
 
 -- whatever else happens, so many steps of a request's service, and its post, are within its cost
 abbrev pub ServiceWithinCost : Type 0
-ServiceWithinCost = (g : Setting) (r : Request) (p : Plan) (n : ℕ) (s : State) (es : List Step) → IsPlan g.world r p → Takes g r n s es → n + 1 ≤ cost g.world p
+ServiceWithinCost = (g : Setting) (r : Request) (p : Plan) (n : ℕ) (s : State) (es : List Step) → IsPlan g.world r p → TakesSteps g r n s es → n + 1 ≤ cost g.world p
 
 -- services go on by that of the next request, and by the rounds that begin after it
 abbrev pub ServicesGoOn : Type 0

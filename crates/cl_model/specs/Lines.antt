@@ -95,8 +95,8 @@ abbrev pub answer_line : List Text → ℕ → Answer → Text
 answer_line names q a = words (decimal (q + 1) ∷ answer_text names a ∷ [])
 
 -- a line with its line feed
-abbrev pub ended : Text → Text
-ended line = line ++ 0x0a ∷ []
+abbrev pub ended_line : Text → Text
+ended_line line = line ++ 0x0a ∷ []
 
 -- the line of a step, if it has one
 abbrev pub line : List Text → Step → Option Text
@@ -111,4 +111,4 @@ line names Stray = None
 
 -- the line of a step with its line feed, and nothing of a step that has none
 abbrev pub step_line : List Text → Step → Text
-step_line names e = option_map_or ended (line names e) []
+step_line names e = option_map_or ended_line (line names e) []

@@ -9,14 +9,15 @@ whole most zero = 3
 whole most (suc room) = 3 + most * whole most room
 
 -- the supertypes after the one that is loaded now
-abbrev pub behind : Frame → ℕ
-behind x = length (supers x.file) - suc (length x.accepted)
+abbrev pub supers_behind : Frame → ℕ
+supers_behind x = length (supers x.file) - suc (length x.accepted)
 
 -- what is left under these frames, where so much is left of what the last of them waits for
 abbrev pub left : ℕ → (ℕ → ℕ) → ℕ → List Frame → ℕ
 left most last room [] = last room
 left most last zero (x ∷ xs) = 0
-left most last (suc room) (x ∷ xs) = suc (behind x * whole most room) + left most last room xs
+left most last (suc room) (x ∷ xs) =
+    suc (supers_behind x * whole most room) + left most last room xs
 
 -- a load is still to be made
 abbrev pub left_loading : ℕ → ℕ → List Frame → ℕ

@@ -10,12 +10,12 @@ use Rattle.cl_model.specs.Lineages.{Kin, superclasses, superinterfaces, method_o
 use Rattle.cl_model.specs.States.{Need, Equal}
 
 -- a name that begins with `<` is `<init>` or `<clinit>` (4.2.2)
-abbrev pub is_special : Name → Bool
-is_special name = starts_with nat_eq name (codes "<")
+abbrev pub begins_with_angle : Name → Bool
+begins_with_angle name = starts_with nat_eq name (codes "<")
 
 -- a class declares a method with this key that takes part in overriding (5.4.5)
 abbrev pub takes_part : Key → Kin → Bool
-takes_part key k = not (is_special key.name) && is_offered key k
+takes_part key k = not (begins_with_angle key.name) && is_offered key k
 
 -- the method of c overrides the one of its superclass a, with no third method (5.4.5)
 abbrev pub overrides_directly : Key → Kin → Kin → Bool

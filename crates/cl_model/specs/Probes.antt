@@ -4,7 +4,7 @@ use Rattle.std.specs.List.{list_any}
 use Rattle.cl_classfile.specs.Files.{Name}
 use Rattle.cl_model.specs.Content.{content_at}
 use Rattle.cl_model.specs.Once.{firsts, NoneTwice}
-use Rattle.cl_model.specs.Homes.{World, Loader, Order, ParentFirst, ChildFirst, decisive, is_java}
+use Rattle.cl_model.specs.Homes.{World, WorldLoader, Order, ParentFirst, ChildFirst, decisive, is_java}
 
 -- the loaders above and the loader itself, in its order (own choice of delegation, 5.3.2)
 abbrev pub in_turn : Order → List ℕ → List ℕ → List ℕ
@@ -13,14 +13,14 @@ in_turn ChildFirst above own = own ++ above
 
 -- what is asked at one loader, by what is asked at earlier ones: for a name that an import decides what its target
 -- asks, otherwise what the loaders above ask, and the loader itself (5.3.2)
-abbrev pub route_at : Name → (ℕ → List ℕ) → ℕ → Loader → List ℕ
+abbrev pub route_at : Name → (ℕ → List ℕ) → ℕ → WorldLoader → List ℕ
 route_at name earlier loader l = elim (decisive l.imports name) [
   | Some target ↦ earlier target
   | None ↦ in_turn l.order (flat_map earlier l.parents) (loader ∷ [])
 ]
 
 -- the loaders that are asked at one of the first so many, none where there is no such loader (5.3.2)
-abbrev pub route_below : List Loader → Name → ℕ → ℕ → List ℕ
+abbrev pub route_below : List WorldLoader → Name → ℕ → ℕ → List ℕ
 route_below ls name zero loader = []
 route_below ls name (suc n) loader = elim (loader == n) [
   | true ↦ unwrap_or (option_map (route_at name (route_below ls name n) n) (slice_get ls n)) []
@@ -28,12 +28,12 @@ route_below ls name (suc n) loader = elim (loader == n) [
 ]
 
 -- the loaders that are asked for a name that is none of the platform's (5.3.2)
-abbrev pub route_from : List Loader → Name → ℕ → List ℕ
+abbrev pub route_from : List WorldLoader → Name → ℕ → List ℕ
 route_from ls name loader = route_below ls name (suc loader) loader
 
 -- the loaders whose own content is asked for a name where this one is, in order, while each lacks it: of a `java/` name
 -- the first loader alone (5.3.1, 5.3.2)
-abbrev pub route : List Loader → ℕ → Name → List ℕ
+abbrev pub route : List WorldLoader → ℕ → Name → List ℕ
 route ls loader name = elim (is_java name) [
   | true ↦ if nat_lt loader (length ls) then 0 ∷ [] else []
   | false ↦ route_from ls name loader

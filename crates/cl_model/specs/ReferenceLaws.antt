@@ -14,7 +14,7 @@ use Rattle.cl_model.specs.Machine.{Setting, HasLineage, IsPlan, IsClosed, Answer
 use Rattle.cl_model.specs.Service.{IsNextNeed, IsNextStep, IsLinkedIn, ComesTo}
 use Rattle.cl_model.specs.Frames.{EndsHere}
 use Rattle.cl_model.specs.Tables.{Bears}
-use Rattle.cl_model.specs.References.{ended, GoesThrough, GoesOn}
+use Rattle.cl_model.specs.References.{ended, GoesThrough, PlanGoesOn}
 
 -- the resolution of a reference that names a class is the load of that class, and what follows it (5.4.3.1)
 abbrev pub ResolvesThrough : Type 0
@@ -56,32 +56,32 @@ ThroughAnswers =
 abbrev pub LoadGoesOn : Type 0
 LoadGoesOn =
     (w : World) (s : State) (loader place : ℕ) (name : Name) → IsClosed w s → recorded s.records loader name ≡ Some place
-    → GoesOn w s (Load loader name) (class name place) [] (IsClass (class name place))
+    → PlanGoesOn w s (Load loader name) (class name place) [] (IsClass (class name place))
 
 -- of a request to resolve an entry, the plan goes on with what the entry's resolution goes on with (5.4.3)
 abbrev pub ResolveGoesOn : Type 0
 ResolveGoesOn =
     (w : World) (s : State) (loader place i : ℕ) (name : Name) (m : Made Verdict) → IsClosed w s
     → recorded s.records loader name ≡ Some place → GoesThrough w s (class name place) i m
-    → GoesOn w s (Resolve loader name i) (class name place) m.needs (ending m.ends)
+    → PlanGoesOn w s (Resolve loader name i) (class name place) m.needs (ending m.ends)
 
 -- of a request to link it, the plan goes on with the constraints of each class of its lineage in order (5.4.2)
 abbrev pub LinkGoesOn : Type 0
 LinkGoesOn =
     (w : World) (s : State) (loader place : ℕ) (name : Name) (k : Kin) → IsClosed w s
     → recorded s.records loader name ≡ Some place → HasLineage w (class name place) k
-    → GoesOn w s (Link loader name) (class name place) (flat_map constraints_of (lineage k)) (IsLinked (class name place))
+    → PlanGoesOn w s (Link loader name) (class name place) (flat_map constraints_of (lineage k)) (IsLinked (class name place))
 
 -- where all that a plan goes on with is met, it ends here (5.3 to 5.4.3)
 abbrev pub GoneOnEnds : Type 0
 GoneOnEnds =
-    (w : World) (s : State) (r : Request) (c : Class) (needs : List Need) (v : Verdict) → GoesOn w s r c needs v
+    (w : World) (s : State) (r : Request) (c : Class) (needs : List Need) (v : Verdict) → PlanGoesOn w s r c needs v
     → AllMet s needs → EndsHere w s r v
 
 -- what comes next in what a plan goes on with comes next in the plan (5.3 to 5.4.3)
 abbrev pub GoneOnIsNext : Type 0
 GoneOnIsNext =
-    (w : World) (s : State) (r : Request) (c : Class) (needs : List Need) (v : Verdict) (n : Need) → GoesOn w s r c needs v
+    (w : World) (s : State) (r : Request) (c : Class) (needs : List Need) (v : Verdict) (n : Need) → PlanGoesOn w s r c needs v
     → IsNext s needs n → IsNextNeed w s r n
 
 -- where each class of a list is linked, all constraints of these are imposed (5.4.2)

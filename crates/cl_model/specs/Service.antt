@@ -35,9 +35,9 @@ MayServe s (ToStand n) = MayAdd s n
 MayServe s (ToPrepare c) = Contains s.prepared c → ⊥
 
 -- the step that fulfils a want (5.3, 5.3.4, 5.4.2)
-abbrev pub serving : Want → Step
-serving (ToStand n) = step_for n
-serving (ToPrepare c) = Prepare c
+abbrev pub serving_step : Want → Step
+serving_step (ToStand n) = step_for n
+serving_step (ToPrepare c) = Prepare c
 
 -- these needs are wanted, in order
 abbrev pub to_stand : List Need → List Want
@@ -70,21 +70,21 @@ pub record HasWants (w : World) (r : Request) (p : Plan) (wants : List Want) : T
 -- ---- the service of one request
 
 -- the reference that a request reached past its load may be settled, and is: also where one of its own needs is refused (5.4.3)
-abbrev pub Settles : Setting → State → Request → Plan → Step → Type 0
-Settles g s (Load loader name) p e = ⊥
-Settles g s (Resolve loader name i) p e = (d : Class) × IsPastLoad s p d × ((v : Verdict) × MaySettle g s d i v × (e ≡ Settle d i v))
-Settles g s (Link loader name) p e = ⊥
+abbrev pub SettlesByStep : Setting → State → Request → Plan → Step → Type 0
+SettlesByStep g s (Load loader name) p e = ⊥
+SettlesByStep g s (Resolve loader name i) p e = (d : Class) × IsPastLoad s p d × ((v : Verdict) × MaySettle g s d i v × (e ≡ Settle d i v))
+SettlesByStep g s (Link loader name) p e = ⊥
 
 -- the step fulfils the first want that is not fulfilled
 abbrev pub ServesFirst : State → List Want → Step → Type 0
-ServesFirst s wants e = (x : Want) × IsFirst s wants x × MayServe s x × (e ≡ serving x)
+ServesFirst s wants e = (x : Want) × IsFirst s wants x × MayServe s x × (e ≡ serving_step x)
 
 -- the step that comes next in a request's service, before its answer
 pub record IsNextStep (g : Setting) (s : State) (r : Request) (e : Step) : Type 0 where
   pub plan : Plan
   pub wants : List Want
   pub wanted : HasWants g.world r plan wants
-  pub next : ServesFirst s wants e ⊎ Settles g s r plan e
+  pub next : ServesFirst s wants e ⊎ SettlesByStep g s r plan e
 
 -- nothing is left to serve: all is fulfilled, or a need is refused before which all is (5.3.4)
 abbrev pub IsOver : State → List Want → Type 0

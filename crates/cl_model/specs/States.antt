@@ -100,14 +100,14 @@ pub record Linked (ks : List Equality) (name : Name) (a b : ℕ) : Type 0 where
   pub ends : ((equality.one ≡ a) × (equality.other ≡ b)) ⊎ ((equality.one ≡ b) × (equality.other ≡ a))
 
 -- a path of equalities from one loader over these to another (5.3.4)
-abbrev pub IsPath : List Equality → Name → ℕ → List ℕ → ℕ → Type 0
-IsPath ks name a [] b = a ≡ b
-IsPath ks name a (c ∷ cs) b = Linked ks name a c × IsPath ks name c cs b
+abbrev pub IsPathBetween : List Equality → Name → ℕ → List ℕ → ℕ → Type 0
+IsPathBetween ks name a [] b = a ≡ b
+IsPathBetween ks name a (c ∷ cs) b = Linked ks name a c × IsPathBetween ks name c cs b
 
 -- equalities join two loaders for a name; each is joined with itself (5.3.4)
 pub record Joined (ks : List Equality) (name : Name) (a b : ℕ) : Type 0 where
   pub path : List ℕ
-  pub along : IsPath ks name a path b
+  pub along : IsPathBetween ks name a path b
 
 -- a need stands in a state (5.3, 5.3.4)
 abbrev pub Met : State → Need → Type 0

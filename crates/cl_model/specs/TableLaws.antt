@@ -5,7 +5,7 @@ use Rattle.cl_model.specs.declared.class.Class.{Class}
 use Rattle.cl_model.specs.Plans.{Load, Resolve, Link}
 use Rattle.cl_model.specs.States.{State, start, IsClass, Answer, settled_to, Verdict, IsSettling, recorded, IsLinked, Said, IsRecorded}
 use Rattle.cl_model.specs.Machine.{Setting, Scheduled, Step, Post, May, state_after, Run, IsClosed, after, Define, Initiate, Settle, Prepare, NextRound, Stray, MayKeep, EndsRound}
-use Rattle.cl_model.specs.Tables.{Records, Allows, Orderly, AreTrusted, IsConsistent, Stands}
+use Rattle.cl_model.specs.Tables.{Records, Allows, Orderly, AreTrusted, IsConsistent, StepsHave}
 
 -- trusted tables are consistent (5.3, 5.3.4)
 abbrev pub TrustedIsConsistent : Type 0
@@ -33,11 +33,11 @@ RunsAreTrusted = (g : Setting) (es : List Step) → Run g start es → AreTruste
 
 -- a class is defined once (5.3.5, step 1)
 abbrev pub DefinedOnce : Type 0
-DefinedOnce = (script : List Scheduled) (rounds : ℕ) (es fs : List Step) (c : Class) → AreTrusted script rounds (es ++ Define c ∷ fs) → Stands es (Define c) ⊎ Stands fs (Define c) → ⊥
+DefinedOnce = (script : List Scheduled) (rounds : ℕ) (es fs : List Step) (c : Class) → AreTrusted script rounds (es ++ Define c ∷ fs) → StepsHave es (Define c) ⊎ StepsHave fs (Define c) → ⊥
 
 -- a request is answered once
 abbrev pub AnsweredOnce : Type 0
-AnsweredOnce = (script : List Scheduled) (rounds : ℕ) (es fs : List Step) (q : ℕ) (a b : Answer) → AreTrusted script rounds (es ++ Post q a ∷ fs) → Stands es (Post q b) ⊎ Stands fs (Post q b) → ⊥
+AnsweredOnce = (script : List Scheduled) (rounds : ℕ) (es fs : List Step) (q : ℕ) (a b : Answer) → AreTrusted script rounds (es ++ Post q a ∷ fs) → StepsHave es (Post q b) ⊎ StepsHave fs (Post q b) → ⊥
 
 -- an answer is posted in the round of its request
 abbrev pub ToldInRound : Type 0

@@ -71,6 +71,6 @@ pub record IsConsistent (s : State) : Type 0 where
   pub answered_once : NoneAnsweredTwice [] s.answers
 
 -- a step stands in a list
-abbrev pub Stands : List Step → Step → Type 0
-Stands [] e = ⊥
-Stands (f ∷ es) e = (f ≡ e) ⊎ Stands es e
+abbrev pub StepsHave : List Step → Step → Type 0
+StepsHave [] e = ⊥
+StepsHave (f ∷ es) e = (f ≡ e) ⊎ StepsHave es e

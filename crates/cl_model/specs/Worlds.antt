@@ -12,5 +12,5 @@ file_fault Version = BadVersion
 file_fault _ = BadFormat
 
 -- what linking looks at in the file that was read (4.1)
-abbrev pub seen : Result Structure Fault → Result File FileFault
-seen r = result_map_both file_of file_fault r
+abbrev pub seen_file : Result Structure Fault → Result File FileFault
+seen_file r = result_map_both file_of file_fault r

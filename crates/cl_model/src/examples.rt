@@ -6,13 +6,13 @@ ghost use Rattle.cl_model.specs.Classes.{read_class, ClassNotFound, NoClassDef, 
 ghost use Rattle.cl_model.specs.States.{State, Joined, Entry, IsClass, IsArrayOf, IsArrayOfBase, IsField, IsMethod, IsLinked, Wrong, BadEntry, ArrayMember, Linkage, Said, OutOfMemory, SourceFault, start, settled_to, answer_to, recorded, IsNext};
 ghost use Rattle.cl_model.specs.Machine.{Define, Initiate, Constrain, Settle, Prepare, Post, NextRound, Stray, May, MayDefine, MayInitiate, MayConstrain, MaySettle, MayPrepare, Run, MayPost, MayGoOn, after};
 ghost use Rattle.cl_model.specs.Lines.{line};
-ghost use Rattle.cl_model.specs.Examples.{boot, app, plug, kid, fifth, object, names, the_root, in_boot, in_app, in_plug, in_kid, in_fifth, taking_none, taking_t, an_int, an_array, int_letter, long_letter, load_of, resolve_of, link_of, entry, own, root_record, root_for, through_app, equal, same_t, same_v, same_both, ends_at, needs_at, HasBytes, Loads, LoadFails, LoadNeeds, Resolves, ResolveNeeds, Links, LinkNeeds, Costs};
+ghost use Rattle.cl_model.specs.Examples.{boot, app, plug, kid, fifth, object, names, the_root, in_boot, in_app, in_plug, in_kid, in_fifth, taking_none, taking_t, an_int, an_array, int_letter, long_letter, load_of, resolve_of, link_of, entry, own, root_record, root_for, through_app, equal, same_t, same_v, same_both, ends_at, all_needs, HasBytes, Loads, LoadFails, LoadNeeds, ResolvesTo, ResolveNeeds, Links, LinkNeeds, Costs};
 ghost use Rattle.cl_model.specs.ExampleLoads.{copies, twice, bad, circle, missing, importing, imports, misfits, two_parents};
 ghost use Rattle.cl_model.specs.Lineages.{lineage, superclasses, superinterfaces};
 ghost use Rattle.cl_model.specs.ExampleLookups.{chosen, found, from_d, from_r, Orders};
 ghost use Rattle.cl_model.specs.ExampleReferences.{service, three_users, hidden, arrays, from_u, NeedsPast};
 ghost use Rattle.cl_model.specs.ExampleOverriding.{overriding, declared, through_kid, whole_lineage, three_loaders, packages};
-ghost use Rattle.cl_model.specs.ExampleRuns.{over, standing, Answered, of_use, t_refused, kid_refused, both_defined, both_stand, constrained, across, in_rounds, two_rounds, serving, loading, resolving, linking, of_svc, unsettled, unprepared, unconstrained, ended, resolved_in_kid, overridden_alone, below_hidden, joined_with_kid};
+ghost use Rattle.cl_model.specs.ExampleRuns.{over, standing, AnswerIs, of_use, t_refused, kid_refused, both_defined, both_stand, constrained, across, in_rounds, two_rounds, serving, loading, resolving, linking, of_svc, unsettled, unprepared, unconstrained, end_state, resolved_in_kid, overridden_alone, below_hidden, joined_with_kid};
 ghost use Rattle.cl_model.specs.ExampleTexts.{spaced, Prints, IsCalled, PrintsAnswer, PrintsLine, PrintsStep};
 
 /// A search goes to the parent first, or to the own content first; a `java/` name is searched in
@@ -96,7 +96,7 @@ pub fn supertypes_fit()
 /// A class of package access is not accessible from a package of another loader; it is loaded all
 /// the same.
 pub fn hidden_class()
-    ensures referred { Resolves hidden plug "p/Peek" 1 (Wrong (IllegalAccess (in_app "p/Hid"))) }
+    ensures referred { ResolvesTo hidden plug "p/Peek" 1 (Wrong (IllegalAccess (in_app "p/Hid"))) }
     ensures loaded { Loads hidden plug "p/Hid" (IsClass (in_app "p/Hid")) }
 {}
 
@@ -278,19 +278,19 @@ pub fn third_methods()
 
 /// Entries that are no reference, members of arrays, arrays, and a class.
 pub fn arrays_and_bad_entries()
-    ensures none { Resolves arrays app "p/X" 0 BadEntry }
-    ensures past { Resolves arrays app "p/X" 65535 BadEntry }
-    ensures member { Resolves arrays app "p/X" 1 ArrayMember }
-    ensures member_of_classes { Resolves arrays app "p/X" 4 ArrayMember }
-    ensures field_of_classes { Resolves arrays app "p/X" 5 ArrayMember }
-    ensures of_class { Resolves arrays app "p/X" 2 (IsArrayOf 2 (in_app "p/T")) }
-    ensures plain_class { Resolves arrays app "p/X" 6 (IsClass (in_app "p/T")) }
-    ensures of_base { Resolves arrays app "p/X" 3 (IsArrayOfBase 1 int_letter) }
+    ensures none { ResolvesTo arrays app "p/X" 0 BadEntry }
+    ensures past { ResolvesTo arrays app "p/X" 65535 BadEntry }
+    ensures member { ResolvesTo arrays app "p/X" 1 ArrayMember }
+    ensures member_of_classes { ResolvesTo arrays app "p/X" 4 ArrayMember }
+    ensures field_of_classes { ResolvesTo arrays app "p/X" 5 ArrayMember }
+    ensures of_class { ResolvesTo arrays app "p/X" 2 (IsArrayOf 2 (in_app "p/T")) }
+    ensures plain_class { ResolvesTo arrays app "p/X" 6 (IsClass (in_app "p/T")) }
+    ensures of_base { ResolvesTo arrays app "p/X" 3 (IsArrayOfBase 1 int_letter) }
 {}
 
 /// The method of Svc in app, resolved from Use in plug: T is to be the same in both loaders.
 pub fn resolved_method()
-    ensures needs { needs_at service (of_use plug) ≡ Some (
+    ensures needs { all_needs service (of_use plug) ≡ Some (
         root_for plug ++ own plug "p/Use" ∷ through_app "p/Svc" ++ same_t app plug ∷ []) }
     ensures ends { ends_at service (of_use plug) ≡ Some of_svc }
     ensures cost { Costs service (of_use plug) 28 }
@@ -298,20 +298,20 @@ pub fn resolved_method()
 
 /// An equality that would join two loaders with different classes is refused: it is the answer.
 pub fn equality_refused()
-    ensures { Answered service both_defined (of_use plug) t_refused }
+    ensures { AnswerIs service both_defined (of_use plug) t_refused }
 {}
 
 /// A record that would differ from that of a joined loader is refused: it is the answer.
 pub fn record_refused()
-    ensures resolved { Answered service constrained (of_use plug) of_svc }
-    ensures loaded { Answered service constrained (load_of app "p/T") (IsClass (in_app "p/T")) }
-    ensures refused { Answered service constrained (load_of plug "p/T") (Linkage (own plug "p/T")) }
+    ensures resolved { AnswerIs service constrained (of_use plug) of_svc }
+    ensures loaded { AnswerIs service constrained (load_of app "p/T") (IsClass (in_app "p/T")) }
+    ensures refused { AnswerIs service constrained (load_of plug "p/T") (Linkage (own plug "p/T")) }
 {}
 
 /// Two loaders that no equality names together are joined through a third.
 pub fn constraint_across_three()
-    ensures loaded { Answered three_users across (load_of plug "p/T") (IsClass (in_plug "p/T")) }
-    ensures refused { Answered three_users across (load_of kid "p/T") kid_refused }
+    ensures loaded { AnswerIs three_users across (load_of plug "p/T") (IsClass (in_plug "p/T")) }
+    ensures refused { AnswerIs three_users across (load_of kid "p/T") kid_refused }
 {}
 
 /// The line of each kind of step; a settled reference, a post and a round have none.
@@ -391,13 +391,13 @@ pub fn resolve_and_link()
 /// A verdict is settled for its class and index alone, and an answer posted for its request; a
 /// record is of its loader and name.
 pub fn what_stands()
-    ensures settled { settled_to ended.settled (in_plug "p/Use") 1 ≡ Some of_svc }
-    ensures other_index { settled_to ended.settled (in_plug "p/Use") 2 ≡ None }
-    ensures other_class { settled_to ended.settled (in_app "p/Svc") 1 ≡ None }
-    ensures answered { answer_to ended.answers 2 ≡ Some (Said BadEntry) }
-    ensures other_request { answer_to ended.answers 3 ≡ None }
-    ensures initiating { recorded ended.records plug (codes "p/Svc") ≡ Some app }
-    ensures other_loader { recorded ended.records boot (codes "p/Svc") ≡ None }
+    ensures settled { settled_to end_state.settled (in_plug "p/Use") 1 ≡ Some of_svc }
+    ensures other_index { settled_to end_state.settled (in_plug "p/Use") 2 ≡ None }
+    ensures other_class { settled_to end_state.settled (in_app "p/Svc") 1 ≡ None }
+    ensures answered { answer_to end_state.answers 2 ≡ Some (Said BadEntry) }
+    ensures other_request { answer_to end_state.answers 3 ≡ None }
+    ensures initiating { recorded end_state.records plug (codes "p/Svc") ≡ Some app }
+    ensures other_loader { recorded end_state.records boot (codes "p/Svc") ≡ None }
 {}
 
 /// A need is next where all before it are met.
@@ -423,12 +423,12 @@ pub fn steps_too_early()
 
 /// No step is taken twice.
 pub fn steps_made_again()
-    ensures define { MayDefine serving ended (in_plug "p/Use") → ⊥ }
-    ensures initiate { MayInitiate serving ended object boot app → ⊥ }
-    ensures constrain { MayConstrain serving ended (codes "p/T") app plug → ⊥ }
-    ensures settle { MaySettle serving ended (in_plug "p/Use") 1 of_svc → ⊥ }
-    ensures prepare { MayPrepare serving ended (in_plug "p/Use") → ⊥ }
-    ensures answer { MayPost serving ended 0 (Said of_svc) → ⊥ }
+    ensures define { MayDefine serving end_state (in_plug "p/Use") → ⊥ }
+    ensures initiate { MayInitiate serving end_state object boot app → ⊥ }
+    ensures constrain { MayConstrain serving end_state (codes "p/T") app plug → ⊥ }
+    ensures settle { MaySettle serving end_state (in_plug "p/Use") 1 of_svc → ⊥ }
+    ensures prepare { MayPrepare serving end_state (in_plug "p/Use") → ⊥ }
+    ensures answer { MayPost serving end_state 0 (Said of_svc) → ⊥ }
 {}
 
 /// What no state allows: a class elsewhere than at its home, an initiating record of the definer or

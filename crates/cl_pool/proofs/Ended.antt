@@ -12,7 +12,7 @@ use Rattle.cl_registry.specs.Tables as tables
 use Rattle.cl_registry.specs.Tables.{Shown, IsOpen, IsTrusted}
 use Rattle.cl_registry.proofs.Running.{answered}
 use Rattle.cl_schedule.proofs.Rounds.{schedule_length}
-use Rattle.cl_pool.specs.Served.{FailsAs, IsUnanswered, MayServe, RefusedFor}
+use Rattle.cl_pool.specs.Served.{FailsAs, IsUnanswered, WorkersMayServe, RefusedFor}
 use Rattle.cl_pool.specs.declared.fault.PoolFault.{PoolFault}
 use Rattle.cl_pool.specs.declared.fault.PoolFault.TheVariants as faults
 
@@ -41,7 +41,7 @@ schedule_within x q e t at =
     omega arith
 
 -- where no further round may begin, what is unfinished has a request with no answer
-open_one : (x : Shown) → IsTrusted x → (tables.MayGoOn x → ⊥) → IsUnfinished x → (q : ℕ) × IsOpen x q
+open_one : (x : Shown) → IsTrusted x → (tables.RoundMayBegin x → ⊥) → IsUnfinished x → (q : ℕ) × IsOpen x q
 open_one x t over (inl one) = one
 open_one x t over (inr later) = found (first_open x.answers)
   where
@@ -49,7 +49,7 @@ open_one x t over (inr later) = found (first_open x.answers)
     found (inl one) = one
     found (inr all) = absurd (over (record { answered = λ q e at same. answered x q t ∙ all q (schedule_within x q e t at); later = later }))
 
-pub is_unanswered : (x : Shown) (c : Configured) (s : Scripted) → IsTrusted x → (tables.MayGoOn x → ⊥) → IsUnfinished x → c ≡ x.config → s ≡ x.script → IsUnanswered c s x
+pub is_unanswered : (x : Shown) (c : Configured) (s : Scripted) → IsTrusted x → (tables.RoundMayBegin x → ⊥) → IsUnfinished x → c ≡ x.config → s ≡ x.script → IsUnanswered c s x
 is_unanswered x c s t over is config script =
     let one = open_one x t over is in
     record { config_is = sym config; script_is = sym script; request = one.0; unanswered = one.1 }
@@ -57,7 +57,7 @@ is_unanswered x c s t over is config script =
 -- ---- what is answered
 
 -- why there is no report of workers that may serve
-pub why_refused : {A : Type 0} (fault : PoolFault A) (workers : ℕ) (c : Configured) (s : Scripted) → MayServe workers → FailsAs c s fault → RefusedFor workers c s fault
+pub why_refused : {A : Type 0} (fault : PoolFault A) (workers : ℕ) (c : Configured) (s : Scripted) → WorkersMayServe workers → FailsAs c s fault → RefusedFor workers c s fault
 why_refused faults.Memory workers c s may fails = may
 why_refused faults.Workers workers c s may fails = absurd fails
 why_refused faults.NoThread workers c s may fails = may
@@ -70,6 +70,6 @@ for_report (Ok report) holds = holds
 for_report (Err fault) holds = tt
 
 -- the same of what the workers came to
-pub why_none : {A B : Type 0} (result : Result B (PoolFault A)) (workers : ℕ) (c : Configured) (s : Scripted) → MayServe workers → IfErr result (FailsAs c s) → IfErr result (RefusedFor workers c s)
+pub why_none : {A B : Type 0} (result : Result B (PoolFault A)) (workers : ℕ) (c : Configured) (s : Scripted) → WorkersMayServe workers → IfErr result (FailsAs c s) → IfErr result (RefusedFor workers c s)
 why_none (Ok report) workers c s may fails = tt
 why_none (Err fault) workers c s may fails = why_refused fault workers c s may fails

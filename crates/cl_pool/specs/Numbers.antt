@@ -42,8 +42,8 @@ abbrev pub spent : Hand
 spent = record { of = record { requests = 0; workers = 0 }; drawn = []; parts = 0; splits = 0 }
 
 -- a seat stands for all seats, those included that may still be split off
-abbrev pub IsWhole : Hand → Type 0
-IsWhole v = v.parts + v.splits ≡ v.of.workers
+abbrev pub StandsForAllSeats : Hand → Type 0
+StandsForAllSeats v = v.parts + v.splits ≡ v.of.workers
 
 -- ---- the rule
 
@@ -67,14 +67,14 @@ pub record DrawsNumber (v w : Hand) (n : ℕ) : Type 0 where
   pub hand : w ≡ with_number v n
   pub later : AllBelow n v.drawn
   pub most : n < v.of.requests + v.of.workers
-  pub all : IsWhole v → HasEachBelow (n + 1) w.drawn
+  pub all : StandsForAllSeats v → HasEachBelow (n + 1) w.drawn
 
 -- what a seat is told that looked at the word: it stands for no more than the workers, and one that stands for all has each
 -- number below the word once
 pub record LooksAt (v w : Hand) (n : ℕ) : Type 0 where
   pub hand : w ≡ v
   pub most : v.parts + v.splits ≤ v.of.workers
-  pub all : IsWhole v → HasEachBelow n v.drawn
+  pub all : StandsForAllSeats v → HasEachBelow n v.drawn
 
 module _ {S : Type 0} where
   -- the numbers that were drawn are those below the word, each by one seat

@@ -4,7 +4,7 @@ use Rattle.atomic_table.specs.Seated.{TableId}
 use Rattle.cl_pool.specs.declared.hand.Hand.{Hand}
 use Rattle.cl_pool.specs.declared.hand.Bounds.{Bounds}
 use Rattle.cl_schedule.specs.Serving.{HasEachBelow}
-use Rattle.cl_pool.specs.Numbers.{DrawsNumber, IsWhole, past}
+use Rattle.cl_pool.specs.Numbers.{DrawsNumber, StandsForAllSeats, past}
 
 -- a seat: of which word it is, and what it knows
 pub record Seated : Type 0 where
@@ -45,4 +45,4 @@ pub record HoldsEach (s : Seated) : Type 0 where
 
 -- the seat does so once it stands for all
 abbrev pub HoldsAll : Seated → Type 0
-HoldsAll s = IsWhole s.hand → HoldsEach s
+HoldsAll s = StandsForAllSeats s.hand → HoldsEach s

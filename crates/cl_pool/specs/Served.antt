@@ -17,7 +17,7 @@ pub record IsOfRows (told : Option Content) (r : Report) (rows : List Rowed) : T
   pub rows_are : registry.rows ≡ rows
 
 -- so many workers may serve
-pub record MayServe (workers : ℕ) : Type 0 where
+pub record WorkersMayServe (workers : ℕ) : Type 0 where
   pub least : 1 ≤ workers
   pub most : workers ≤ MOST_WORKERS
 
@@ -38,8 +38,8 @@ FailsAs config script (faults.Unanswered x) = IsUnanswered config script x
 
 -- why there is no report: the workers are blamed where there are none or too many, and nowhere else
 abbrev pub RefusedFor : {A : Type 0} → ℕ → Configured → Scripted → PoolFault A → Type 0
-RefusedFor workers config script faults.Memory = MayServe workers
-RefusedFor workers config script faults.Workers = MayServe workers → ⊥
-RefusedFor workers config script faults.NoThread = MayServe workers
-RefusedFor workers config script faults.Stray = MayServe workers
-RefusedFor workers config script (faults.Unanswered x) = MayServe workers × IsUnanswered config script x
+RefusedFor workers config script faults.Memory = WorkersMayServe workers
+RefusedFor workers config script faults.Workers = WorkersMayServe workers → ⊥
+RefusedFor workers config script faults.NoThread = WorkersMayServe workers
+RefusedFor workers config script faults.Stray = WorkersMayServe workers
+RefusedFor workers config script (faults.Unanswered x) = WorkersMayServe workers × IsUnanswered config script x

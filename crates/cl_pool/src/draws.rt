@@ -4,7 +4,7 @@ ghost use Rattle.std.specs.Prelude.{◌≡◌, ◌<◌, ◌≤◌, IfOk, IfErr, 
 ghost use Rattle.cl_pool.specs.Numbers.{both, first_hand, new_hand, one_split_less};
 ghost use Rattle.cl_pool.specs.declared.limits.TheConstants.{MOST_WORKERS};
 ghost use Rattle.cl_pool.specs.Seats.{Drew, HoldsAll, IsSeatOf, MayDraw, Missed, bounds};
-ghost use Rattle.cl_pool.specs.Served.{MayServe};
+ghost use Rattle.cl_pool.specs.Served.{WorkersMayServe};
 
 use crate::hand::{Both, Bounds, Cut, Draw, Hand, Look, Rule};
 use atomic_table::{Seat as Token, Table};
@@ -82,7 +82,7 @@ impl Draws {
     /// A word for the numbers of so many requests, with its first seat, from which one less than the workers can be split
     /// off. `Memory`.
     pub fn new(alloc: Global, requests: u32, workers: u32) -> Result<(Draws, Seat), DrawFault>
-        requires { MayServe workers }
+        requires { WorkersMayServe workers }
         ensures bounds { IfOk result (λ r. r.0.of ≡ bounds requests workers) }
         ensures seat { IfOk result (λ r. IsSeatOf r.0 r.1) }
         ensures first { IfOk result (λ r. r.1.hand ≡ first_hand r.0.of) }

@@ -1,7 +1,7 @@
 ghost use Rattle.std.specs.Prelude.{◌≡◌, ◌≤◌, IfOk, IfErr, IsErrOf, OnOk, length, map, true};
 ghost use Rattle.cl_config.specs.Scripts.{HasLoaders};
 ghost use Rattle.cl_pool.specs.Seats.{IsSeatOf, MayDraw};
-ghost use Rattle.cl_pool.specs.Served.{FailsAs, IsOfRows, MayServe, RefusedFor};
+ghost use Rattle.cl_pool.specs.Served.{FailsAs, IsOfRows, WorkersMayServe, RefusedFor};
 ghost use Rattle.cl_schedule.specs.Headline.{IsServed};
 
 use crate::desk::Desk;
@@ -45,7 +45,7 @@ pub fn serve<T: Told + Send + Sync, S: Source<T> + Send, G: Gate, R: Threads + W
 ) -> Result<Report, PoolFault<T>>
     requires loaders { HasLoaders (length config.value.loaders) script.value.requests }
     ensures served { IfOk result (IsServed T.told config.value script.value) }
-    ensures workers { OnOk result (MayServe workers) }
+    ensures workers { OnOk result (WorkersMayServe workers) }
     ensures refused { IfErr result (RefusedFor workers config.value script.value) }
 {
     match serve_with_rows(rt, alloc, config, source, script, workers, gate) {
@@ -80,7 +80,7 @@ pub fn serve_with_rows<
     requires loaders { HasLoaders (length config.value.loaders) script.value.requests }
     ensures served { IfOk result (λ r. IsServed T.told config.value script.value r.0) }
     ensures rows { IfOk result (λ r. IsOfRows T.told r.0 (map (λ c. c.value) r.1.items)) }
-    ensures workers { OnOk result (MayServe workers) }
+    ensures workers { OnOk result (WorkersMayServe workers) }
     ensures refused { IfErr result (RefusedFor workers config.value script.value) }
 {
     if workers < 1 || workers > MOST_WORKERS {
@@ -108,7 +108,7 @@ fn open<T: Told>(
     script: &Arc<Script>,
     workers: u32,
 ) -> Result<(Pool<T>, Seat), AllocError>
-    requires workers { MayServe workers }
+    requires workers { WorkersMayServe workers }
     ensures fits { IfOk result (λ r. IsSeatOf r.0.draws r.1) }
     ensures may { IfOk result (λ r. MayDraw r.1) }
 {

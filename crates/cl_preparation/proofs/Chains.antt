@@ -26,11 +26,11 @@ use Rattle.cl_preparation.specs.declared.declarers.MethodTexts.{MethodTexts}
 use Rattle.cl_preparation.specs.declared.survey.Survey.{Survey}
 use Rattle.indexmap.specs.IndexMap.{IndexMap, get}
 use Rattle.cl_preparation.specs.Declarers.{same_texts}
-use Rattle.cl_preparation.specs.Chains.{IsChained, IsKept, IsUnder}
+use Rattle.cl_preparation.specs.Chains.{IsChained, ChainIsKept, HasSuperclass}
 use Rattle.cl_preparation.specs.Fewer.{AddsDeclared, AreFew, by_methods, by_superinterfaces, fewer_declared, fewer_inherited, left_above, loaders, loaders_left_over, loaders_over, others_after}
 use Rattle.cl_preparation.specs.Inherited.{equals_from, other_than}
 use Rattle.cl_preparation.specs.Listings.{Listing, with_all, once_of, without_repeats}
-use Rattle.cl_preparation.specs.MethodsAbove.{AreTold, Tells}
+use Rattle.cl_preparation.specs.MethodsAbove.{TellsEach, TellsOfMethod}
 use Rattle.cl_preparation.specs.Nearby.{AddLoaders, AreLike}
 use Rattle.cl_preparation.specs.Relatives.{bare}
 use Rattle.cl_preparation.specs.Surveys.{IsAlone, IsSurvey}
@@ -60,17 +60,17 @@ named_under l place s order e =
     front_is (kin_named known s.class) s (up ∙ ap (λ (cs : List Class). first (upward (forest known cs))) (up_class known own s up))
 
 -- where the superclass is the class of which something is kept, that is of the superclasses
-pub kept_above : (l : Lined) (place : ℕ) (at : Lined) (k : Kept) → IsInOrder l → IsKept l k → at ≡ lined_at l place → IsUnder (kin_of at) k.last → AreTold k.methods (superclasses (kin_of at))
+pub kept_above : (l : Lined) (place : ℕ) (at : Lined) (k : Kept) → IsInOrder l → ChainIsKept l k → at ≡ lined_at l place → HasSuperclass (kin_of at) k.last → TellsEach k.methods (superclasses (kin_of at))
 kept_above l place at k order kept is under =
     let s : Kin = under.0 in
     let up : Some s ≡ first (superclasses (kin_of at)) = under.1 in
     let one : s ≡ kept.kin =
     same_Some s kept.kin
     (sym (named_under l place s order (up ∙ ap (λ (x : Lined). first (superclasses (kin_of x))) is)) ∙ ap (λ (c : Class). kin_named (kins (rows_in l)) c) under.2 ∙ kept.named) in
-    subst (λ (ks : List Kin). AreTold k.methods ks) (sym (upward_first (kin_of at).superclass s up ∙ ap (λ (x : Kin). x ∷ superclasses x) one)) kept.told
+    subst (λ (ks : List Kin). TellsEach k.methods ks) (sym (upward_first (kin_of at).superclass s up ∙ ap (λ (x : Kin). x ∷ superclasses x) one)) kept.told
 
 -- with the methods of the class it is of that
-pub kept_own : (l : Lined) (place : ℕ) (at : Lined) (own : Rowed) (k : Kept) → IsInOrder l → at ≡ lined_at l place → own ≡ at.own → k.last ≡ (kin_of at).class → AreTold k.methods (bare own ∷ superclasses (kin_of at)) → IsKept l k
+pub kept_own : (l : Lined) (place : ℕ) (at : Lined) (own : Rowed) (k : Kept) → IsInOrder l → at ≡ lined_at l place → own ≡ at.own → k.last ≡ (kin_of at).class → TellsEach k.methods (bare own ∷ superclasses (kin_of at)) → ChainIsKept l k
 kept_own l place at own k order is mine named told = record {
   kin = kin_of at;
   named =
@@ -79,7 +79,7 @@ kept_own l place at own k order is mine named told = record {
       ∙ ap (λ (x : Kin). Some x) (sym (at_kin l place order) ∙ ap (λ (x : Lined). kin_of x) (sym is));
   told =
       tree_told k.methods (kins at.above) at.own (superclasses (kin_of at))
-      (subst (λ (r : Rowed). AreTold k.methods (bare r ∷ superclasses (kin_of at))) mine told);
+      (subst (λ (r : Rowed). TellsEach k.methods (bare r ∷ superclasses (kin_of at))) mine told);
 }
 
 -- ---- the walk from the top
@@ -88,29 +88,29 @@ kept_own l place at own k order is mine named told = record {
 pub record IsPutting {A S : Type 0} (v : A → Rowed) (l : Lined) (rows : List A) (table : IndexMap MethodTexts Above S) : Type 0 where
   pub done : List Kin
   pub split : map (λ x. kin_under (kins l.above) (v x)) rows ++ done ≡ superclasses (kin_of l)
-  pub told : AreTold table done
+  pub told : TellsEach table done
 
 map_push : {A : Type 0} (f : A → Kin) (xs : List A) (x : A) (ks : List Kin) → map f (xs ++ x ∷ []) ++ ks ≡ map f xs ++ f x ∷ ks
 map_push f [] x ks = refl
 map_push f (y ∷ xs) x ks = ap (λ (zs : List Kin). f y ∷ zs) (map_push f xs x ks)
 
-pub putting_on : {A S : Type 0} (v : A → Rowed) (l : Lined) (rows rest : List A) (x : A) (r : Rowed) (old new : IndexMap MethodTexts Above S) → rows ≡ rest ++ x ∷ [] → r ≡ v x → ((ks : List Kin) → AreTold old ks → AreTold new (bare r ∷ ks)) → IsPutting v l rows old → IsPutting v l rest new
+pub putting_on : {A S : Type 0} (v : A → Rowed) (l : Lined) (rows rest : List A) (x : A) (r : Rowed) (old new : IndexMap MethodTexts Above S) → rows ≡ rest ++ x ∷ [] → r ≡ v x → ((ks : List Kin) → TellsEach old ks → TellsEach new (bare r ∷ ks)) → IsPutting v l rows old → IsPutting v l rest new
 putting_on v l rows rest x r old new popped same put was = record {
   done = kin_under (kins l.above) (v x) ∷ was.done;
   split = sym (map_push (λ y. kin_under (kins l.above) (v y)) rest x was.done) ∙ ap (λ ys. map (λ y. kin_under (kins l.above) (v y)) ys ++ was.done) (sym popped) ∙ was.split;
-  told = tree_told new (kins l.above) (v x) was.done (subst (λ (y : Rowed). AreTold new (bare y ∷ was.done)) same (put was.done was.told));
+  told = tree_told new (kins l.above) (v x) was.done (subst (λ (y : Rowed). TellsEach new (bare y ∷ was.done)) same (put was.done was.told));
 }
 
 pub putting_first : {A S : Type 0} (v : A → Rowed) (l : Lined) (rows : List A) (table : IndexMap MethodTexts Above S) → map (λ x. kin_under (kins l.above) (v x)) rows ≡ superclasses (kin_of l) → ((t : MethodTexts) → get same_texts table t ≡ None) → IsPutting v l rows table
 putting_first v l rows table are none = record {
   done = [];
   split = append-nil (map (λ x. kin_under (kins l.above) (v x)) rows) ∙ are;
-  told = λ t key reads. subst (λ (o : Option Above). Tells key [] o) (sym (none t)) (record { wide = refl; class = refl; nearest = refl });
+  told = λ t key reads. subst (λ (o : Option Above). TellsOfMethod key [] o) (sym (none t)) (record { wide = refl; class = refl; nearest = refl });
 }
 
-pub putting_end : {A S : Type 0} (v : A → Rowed) (l : Lined) (rows : List A) (table : IndexMap MethodTexts Above S) → rows ≡ [] → IsPutting v l rows table → AreTold table (superclasses (kin_of l))
+pub putting_end : {A S : Type 0} (v : A → Rowed) (l : Lined) (rows : List A) (table : IndexMap MethodTexts Above S) → rows ≡ [] → IsPutting v l rows table → TellsEach table (superclasses (kin_of l))
 putting_end v l rows table none was =
-    subst (λ (ks : List Kin). AreTold table ks) (sym (ap (λ ys. map (λ y. kin_under (kins l.above) (v y)) ys ++ was.done) none) ∙ was.split) was.told
+    subst (λ (ks : List Kin). TellsEach table ks) (sym (ap (λ ys. map (λ y. kin_under (kins l.above) (v y)) ys ++ was.done) none) ∙ was.split) was.told
 
 -- what the methods of rows impose, by where they are kept
 pub by_rows : {A : Type 0} (v : A → Rowed) (c : Kin) (xs : List A) → flat_map (λ x. flat_map (fewer_inherited c (bare (v x))) (bare (v x)).file.methods) xs ≡ by_methods bare (λ j. fewer_inherited c (bare j)) (map v xs)

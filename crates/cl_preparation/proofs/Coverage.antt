@@ -10,7 +10,7 @@ use Rattle.std.proofs.lemmas.List.Elements.{All-contains, All-from_recursion, Co
 use Rattle.cl_classfile.specs.Files.{Key, Member, file_of, is_interface, member, same_key}
 use Rattle.cl_model.specs.declared.class.Class.{Class}
 use Rattle.cl_model.specs.Lineages.{Bare, Forest, Kin, Tree, alone, if_declared, is_offered, is_virtual, method_of, once, preorder, superclasses, superinterfaces, upward}
-use Rattle.cl_model.specs.Preparation.{constraints_of, equals_of, equals_with, for_declared, for_inherited, inherited_from, is_special, overridden, takes_part, with_inherited}
+use Rattle.cl_model.specs.Preparation.{constraints_of, equals_of, equals_with, for_declared, for_inherited, inherited_from, begins_with_angle, overridden, takes_part, with_inherited}
 use Rattle.cl_model.specs.States.{AllMet, Need, State}
 use Rattle.cl_model.proofs.Closed.{met_both}
 use Rattle.cl_model.proofs.Keys.{keys_are_told}
@@ -23,12 +23,12 @@ use Rattle.cl_hierarchy.specs.Trees.{forest, in_front, kin_named, kins, supercla
 use Rattle.cl_hierarchy.proofs.Climbs.{upward_first}
 use Rattle.cl_hierarchy.proofs.OversAt.{there_in}
 use Rattle.cl_preparation.specs.Listings.{Listing}
-use Rattle.cl_preparation.specs.Chains.{AreImposed, AreOver, CoversHidden, IsClassAbove, IsShownOrSpared, by_row, hidden_by}
+use Rattle.cl_preparation.specs.Chains.{AreImposedAbove, AreOver, CoversHidden, IsClassAbove, IsShownOrSpared, by_row, hidden_by}
 use Rattle.cl_preparation.specs.Nearby.{AddAll}
 use Rattle.cl_preparation.specs.Fewer.{AddsLeft, IsImposed, by_methods, by_superinterfaces, fewer_inherited, is_between, unhidden}
 use Rattle.cl_preparation.specs.Relatives.{bare, names_interfaces}
 use Rattle.cl_preparation.specs.Spared.{Declared, Hider, IsSpared, MetAbove, Unmixed, are_enough, is_met_above}
-use Rattle.cl_preparation.specs.Surveys.{IsPart, IsUnmixed}
+use Rattle.cl_preparation.specs.Surveys.{IsAmongRows, IsUnmixed}
 use Rattle.cl_preparation.specs.Walks.{hides}
 use Rattle.cl_preparation.proofs.Chains.{by_rows}
 use Rattle.cl_preparation.proofs.Interfaces.{IsFew, few_superclasses, none_over}
@@ -126,7 +126,7 @@ module _ (k s : Kin) (st : State) (up : superclasses k ≡ s ∷ superclasses s)
     where
       takes : takes_part key s ≡ true
       takes =
-          let ordinary = (and_parts (not (is_special key.name)) (is_offered key j) part).0 in
+          let ordinary = (and_parts (not (begins_with_angle key.name)) (is_offered key j) part).0 in
           rw ordinary (rw on refl)
 
       by : (o : Option Member) → method_of s key ≡ o → if_declared o is_virtual ≡ true → AllMet st (equals_of key s.class.loader j.class.loader)
@@ -300,7 +300,7 @@ imposes U hidden k s up class told spared = λ j n some over among st h.
 -- ---- as rows tell it
 
 -- what is spared is met
-spared_at : (l : Lined) (rows : List Rowed) → IsPart rows l → (st : State) (j : Kin) (m : Member) (n : ℕ) → AllMet st (constraints_above (kin_of l)) → AreSharing (kin_of l) j n → Contains (superinterfaces (kin_of l)) j → Contains j.file.methods m
+spared_at : (l : Lined) (rows : List Rowed) → IsAmongRows rows l → (st : State) (j : Kin) (m : Member) (n : ℕ) → AllMet st (constraints_above (kin_of l)) → AreSharing (kin_of l) j n → Contains (superinterfaces (kin_of l)) j → Contains j.file.methods m
     → IsSpared l rows n m.key → AllMet st (fewer_inherited (kin_of l) j m)
 spared_at l rows part st j m n met over among within (Unmixed is) =
     let k : Kin = kin_of l in
@@ -312,7 +312,7 @@ spared_at l rows part st j m n met over among within (MetAbove e) =
     spared_met st j m k (λ takes. far_met st j m takes within k k.superclass n refl over e met)
 
 -- superclasses of the class of a lineage impose so, but for what the nearest hides
-pub imposes_at : (l : Lined) (up : Rowed) (rows : List Rowed) (hidden : ℕ → Key → Bool) → IsPart rows l → IsClassAbove l up → CoversHidden l rows (bare up) hidden → ImposesShared (kin_of l) hidden
+pub imposes_at : (l : Lined) (up : Rowed) (rows : List Rowed) (hidden : ℕ → Key → Bool) → IsAmongRows rows l → IsClassAbove l up → CoversHidden l rows (bare up) hidden → ImposesShared (kin_of l) hidden
 imposes_at l up rows hidden part is told =
     let s : Kin = kin_at l up in
     imposes (IsSpared l rows) hidden (kin_of l) s (upward_first (kin_of l).superclass s is.above) is.class told (spared_at l rows part)
@@ -407,7 +407,7 @@ named_none l own i same none = by (few_above (kins l.above) (superclass_in l.own
         (subst (λ (ks : List Kin). Contains ks j) (over_same (kin_of l) up.0 up.1 bare_over) (there_in (superinterfaces (kin_of l)) i j at), tt)
 
 -- the methods of a row that superclasses have too impose what is met, but for those that are hidden
-pub shared_met : (l : Lined) (over : List Rowed) (hidden : ℕ → Key → Bool) → ImposesShared (kin_of l) hidden → AreOver l over → AreImposed (kin_of l) hidden over
+pub shared_met : (l : Lined) (over : List Rowed) (hidden : ℕ → Key → Bool) → ImposesShared (kin_of l) hidden → AreOver l over → AreImposedAbove (kin_of l) hidden over
 shared_met l over hidden fit (inl none) i n r some shared at = absurd (none_there i r (subst (λ (rs : List Rowed). slice_get rs i ≡ Some r) none at))
 shared_met l over hidden fit (inr all) i n r some shared at =
     let j : Kin = kin_at all.0 r in

@@ -4,7 +4,7 @@ use Rattle.std.specs.Prelude.{option_map, option_and_then, is_some, filter_map, 
 use Rattle.std.specs.List.{All, AllByRecursion}
 use Rattle.cl_descriptors.proofs.Methods.{whole_method_again}
 use Rattle.cl_classfile.specs.declared.entry.Entry.{Entry}
-use Rattle.cl_classfile.specs.Structure.{Structure, Member, IsClassFile}
+use Rattle.cl_classfile.specs.Structure.{Structure, MemberInfo, IsClassFile}
 use Rattle.cl_classfile.specs.Flags.{has, interface}
 use Rattle.cl_classfile.specs.Members.{KeepsMethod}
 use Rattle.cl_classfile.specs.Files.{Name, Key, File, method_of, text_of}
@@ -15,7 +15,7 @@ use Rattle.std.proofs.lemmas.List.{take_more}
 use Rattle.std.proofs.lemmas.List.Elements.{All-from_recursion, All-get_or, filter_map-append}
 use Rattle.cl_preparation.specs.Methods.{IsTyped, is_wide}
 
-typed_by : (pool : List Entry) (b : Bool) (m : Member) → KeepsMethod pool b m → IsTyped pool m
+typed_by : (pool : List Entry) (b : Bool) (m : MemberInfo) → KeepsMethod pool b m → IsTyped pool m
 typed_by pool b m k = record {
   name = k.name.text;
   descriptor = k.descriptor.text;
@@ -24,7 +24,7 @@ typed_by pool b m k = record {
   typed = ap is_some (whole_method_again k.descriptor.text k.descriptor.kind.0 k.descriptor.kind.1);
 }
 
-all_typed : (pool : List Entry) (b : Bool) (ms : List Member) → AllByRecursion (KeepsMethod pool b) ms → AllByRecursion (IsTyped pool) ms
+all_typed : (pool : List Entry) (b : Bool) (ms : List MemberInfo) → AllByRecursion (KeepsMethod pool b) ms → AllByRecursion (IsTyped pool) ms
 all_typed pool b [] all = tt
 all_typed pool b (m ∷ ms) all = (typed_by pool b m all.0, all_typed pool b ms all.1)
 
@@ -79,11 +79,11 @@ flags_keyed f name descriptor key found same is told =
 -- ---- the walk over the methods of a file
 
 -- the member at an index has a name and a method descriptor
-pub typed_at : (f : Structure) → IsClassFile f → (pool : List Entry) → pool ≡ f.pool → (ms : List Member) → ms ≡ f.methods → (i : ℕ) (m : Member) → i < length ms → m ≡ get_or ms i m → IsTyped pool m
+pub typed_at : (f : Structure) → IsClassFile f → (pool : List Entry) → pool ≡ f.pool → (ms : List MemberInfo) → ms ≡ f.methods → (i : ℕ) (m : MemberInfo) → i < length ms → m ≡ get_or ms i m → IsTyped pool m
 typed_at f is pool pe ms me i m h at =
     let all : All (IsTyped f.pool) f.methods = All-from_recursion (IsTyped f.pool) f.methods (methods_typed f is) in
-    let here : IsTyped f.pool (get_or f.methods i m) = All-get_or (IsTyped f.pool) f.methods i m (subst (λ (xs : List Member). i < length xs) me h) all in
-    let same : get_or f.methods i m ≡ m = ap (λ (xs : List Member). get_or xs i m) (sym me) ∙ sym at in
+    let here : IsTyped f.pool (get_or f.methods i m) = All-get_or (IsTyped f.pool) f.methods i m (subst (λ (xs : List MemberInfo). i < length xs) me h) all in
+    let same : get_or f.methods i m ≡ m = ap (λ (xs : List MemberInfo). get_or xs i m) (sym me) ∙ sym at in
     subst (λ (es : List Entry). IsTyped es m) (sym pe) (subst (IsTyped f.pool) same here)
 
 -- one more of what a function gives of the items of a list

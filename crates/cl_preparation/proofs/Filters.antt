@@ -11,10 +11,10 @@ use Rattle.cl_classfile.specs.declared.entry.Entry.{Entry}
 use Rattle.cl_classfile.specs.Structure as structure
 use Rattle.cl_classfile.specs.Files.{Name, Key, Member, declared_by, keyed, member, method_of, same_key, text_at}
 use Rattle.cl_model.specs.Lineages.{Kin, if_declared, is_offered, is_virtual}
-use Rattle.cl_model.specs.Preparation.{is_special, takes_part}
+use Rattle.cl_model.specs.Preparation.{begins_with_angle, takes_part}
 use Rattle.cl_model.proofs.Keys.{keys_are_told}
 use Rattle.cl_hierarchy.specs.Rows.{Rowed}
-use Rattle.cl_preparation.specs.Filters.{AreMarked, Covers, Shuns, slot}
+use Rattle.cl_preparation.specs.Filters.{SlotsAreMarked, Covers, Shuns, slot}
 use Rattle.cl_preparation.specs.Relatives.{bare}
 use Rattle.cl_preparation.specs.Walks.{hides}
 use Rattle.std.proofs.lemmas.Option.{same_Some}
@@ -35,12 +35,12 @@ grown : (slots after : List Bool) (ms : List Member) → ((j : ℕ) → slice_ge
 grown slots after [] more all = tt
 grown slots after (m ∷ ms) more all = (more (slot m.key.name) all.0, grown slots after ms more all.1)
 
-appended : (b : Bool) (slots : List Bool) (ms ns : List Member) → AreMarked b slots ms → AreMarked b slots ns → AreMarked b slots (ms ++ ns)
+appended : (b : Bool) (slots : List Bool) (ms ns : List Member) → SlotsAreMarked b slots ms → SlotsAreMarked b slots ns → SlotsAreMarked b slots (ms ++ ns)
 appended b slots [] ns x y = y
 appended b slots (m ∷ ms) ns x y = (x.0, appended b slots ms ns x.1 y)
 
 -- one of a member that is looked at, whose slot is marked or not
-one_more : (b : Bool) (slots : List Bool) (pool : List Entry) (m : structure.Member) → ((n : Name) → text_at pool m.name_index ≡ Some n → slice_get slots (slot n) ≡ Some b) → AreMarked b slots (filter_map (declared_by method_of pool) (m ∷ []))
+one_more : (b : Bool) (slots : List Bool) (pool : List Entry) (m : structure.MemberInfo) → ((n : Name) → text_at pool m.name_index ≡ Some n → slice_get slots (slot n) ≡ Some b) → SlotsAreMarked b slots (filter_map (declared_by method_of pool) (m ∷ []))
 one_more b slots pool m marked = by_what (declared_by method_of pool m) refl
   where
     of_name : (o : Option Name) → text_at pool m.name_index ≡ o → (x : Member) → keyed method_of m.flags o (text_at pool m.descriptor_index) ≡ Some x → slice_get slots (slot x.key.name) ≡ Some b
@@ -48,26 +48,26 @@ one_more b slots pool m marked = by_what (declared_by method_of pool m) refl
         subst (λ (y : Name). slice_get slots (slot y) ≡ Some b) (sym (keyed_name m.flags n (text_at pool m.descriptor_index) x is)) (marked n named)
     of_name None named x is = absurd cc
 
-    by_what : (o : Option Member) → declared_by method_of pool m ≡ o → AreMarked b slots (filter_map (declared_by method_of pool) (m ∷ []))
+    by_what : (o : Option Member) → declared_by method_of pool m ≡ o → SlotsAreMarked b slots (filter_map (declared_by method_of pool) (m ∷ []))
     by_what (Some x) is =
         let one : filter_map (declared_by method_of pool) (m ∷ []) ≡ x ∷ [] = rw is refl in
-        subst (AreMarked b slots) (sym one) (of_name (text_at pool m.name_index) refl x is, tt)
+        subst (SlotsAreMarked b slots) (sym one) (of_name (text_at pool m.name_index) refl x is, tt)
     by_what None is =
         let none : filter_map (declared_by method_of pool) (m ∷ []) ≡ [] = rw is refl in
-        subst (AreMarked b slots) (sym none) tt
+        subst (SlotsAreMarked b slots) (sym none) tt
 
 -- the methods up to here and the next one, if it has a name
-pub marked_more : (b : Bool) (slots : List Bool) (pool : List Entry) (ms : List structure.Member) (i : ℕ) (m : structure.Member) → i < length ms → m ≡ get_or ms i m
-    → ((n : Name) → text_at pool m.name_index ≡ Some n → slice_get slots (slot n) ≡ Some b) → AreMarked b slots (filter_map (declared_by method_of pool) (take i ms))
-    → AreMarked b slots (filter_map (declared_by method_of pool) (take (i + 1) ms))
+pub marked_more : (b : Bool) (slots : List Bool) (pool : List Entry) (ms : List structure.MemberInfo) (i : ℕ) (m : structure.MemberInfo) → i < length ms → m ≡ get_or ms i m
+    → ((n : Name) → text_at pool m.name_index ≡ Some n → slice_get slots (slot n) ≡ Some b) → SlotsAreMarked b slots (filter_map (declared_by method_of pool) (take i ms))
+    → SlotsAreMarked b slots (filter_map (declared_by method_of pool) (take (i + 1) ms))
 marked_more b slots pool ms i m h at marked before =
-    let f : structure.Member → Option Member = declared_by method_of pool in
+    let f : structure.MemberInfo → Option Member = declared_by method_of pool in
     let next : take (i + 1) ms ≡ take i ms ++ m ∷ [] = take_more ms i m h ∙ ap (λ y. take i ms ++ y ∷ []) (sym at) in
     let both : filter_map f (take (i + 1) ms) ≡ filter_map f (take i ms) ++ filter_map f (m ∷ []) = ap (filter_map f) next ∙ filter_map-append f (take i ms) (m ∷ []) in
-    subst (AreMarked b slots) (sym both) (appended b slots (filter_map f (take i ms)) (filter_map f (m ∷ [])) before (one_more b slots pool m marked))
+    subst (SlotsAreMarked b slots) (sym both) (appended b slots (filter_map f (take i ms)) (filter_map f (m ∷ [])) before (one_more b slots pool m marked))
 
 -- a method more, the slot of whose name was marked, if it has one
-pub covers_more : (slots after : List Bool) (pool : List Entry) (ms : List structure.Member) (i : ℕ) (m : structure.Member) → i < length ms → m ≡ get_or ms i m
+pub covers_more : (slots after : List Bool) (pool : List Entry) (ms : List structure.MemberInfo) (i : ℕ) (m : structure.MemberInfo) → i < length ms → m ≡ get_or ms i m
     → ((n : Name) → text_at pool m.name_index ≡ Some n → slice_get after (slot n) ≡ Some true) → ((j : ℕ) → slice_get slots j ≡ Some true → slice_get after j ≡ Some true)
     → Covers slots (filter_map (declared_by method_of pool) (take i ms)) → Covers after (filter_map (declared_by method_of pool) (take (i + 1) ms))
 covers_more slots after pool ms i m h at marked more before =
@@ -100,18 +100,18 @@ none_hides slots k key name same all free =
     ap (λ (o : Option Member). is_some o && not (is_offered key k)) (none_covered slots k.file.methods key all (subst (λ (n : Name). slice_get slots (slot n) ≡ Some false) one free))
 
 -- the methods up to here that are picked, and the next one, if it is
-pub picked_more : (p : Key → Bool) (pool : List Entry) (ms : List structure.Member) (i : ℕ) (m : structure.Member) (o : Option Member) (done after : List Member) → i < length ms → m ≡ get_or ms i m
+pub picked_more : (p : Key → Bool) (pool : List Entry) (ms : List structure.MemberInfo) (i : ℕ) (m : structure.MemberInfo) (o : Option Member) (done after : List Member) → i < length ms → m ≡ get_or ms i m
     → option_to_list o ≡ filter (λ (y : Member). p y.key) (option_to_list (declared_by method_of pool m)) → done ≡ filter (λ (y : Member). p y.key) (filter_map (declared_by method_of pool) (take i ms)) → after ≡ done ++ option_to_list o
     → after ≡ filter (λ (y : Member). p y.key) (filter_map (declared_by method_of pool) (take (i + 1) ms))
 picked_more p pool ms i m o done after h at picked before more =
-    let f : structure.Member → Option Member = declared_by method_of pool in
+    let f : structure.MemberInfo → Option Member = declared_by method_of pool in
     let q : Member → Bool = λ y. p y.key in
     let next : take (i + 1) ms ≡ take i ms ++ m ∷ [] = take_more ms i m h ∙ ap (λ y. take i ms ++ y ∷ []) (sym at) in
     let both : filter_map f (take (i + 1) ms) ≡ filter_map f (take i ms) ++ filter_map f (m ∷ []) = ap (filter_map f) next ∙ filter_map-append f (take i ms) (m ∷ []) in
     more ∙ ap (λ (xs : List Member). xs ++ option_to_list o) before ∙ ap (λ (xs : List Member). filter q (filter_map f (take i ms)) ++ xs) (picked ∙ ap (filter q) (one f m))
     ∙ sym (filter-append q (filter_map f (take i ms)) (filter_map f (m ∷ []))) ∙ ap (filter q) (sym both)
   where
-    one : (f : structure.Member → Option Member) (m : structure.Member) → option_to_list (f m) ≡ filter_map f (m ∷ [])
+    one : (f : structure.MemberInfo → Option Member) (m : structure.MemberInfo) → option_to_list (f m) ≡ filter_map f (m ∷ [])
     one f m = by (f m) refl
       where
         by : (r : Option Member) → f m ≡ r → option_to_list (f m) ≡ filter_map f (m ∷ [])
@@ -134,7 +134,7 @@ shunned slots (m ∷ ms) key all marked = by (same_key m.key key) refl (shunned 
 -- so the method takes part in none of these classes
 pub shuns_part : (slots : List Bool) (k : Kin) (key : Key) → Shuns slots k.file.methods → slice_get slots (slot key.name) ≡ Some true → takes_part key k ≡ false
 shuns_part slots k key all marked =
-    ap (λ (o : Option Member). not (is_special key.name) && if_declared o is_virtual) (shunned slots k.file.methods key all marked) ∙ by (not (is_special key.name))
+    ap (λ (o : Option Member). not (begins_with_angle key.name) && if_declared o is_virtual) (shunned slots k.file.methods key all marked) ∙ by (not (begins_with_angle key.name))
   where
     by : (b : Bool) → (b && false) ≡ false
     by true = refl
@@ -142,7 +142,7 @@ shuns_part slots k key all marked =
 
 -- of a method that a class declares, the slot of the name is marked
 pub own_marked : (slots : List Bool) (k : Kin) (key : Key) → Covers slots k.file.methods → takes_part key k ≡ true → slice_get slots (slot key.name) ≡ Some true
-own_marked slots k key all on = by (member k.file.methods key) refl (and_parts (not (is_special key.name)) (if_declared (member k.file.methods key) is_virtual) on).1
+own_marked slots k key all on = by (member k.file.methods key) refl (and_parts (not (begins_with_angle key.name)) (if_declared (member k.file.methods key) is_virtual) on).1
   where
     found : (ms : List Member) (m : Member) → member ms key ≡ Some m → Covers slots ms → slice_get slots (slot key.name) ≡ Some true
     found [] m e all = absurd cc

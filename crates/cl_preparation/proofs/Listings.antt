@@ -14,7 +14,7 @@ use Rattle.cl_model.specs.Preparation.{equals_of}
 use Rattle.cl_model.specs.States.{Entry, Equal, Need}
 use Rattle.cl_hierarchy.specs.Imposed.{equal_need, needs_of}
 use Rattle.cl_preparation.specs.declared.key.Between.{Between}
-use Rattle.cl_preparation.specs.Listings.{AreAmong, Grows, IsOfDescriptor, IsPassed, Listing, all_listed, has_need, once_of, same_need, with_all, with_one, without_repeats}
+use Rattle.cl_preparation.specs.Listings.{AreAmong, NeedsGrow, IsOfDescriptor, IsPassed, Listing, all_listed, has_need, once_of, same_need, with_all, with_one, without_repeats}
 use Rattle.cl_preparation.specs.Methods.{key_in}
 
 -- ---- what a call that is done ensures
@@ -125,7 +125,7 @@ one_keeps l n m h = by (l.once && has_need l.needs m)
     by true = h
     by false = among_pushed n m l.needs h
 
-pub all_keep : (l : Listing) (xs : List Need) → Grows l.needs (with_all l xs).needs
+pub all_keep : (l : Listing) (xs : List Need) → NeedsGrow l.needs (with_all l xs).needs
 all_keep l [] = λ n h. h
 all_keep l (x ∷ xs) = λ n h. all_keep (with_one l x) xs n (one_keeps l n x h)
 
@@ -150,7 +150,7 @@ none_more l (x ∷ xs) once all =
     let same : with_one l x ≡ l = ap (λ (b : Bool). if b then l else pushed l x) (both_true l.once (has_need l.needs x) once all.0) in
     subst (λ (m : Listing). l ≡ with_all m xs) (sym same) (none_more l xs once all.1)
 
-pub among_more : (old new ns : List Need) → Grows old new → AreAmong old ns → AreAmong new ns
+pub among_more : (old new ns : List Need) → NeedsGrow old new → AreAmong old ns → AreAmong new ns
 among_more old new [] grows all = tt
 among_more old new (n ∷ ns) grows all = (grows n all.0, among_more old new ns grows all.1)
 
@@ -237,7 +237,7 @@ inserted old new e made = ap once_of made ∙ by (list_any (same_equality e) old
     by false = ap (λ (ns : List Need). let l : Listing = record { needs = ns; once = true } in l) (map_push equal_need old e)
 
 -- what stood in the set still does
-pub kept_by : (old new : List Equality) (xs : List Need) → once_of new ≡ with_all (once_of old) xs → Grows (needs_of old) (needs_of new)
+pub kept_by : (old new : List Equality) (xs : List Need) → once_of new ≡ with_all (once_of old) xs → NeedsGrow (needs_of old) (needs_of new)
 kept_by old new xs e = λ n h. subst (λ (l : Listing). has_need l.needs n ≡ true) (sym e) (all_keep (once_of old) xs n h)
 
 pub there_by : (old new : List Equality) (xs : List Need) → once_of new ≡ with_all (once_of old) xs → AreAmong (needs_of new) xs
@@ -267,7 +267,7 @@ found_passed needs p [] all e = absurd cc
 found_passed needs p (q ∷ passed) all e = found_step needs p q (same_between p q) (list_any (same_between p) passed) refl e all.0 (λ h. found_passed needs p passed all.1 h)
 
 -- they are where more stands
-pub passed_grow : (old new : List Need) (passed : List Between) → Grows old new → AllByRecursion (IsPassed old) passed → AllByRecursion (IsPassed new) passed
+pub passed_grow : (old new : List Need) (passed : List Between) → NeedsGrow old new → AllByRecursion (IsPassed old) passed → AllByRecursion (IsPassed new) passed
 passed_grow old new [] grows all = tt
 passed_grow old new (p ∷ passed) grows all = ((λ name. among_more old new (equals_of (key_in name p.descriptor) p.one p.other) grows (all.0 name)), passed_grow old new passed grows all.1)
 

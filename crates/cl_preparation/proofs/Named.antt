@@ -11,7 +11,7 @@ use Rattle.cl_classfile.specs.Files.{Name, Key, Member, keyed, member, method_of
 use Rattle.cl_classfile.specs.Lookups.{linked_method, method_named}
 use Rattle.cl_model.specs.Classes.{same_package}
 use Rattle.cl_model.specs.Lineages.{Kin, if_declared, is_virtual, superclasses}
-use Rattle.cl_model.specs.Preparation.{is_special, overrides, takes_part}
+use Rattle.cl_model.specs.Preparation.{begins_with_angle, overrides, takes_part}
 use Rattle.cl_hierarchy.specs.Rows.{Rowed}
 use Rattle.cl_hierarchy.specs.Lineages.{Lined, kin_at, kin_of}
 use Rattle.std.proofs.lemmas.List.{take-map}
@@ -35,7 +35,7 @@ keyed_flags flags None d m e = absurd cc
 keyed_flags flags (Some n) None m e = absurd cc
 
 -- the flags of the method that was found are those of the one that is meant
-pub flags_named : (f : Structure) (o : Option structure.Member) (p : Option Member) → option_map (linked_method f) o ≡ option_map (λ m. Some m) p → option_map (λ m. m.flags) o ≡ option_map (λ m. m.flags) p
+pub flags_named : (f : Structure) (o : Option structure.MemberInfo) (p : Option Member) → option_map (linked_method f) o ≡ option_map (λ m. Some m) p → option_map (λ m. m.flags) o ≡ option_map (λ m. m.flags) p
 flags_named f (Some m) (Some n) e = ap (λ (x : ℕ). Some x) (sym (keyed_flags m.flags (text_at f.pool m.name_index) (text_at f.pool m.descriptor_index) n (same_Some (linked_method f m) (Some n) e)))
 flags_named f None None e = refl
 flags_named f (Some m) None e = absurd cc
@@ -54,8 +54,8 @@ if_flags (Some m) test = refl
 
 -- whether a class's method of this name and descriptor takes part
 pub part_named : (r : Rowed) (name descriptor : Name) (found : Option ℕ) → found ≡ option_map (λ m. m.flags) (method_named (bare r).file name descriptor)
-    → flags_pass found (λ x. not (is_special name) && is_virtual x) ≡ asked (method_of name descriptor) (λ key. takes_part key (bare r))
-part_named r name descriptor found e = ap (λ (o : Option ℕ). flags_pass o (λ x. not (is_special name) && is_virtual x)) e ∙ by_type (whole_method descriptor)
+    → flags_pass found (λ x. not (begins_with_angle name) && is_virtual x) ≡ asked (method_of name descriptor) (λ key. takes_part key (bare r))
+part_named r name descriptor found e = ap (λ (o : Option ℕ). flags_pass o (λ x. not (begins_with_angle name) && is_virtual x)) e ∙ by_type (whole_method descriptor)
   where
     made : MethodType → Key
     made m = record { name = name; descriptor = descriptors.Method m }
@@ -66,10 +66,10 @@ part_named r name descriptor found e = ap (λ (o : Option ℕ). flags_pass o (λ
     in_front b (Some m) = refl
 
     by_type : (t : Option MethodType)
-        → flags_pass (option_map (λ m. m.flags) (option_and_then (member (bare r).file.methods) (option_map made t))) (λ x. not (is_special name) && is_virtual x)
+        → flags_pass (option_map (λ m. m.flags) (option_and_then (member (bare r).file.methods) (option_map made t))) (λ x. not (begins_with_angle name) && is_virtual x)
         ≡ asked (option_map made t) (λ key. takes_part key (bare r))
     by_type None = refl
-    by_type (Some t) = in_front (not (is_special name)) (member (bare r).file.methods (made t))
+    by_type (Some t) = in_front (not (begins_with_angle name)) (member (bare r).file.methods (made t))
 
 -- whether it is public or protected
 pub open_named : (r : Rowed) (name descriptor : Name) (found : Option ℕ) → found ≡ option_map (λ m. m.flags) (method_named (bare r).file name descriptor)

@@ -8,7 +8,7 @@ use Rattle.std.proofs.lemmas.List.{take_more}
 use Rattle.cl_classfile.specs.Files.{Key, Member, Name, is_interface, member, same_key}
 use Rattle.cl_model.specs.declared.class.Class.{Class}
 use Rattle.cl_model.specs.Lineages.{Bare, Forest, Kin, Tree, if_declared, is_offered, is_virtual, method_of, superclasses, superinterfaces, upward}
-use Rattle.cl_model.specs.Preparation.{class_names, constraints_of, equals_of, equals_with, for_declared, for_inherited, is_special, overridden, takes_part}
+use Rattle.cl_model.specs.Preparation.{class_names, constraints_of, equals_of, equals_with, for_declared, for_inherited, begins_with_angle, overridden, takes_part}
 use Rattle.cl_model.specs.States.{AllMet, Equal, Joined, Met, Need, State}
 use Rattle.cl_model.proofs.Closed.{met_both}
 use Rattle.cl_model.proofs.Keys.{keys_are_told}
@@ -90,7 +90,7 @@ module _ (st : State) where
   walked_met key x opened (k ∷ ks) h = walked_step key x opened k ks (takes_part key k) (is_open key k) (is_in_package opened k.class) refl refl refl (λ others rest. walked_met key x others ks rest) h
 
   nearest_met : (k : Kin) (key : Key) → opens key k ≡ true → is_interface k.file ≡ false → AllMet st (constraints_of k) → AreMetWith key k.class.loader (loaders (filter (opens key) (superclasses k)))
-  nearest_met k key on class h = by (method_of k key) refl ((and_parts (not (is_special key.name)) (is_offered key k) part).1)
+  nearest_met k key on class h = by (method_of k key) refl ((and_parts (not (begins_with_angle key.name)) (is_offered key k) part).1)
     where
       part : takes_part key k ≡ true
       part = (and_parts (takes_part key k) (is_open key k) on).0

@@ -10,7 +10,7 @@ use Rattle.cl_classfile.specs.Files.{Key, Member, file_of, is_interface}
 use Rattle.cl_model.specs.declared.class.Class.{Class}
 use Rattle.cl_model.specs.Classes.{Above, same_class, superinterfaces_of}
 use Rattle.cl_model.specs.Lineages.{Bare, Kin, is_offered, method_of, preorder, superclasses, superinterfaces}
-use Rattle.cl_model.specs.Preparation.{equals_of, inherited_from, is_special, overridden, takes_part}
+use Rattle.cl_model.specs.Preparation.{equals_of, inherited_from, begins_with_angle, overridden, takes_part}
 use Rattle.cl_model.specs.States.{Need}
 use Rattle.cl_model.proofs.Closed.{all_left}
 use Rattle.cl_model.proofs.Complete.{is_class}
@@ -206,7 +206,7 @@ near_none own near rest j [] mines mine among = refl
 near_none own near rest j (m ∷ ms) mines mine among =
     ap (λ (ns : List Need). ns ++ flat_map (inherited_by_rows true own (near ++ rest) j) ms)
     (one_none own (near ++ rest) j m mine
-    (λ part. near_first m.key own.class.loader near rest mines (among (inherits m.key) (and_parts (not (is_special m.key.name)) (inherits m.key j) part).1)))
+    (λ part. near_first m.key own.class.loader near rest mines (among (inherits m.key) (and_parts (not (begins_with_angle m.key.name)) (inherits m.key j) part).1)))
     ∙ near_none own near rest j ms mines mine among
 
 -- a silent row of the own loader imposes nothing with what is inherited
@@ -395,7 +395,7 @@ quiet_away l away own mine oe me first rest are each =
           subst (λ (x : ℕ). other_than x (option_map (λ (a : Kin). a.class.loader) (inherited_from (kin_of l) m.key)) ≡ None) (sym over.own)
           (first_mine l.own.class.loader (is_offered m.key) (superclasses (kin_of l))
           (subst (λ (ks : List Kin). AllByRecursion (λ (k : Kin). is_offered m.key k ≡ true → k.class.loader ≡ l.own.class.loader) ks) are
-          (each r m.key within over (and_parts (not (is_special m.key.name)) (is_offered m.key (kin_under [] r)) part).1))));
+          (each r m.key within over (and_parts (not (begins_with_angle m.key.name)) (is_offered m.key (kin_under [] r)) part).1))));
     })
 
 -- a class, all of whose superinterfaces and superclasses are of its loader

@@ -10,7 +10,7 @@ use Rattle.cl_classfile.specs.Lookups.{method_named}
 use Rattle.cl_model.specs.declared.class.Class.{Class}
 use Rattle.cl_model.specs.Classes.{same_class}
 use Rattle.cl_model.specs.Lineages.{Kin, is_offered, method_of, superclasses, superinterfaces, upward}
-use Rattle.cl_model.specs.Preparation.{equals_of, inherited_from, is_special, overridden, takes_part}
+use Rattle.cl_model.specs.Preparation.{equals_of, inherited_from, begins_with_angle, overridden, takes_part}
 use Rattle.cl_model.specs.States.{Need}
 use Rattle.cl_model.proofs.Derivations.{all_map}
 use Rattle.cl_model.proofs.Derived.{all_both}
@@ -25,7 +25,7 @@ use Rattle.cl_preparation.specs.Listings.{without_repeats}
 use Rattle.cl_preparation.specs.Inherited.{equals_from, other_than}
 use Rattle.cl_preparation.specs.Nearby.{AddAll}
 use Rattle.cl_preparation.specs.Relatives.{bare}
-use Rattle.cl_preparation.specs.Surveys.{AreUnmixed, IsAlone, IsPart, IsSurvey, IsUnmixed, Surveys}
+use Rattle.cl_preparation.specs.Surveys.{AreUnmixed, IsAlone, IsAmongRows, IsSurvey, IsUnmixed, Surveys}
 use Rattle.cl_preparation.specs.Walks.{is_overridden, opened_by, walked}
 use Rattle.cl_preparation.proofs.Nearby.{inherited_is}
 use Rattle.cl_preparation.proofs.Reached.{overridden_is_walked}
@@ -71,7 +71,7 @@ taking_of key a [] all = tt
 taking_of key a (k ∷ ks) all = by (takes_part key k) refl (taking_of key a ks all.1)
   where
     by : (b : Bool) → takes_part key k ≡ b → AllByRecursion (λ (x : ℕ). x ≡ a) (loaders (filter (takes_part key) ks)) → AllByRecursion (λ (x : ℕ). x ≡ a) (loaders (if b then k ∷ filter (takes_part key) ks else filter (takes_part key) ks))
-    by true e rest = (all.0 (and_parts (not (is_special key.name)) (is_offered key k) e).1, rest)
+    by true e rest = (all.0 (and_parts (not (begins_with_angle key.name)) (is_offered key k) e).1, rest)
     by false e rest = rest
 
 walked_of : (key : Key) (a : ℕ) (opened : List Class) (ks : List Kin) → AreOf key a ks → AllByRecursion (λ (x : ℕ). x ≡ a) (loaders (walked key opened ks))
@@ -82,7 +82,7 @@ walked_of key a opened (k ∷ ks) all = by (is_overridden key opened k) refl (wa
     more = walked key (opened_by key opened k) ks
 
     by : (b : Bool) → is_overridden key opened k ≡ b → AllByRecursion (λ (x : ℕ). x ≡ a) (loaders more) → AllByRecursion (λ (x : ℕ). x ≡ a) (loaders (if b then k ∷ more else more))
-    by true e rest = (all.0 (and_parts (not (is_special key.name)) (is_offered key k) (and_parts (takes_part key k) _ e).0).1, rest)
+    by true e rest = (all.0 (and_parts (not (begins_with_angle key.name)) (is_offered key k) (and_parts (takes_part key k) _ e).0).1, rest)
     by false e rest = rest
 
 first_of : (a : ℕ) (p : Kin → Bool) (ks : List Kin) → AllByRecursion (λ (k : Kin). p k ≡ true → k.class.loader ≡ a) ks → other_than a (option_map (λ (k : Kin). k.class.loader) (find p ks)) ≡ None
@@ -101,7 +101,7 @@ record IsNamed (rows : List Rowed) (c : Class) : Type 0 where
   within : Contains rows row
   names : Contains (interfaces_in row) c
 
-module _ (l : Lined) (rows : List Rowed) (part : IsPart rows l) where
+module _ (l : Lined) (rows : List Rowed) (part : IsAmongRows rows l) where
   own_in : Contains rows l.own
   own_in = found_in (λ x. same_class x.class l.own.class) rows l.own part.own
 
@@ -133,7 +133,7 @@ module _ (l : Lined) (rows : List Rowed) (part : IsPart rows l) where
   alone_unmixed key alone = λ r j c r_in j_in c_in over. alone j c j_in c_in
 
   offered : (key : Key) → takes_part key (kin_of l) ≡ true → is_offered key (bare l.own) ≡ true
-  offered key tp = (and_parts (not (is_special key.name)) (is_offered key (bare l.own)) tp).1
+  offered key tp = (and_parts (not (begins_with_angle key.name)) (is_offered key (bare l.own)) tp).1
 
   -- ---- the first half
 
@@ -192,7 +192,7 @@ module _ (l : Lined) (rows : List Rowed) (part : IsPart rows l) where
       by : (part has : Bool) → takes_part m.key (kin_under ks r) ≡ part → (if part && not has then equals_from m.key r.class.loader (other_than r.class.loader found) else []) ≡ []
       by false has tp = refl
       by true true tp = refl
-      by true false tp = ap (equals_from m.key r.class.loader) (none (and_parts (not (is_special m.key.name)) (is_offered m.key (bare r)) tp).1)
+      by true false tp = ap (equals_from m.key r.class.loader) (none (and_parts (not (begins_with_angle m.key.name)) (is_offered m.key (bare r)) tp).1)
 
   -- and so of all superinterfaces
   pub over_unmixed : AllByRecursion (λ (j : Kin). (m : Member) → IsUnmixed rows m.key → fewer_inherited (kin_of l) j m ≡ []) (superinterfaces (kin_of l))
@@ -215,7 +215,7 @@ module _ (l : Lined) (rows : List Rowed) (part : IsPart rows l) where
       by : (part has : Bool) → takes_part m.key (kin_under ks r) ≡ part → is_some (method_of (kin_of l) m.key) ≡ has → fewer_inherited (kin_of l) (kin_under ks r) m ≡ []
       by false has tp e = is false has tp e
       by true true tp e = is true true tp e
-      by true false tp e = at_last e (are r m.key at (and_parts (not (is_special m.key.name)) (is_offered m.key (bare r)) tp).1)
+      by true false tp e = at_last e (are r m.key at (and_parts (not (begins_with_angle m.key.name)) (is_offered m.key (bare r)) tp).1)
 
   methods_alike : AreAlike → (r : Rowed) (ks : List Kin) → Contains rows r → IsNamed rows r.class → (ms : List Member) → flat_map (fewer_inherited (kin_of l) (kin_under ks r)) ms ≡ []
   methods_alike are r ks at over [] = refl

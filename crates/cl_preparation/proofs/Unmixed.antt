@@ -17,7 +17,7 @@ use Rattle.cl_hierarchy.specs.Lineages.{Lined, rows_in}
 use Rattle.indexmap.specs.IndexMap.{IndexMap, get}
 use Rattle.indexmap.specs.IndexSet.{IndexSet, contains}
 use Rattle.cl_classfile.specs.declared.entry.Entry.{Entry}
-use Rattle.cl_classfile.specs.Structure.{Member, Structure}
+use Rattle.cl_classfile.specs.Structure.{MemberInfo, Structure}
 use Rattle.cl_classfile.specs.Files.{Key, Name, class_name, declared_by, file_of, keyed, member, method_of, same_key, same_name, text_at}
 use Rattle.cl_classfile.specs.Files as files
 use Rattle.cl_classfile.specs.Lookups.{method_named}
@@ -33,7 +33,7 @@ use Rattle.cl_hierarchy.specs.Trees.{interface_places, interfaces_in}
 use Rattle.cl_preparation.specs.declared.declarers.Declarers.{Declarers}
 use Rattle.cl_preparation.specs.declared.declarers.Declarers.TheVariants as declarers
 use Rattle.cl_preparation.specs.declared.declarers.MethodTexts.{MethodTexts}
-use Rattle.cl_preparation.specs.Declarers.{AddsDeclarer, Has, IsNoted, IsRowNoted, IsTold, Keeps, NamesAre, is_known, is_mix, is_noted, is_plain, is_single, same_texts}
+use Rattle.cl_preparation.specs.Declarers.{AddsDeclarer, Has, IsNoted, IsRowNoted, NotedPass, KeepsNoted, NamesAre, is_known, is_mix, is_noted, is_uniform, is_single, same_texts}
 use Rattle.cl_model.proofs.Derivations.{all_map}
 use Rattle.cl_preparation.specs.declared.survey.Survey.{Survey}
 use Rattle.cl_preparation.specs.Relatives.{bare}
@@ -53,7 +53,7 @@ pub texts_self : (t : MethodTexts) → same_texts t t ≡ true
 texts_self t = rw ((bytes_decides t.name t.name).1 refl) ((bytes_decides t.descriptor t.descriptor).1 refl)
 
 pub noted_more : {S : Type 0} (old new : IndexMap MethodTexts Declarers S) (t : MethodTexts) (d : Declarers) (named : Bool) (l : ℕ) → AddsDeclarer (get same_texts old t) named l d
-    → ((u : MethodTexts) → get same_texts new u ≡ cond (same_texts t u) (Some d) (get same_texts old u)) → Keeps old new × (is_noted new t named l ≡ true)
+    → ((u : MethodTexts) → get same_texts new u ≡ cond (same_texts t u) (Some d) (get same_texts old u)) → KeepsNoted old new × (is_noted new t named l ≡ true)
 noted_more {S} old new t d named l joins is = (
   λ u n a was. ap (λ (o : Option Declarers). is_known o n a) (is u) ∙ by u n a (same_texts t u) refl was,
   ap (λ (o : Option Declarers). is_known o named l) (is t) ∙ ap (λ (b : Bool). is_known (cond b (Some d) (get same_texts old t)) named l) (texts_self t) ∙ joins.here,
@@ -64,8 +64,8 @@ noted_more {S} old new t d named l joins is = (
     by u n a false e was = was
 
 -- it is noted of a method by its texts
-pub member_noted : {S : Type 0} (old new : IndexMap MethodTexts Declarers S) (pool : List Entry) (named : Bool) (l : ℕ) (m : Member) (n d name descriptor : Name) → Some n ≡ text_at pool m.name_index → Some d ≡ text_at pool m.descriptor_index → name ≡ n → descriptor ≡ d
-    → Keeps old new × (is_noted new (record { name = name; descriptor = descriptor }) named l ≡ true) → Keeps old new × IsNoted new pool named l m
+pub member_noted : {S : Type 0} (old new : IndexMap MethodTexts Declarers S) (pool : List Entry) (named : Bool) (l : ℕ) (m : MemberInfo) (n d name descriptor : Name) → Some n ≡ text_at pool m.name_index → Some d ≡ text_at pool m.descriptor_index → name ≡ n → descriptor ≡ d
+    → KeepsNoted old new × (is_noted new (record { name = name; descriptor = descriptor }) named l ≡ true) → KeepsNoted old new × IsNoted new pool named l m
 member_noted old new pool named l m n d name descriptor ne de same_name same_descriptor noted = (
   noted.0,
   λ virtual t nt dt. subst (λ (x : MethodTexts). is_noted new x named l ≡ true)
@@ -86,7 +86,7 @@ pub record IsFound {S : Type 0} (declared : IndexMap MethodTexts Declarers S) (n
 abbrev Offers : Option files.Member → Type 0
 Offers o = if_declared o is_virtual ≡ true
 
-noted_key : {S : Type 0} (declared : IndexMap MethodTexts Declarers S) (pool : List Entry) (named : Bool) (l : ℕ) (key : Key) (ms : List Member) → AllByRecursion (IsNoted declared pool named l) ms
+noted_key : {S : Type 0} (declared : IndexMap MethodTexts Declarers S) (pool : List Entry) (named : Bool) (l : ℕ) (key : Key) (ms : List MemberInfo) → AllByRecursion (IsNoted declared pool named l) ms
     → if_declared (member (filter_map (declared_by method_of pool) ms) key) is_virtual ≡ true → IsFound declared named l key
 noted_key declared pool named l key [] all on = absurd cc
 noted_key {S} declared pool named l key (m ∷ ms) all on = by_texts (text_at pool m.name_index) (text_at pool m.descriptor_index) refl refl (noted_key declared pool named l key ms all.1) on
@@ -153,7 +153,7 @@ single_one (Some declarers.Several) n m a b is h k = absurd cc
 single_one (Some (declarers.Bound l)) n m a b is h k = sym (eqb-true l a h) ∙ eqb-true l b k
 single_one (Some declarers.Mixed) n m a b is h k = absurd cc
 
-pub all_alone : (rows : List Rowed) (s : Survey) (key : Key) → IsSurvey rows s → IsTold s.declared key is_single → IsAlone rows key
+pub all_alone : (rows : List Rowed) (s : Survey) (key : Key) → IsSurvey rows s → NotedPass s.declared key is_single → IsAlone rows key
 all_alone rows s key is told = λ a b a_in b_in a_on b_on.
     let mine : IsFound s.declared (contains same_name s.names a.class.name) a.class.loader key = row_found s.names s.declared rows a key is.noted a_in a_on in
     let other : IsFound s.declared (contains same_name s.names b.class.name) b.class.loader key = row_found s.names s.declared rows b key is.noted b_in b_on in
@@ -178,16 +178,16 @@ all_unmixed rows s key is plain = λ r j c r_in j_in c_in over j_on c_on.
     one_loader (get same_texts s.declared other.texts) (contains same_name s.names c.class.name) j.class.loader c.class.loader (plain other.texts other.read)
     (sym (ap (λ (b : Bool). is_noted s.declared other.texts b j.class.loader) named) ∙ sym (ap (λ (t : MethodTexts). is_noted s.declared t (contains same_name s.names j.class.name) j.class.loader) one) ∙ mine.noted) other.noted
 
-plain_off : (o : Option Declarers) → option_map_or is_plain o true ≡ true → option_map_or is_mix o false ≡ false
+plain_off : (o : Option Declarers) → option_map_or is_uniform o true ≡ true → option_map_or is_mix o false ≡ false
 plain_off None e = refl
 plain_off (Some d) e = is_off (is_mix d) e
 
-pub plain_unmixed : (rows : List Rowed) (s : Survey) (key : Key) → IsSurvey rows s → IsTold s.declared key is_plain → IsUnmixed rows key
+pub plain_unmixed : (rows : List Rowed) (s : Survey) (key : Key) → IsSurvey rows s → NotedPass s.declared key is_uniform → IsUnmixed rows key
 plain_unmixed rows s key is told = all_unmixed rows s key is (λ t read. plain_off (get same_texts s.declared t) (told t read))
 
 -- a test of those that are known of one text of a key is one of all its texts
 pub told_by : {S : Type 0} (declared : IndexMap MethodTexts Declarers S) (t : MethodTexts) (key : Key) (o : Option Declarers) (test : Declarers → Bool) → method_of t.name t.descriptor ≡ Some key → o ≡ get same_texts declared t → option_map_or test o true ≡ true
-    → IsTold declared key test
+    → NotedPass declared key test
 told_by declared t key o test read is on = λ u other.
     ap (λ (x : MethodTexts). option_map_or test (get same_texts declared x) true) (texts_one u t key other read) ∙ ap (λ (x : Option Declarers). option_map_or test x true) (sym is) ∙ on
 
@@ -240,18 +240,18 @@ all_more P xs i x h at all here =
     subst (AllByRecursion P) (sym next) (all_both P (take i xs) (x ∷ []) all (here, tt))
 
 -- what was noted of a method still is
-noted_still : {S : Type 0} (old new : IndexMap MethodTexts Declarers S) (pool : List Entry) (named : Bool) (l : ℕ) → Keeps old new → (m : Member) → IsNoted old pool named l m → IsNoted new pool named l m
+noted_still : {S : Type 0} (old new : IndexMap MethodTexts Declarers S) (pool : List Entry) (named : Bool) (l : ℕ) → KeepsNoted old new → (m : MemberInfo) → IsNoted old pool named l m → IsNoted new pool named l m
 noted_still old new pool named l keeps m was = λ virtual t ne de. keeps t named l (was virtual t ne de)
 
 -- a method more was looked at
-pub members_more : {S : Type 0} (old mid new : IndexMap MethodTexts Declarers S) (pool : List Entry) (named : Bool) (l : ℕ) (ms : List Member) (i : ℕ) (m : Member) → i < length ms → m ≡ get_or ms i m
-    → Keeps old mid × AllByRecursion (IsNoted mid pool named l) (take i ms) → Keeps mid new × IsNoted new pool named l m → Keeps old new × AllByRecursion (IsNoted new pool named l) (take (i + 1) ms)
+pub members_more : {S : Type 0} (old mid new : IndexMap MethodTexts Declarers S) (pool : List Entry) (named : Bool) (l : ℕ) (ms : List MemberInfo) (i : ℕ) (m : MemberInfo) → i < length ms → m ≡ get_or ms i m
+    → KeepsNoted old mid × AllByRecursion (IsNoted mid pool named l) (take i ms) → KeepsNoted mid new × IsNoted new pool named l m → KeepsNoted old new × AllByRecursion (IsNoted new pool named l) (take (i + 1) ms)
 members_more old mid new pool named l ms i m h at before step = (
   λ t n a was. step.0 t n a (before.0 t n a was),
   all_more (IsNoted new pool named l) ms i m h at (all_map (IsNoted mid pool named l) (IsNoted new pool named l) (noted_still mid new pool named l step.0) (take i ms) before.1) step.1,
 )
 
-row_still : {R S : Type 0} (names : IndexSet Name R) (old new : IndexMap MethodTexts Declarers S) → Keeps old new → (r : Rowed) → IsRowNoted names old r → IsRowNoted names new r
+row_still : {R S : Type 0} (names : IndexSet Name R) (old new : IndexMap MethodTexts Declarers S) → KeepsNoted old new → (r : Rowed) → IsRowNoted names old r → IsRowNoted names new r
 row_still names old new keeps r was =
     let named : Bool = contains same_name names r.class.name in
     all_map (IsNoted old r.file.pool named r.class.loader) (IsNoted new r.file.pool named r.class.loader) (noted_still old new r.file.pool named r.class.loader keeps) r.file.methods was
@@ -274,7 +274,7 @@ place_within f g indices place i n fe ie h at =
 
 -- a row more was noted
 pub rows_more : {A R S : Type 0} (v : A → Rowed) (names : IndexSet Name R) (old new : IndexMap MethodTexts Declarers S) (rs : List A) (i : ℕ) (r : A) (own : Rowed) → i < length rs → r ≡ get_or rs i r → own ≡ v r
-    → AllByRecursion (λ x. IsRowNoted names old (v x)) (take i rs) → Keeps old new × IsRowNoted names new own → AllByRecursion (λ x. IsRowNoted names new (v x)) (take (i + 1) rs)
+    → AllByRecursion (λ x. IsRowNoted names old (v x)) (take i rs) → KeepsNoted old new × IsRowNoted names new own → AllByRecursion (λ x. IsRowNoted names new (v x)) (take (i + 1) rs)
 rows_more v names old new rs i r own h at oe before step =
     all_more (λ x. IsRowNoted names new (v x)) rs i r h at (all_map (λ x. IsRowNoted names old (v x)) (λ x. IsRowNoted names new (v x)) (λ x. row_still names old new step.0 (v x)) (take i rs) before)
     (subst (IsRowNoted names new) oe step.1)
@@ -295,7 +295,7 @@ names_all v old new l rs own i above oe ie before step =
 
 -- and those of the own row
 pub rows_noted : {A R S : Type 0} (v : A → Rowed) (names : IndexSet Name R) (old new : IndexMap MethodTexts Declarers S) (l : Lined) (rs : List A) (own : Rowed) (i : ℕ) → map v rs ≡ l.above → own ≡ l.own → i ≡ length rs
-    → AllByRecursion (λ x. IsRowNoted names old (v x)) (take i rs) → Keeps old new × IsRowNoted names new own → AllByRecursion (IsRowNoted names new) (rows_in l)
+    → AllByRecursion (λ x. IsRowNoted names old (v x)) (take i rs) → KeepsNoted old new × IsRowNoted names new own → AllByRecursion (IsRowNoted names new) (rows_in l)
 rows_noted v names old new l rs own i above oe ie noted step =
     let first : AllByRecursion (λ x. IsRowNoted names old (v x)) rs = subst (λ xs. AllByRecursion (λ x. IsRowNoted names old (v x)) xs) (ap (λ (n : ℕ). take n rs) ie ∙ take-length rs) noted in
     let all : AllByRecursion (λ x. IsRowNoted names new (v x)) rs = all_map (λ x. IsRowNoted names old (v x)) (λ x. IsRowNoted names new (v x)) (λ x. row_still names old new step.0 (v x)) rs first in

@@ -14,7 +14,7 @@ use Rattle.cl_preparation.specs.declared.declarers.MethodTexts.{MethodTexts}
 use Rattle.cl_preparation.specs.declared.survey.Survey.{Survey}
 use Rattle.cl_preparation.specs.declared.kept.Kept.{Kept}
 use Rattle.cl_preparation.specs.Fewer.{IsImposed, fewer_inherited}
-use Rattle.cl_preparation.specs.MethodsAbove.{AreTold}
+use Rattle.cl_preparation.specs.MethodsAbove.{TellsEach}
 use Rattle.cl_preparation.specs.Nearby.{AddAll}
 use Rattle.cl_preparation.specs.Relatives.{bare}
 use Rattle.cl_preparation.specs.Spared.{Hider, IsSpared, are_enough}
@@ -23,14 +23,14 @@ use Rattle.cl_preparation.specs.Walks.{hides}
 use Rattle.indexmap.specs.IndexMap.{IndexMap}
 
 -- what is kept tells of the methods of one class of a lineage and of its superclasses
-pub record IsKept (l : Lined) (u : Kept) : Type 0 where
+pub record ChainIsKept (l : Lined) (u : Kept) : Type 0 where
   pub kin : Kin
   pub named : kin_named (kins (rows_in l)) u.last ≡ Some kin
-  pub told : AreTold u.methods (kin ∷ superclasses kin)
+  pub told : TellsEach u.methods (kin ∷ superclasses kin)
 
 -- this is the superclass of a class (4.1)
-abbrev pub IsUnder : Kin → Class → Type 0
-IsUnder k c = (s : Kin) × (Some s ≡ first (superclasses k)) × (s.class ≡ c)
+abbrev pub HasSuperclass : Kin → Class → Type 0
+HasSuperclass k c = (s : Kin) × (Some s ≡ first (superclasses k)) × (s.class ≡ c)
 
 -- these are the rows of all superinterfaces of a class, or none
 abbrev pub AreOver : Lined → List Rowed → Type 0
@@ -64,8 +64,8 @@ CoversHidden l rows k hidden =
 
 -- of each of these rows that one superclass or more have too: what it imposes, but for these
 -- methods, superclasses have imposed (5.4.2)
-abbrev pub AreImposed : Kin → (ℕ → Key → Bool) → List Rowed → Type 0
-AreImposed c hidden rows =
+abbrev pub AreImposedAbove : Kin → (ℕ → Key → Bool) → List Rowed → Type 0
+AreImposedAbove c hidden rows =
     (i n : ℕ) (r : Rowed) → 1 ≤ n → AreSharingIn c i n → slice_get rows i ≡ Some r
     → IsImposed c (hidden n) (bare r)
 
@@ -83,6 +83,6 @@ pub record IsChained {S : Type 0} (l : Lined) (own : Rowed) (survey : Survey)
   pub there : IsClassThere whole place l
   pub own_is : own ≡ l.own
   pub surveyed : Surveys l survey
-  pub above_are : AreTold above (superclasses (kin_of l))
+  pub above_are : TellsEach above (superclasses (kin_of l))
   pub over_are : AddAll l over
   pub over_in : AreOver l over

@@ -6,7 +6,7 @@ use Rattle.std.specs.Cmp.Lexicographic.{pointwise}
 use Rattle.indexmap.specs.IndexMap.{IndexMap, get}
 use Rattle.indexmap.specs.IndexSet.{IndexSet, contains}
 use Rattle.cl_classfile.specs.declared.entry.Entry.{Entry}
-use Rattle.cl_classfile.specs.Structure.{Member}
+use Rattle.cl_classfile.specs.Structure.{MemberInfo}
 use Rattle.cl_classfile.specs.Files.{Key, Name, file_of, method_of, same_name, text_at}
 use Rattle.cl_model.specs.Lineages.{is_virtual}
 use Rattle.cl_hierarchy.specs.Rows.{Rowed}
@@ -37,8 +37,8 @@ is_mix (declarers.Bound a) = false
 is_mix declarers.Mixed = true
 
 -- it is not so
-abbrev pub is_plain : Declarers → Bool
-is_plain d = not (is_mix d)
+abbrev pub is_uniform : Declarers → Bool
+is_uniform d = not (is_mix d)
 
 -- it is among those that are known, if there are some
 abbrev pub is_known : Option Declarers → Bool → ℕ → Bool
@@ -59,8 +59,8 @@ abbrev pub is_noted : {S : Type 0} → IndexMap MethodTexts Declarers S → Meth
 is_noted declared t named l = is_known (get same_texts declared t) named l
 
 -- those that are noted of the method with this key, if some are, pass a test
-abbrev pub IsTold : {S : Type 0} → IndexMap MethodTexts Declarers S → Key → (Declarers → Bool) → Type 0
-IsTold declared key test =
+abbrev pub NotedPass : {S : Type 0} → IndexMap MethodTexts Declarers S → Key → (Declarers → Bool) → Type 0
+NotedPass declared key test =
     (t : MethodTexts) → method_of t.name t.descriptor ≡ Some key
     → option_map_or test (get same_texts declared t) true ≡ true
 
@@ -71,15 +71,15 @@ AreMixed declared mixed =
     → list_any (same_texts t) mixed ≡ true
 
 -- what was noted still is
-abbrev pub Keeps : {S : Type 0} → IndexMap MethodTexts Declarers S
+abbrev pub KeepsNoted : {S : Type 0} → IndexMap MethodTexts Declarers S
     → IndexMap MethodTexts Declarers S → Type 0
-Keeps old new =
+KeepsNoted old new =
     (t : MethodTexts) (named : Bool) (l : ℕ)
     → is_noted old t named l ≡ true → is_noted new t named l ≡ true
 
 -- it was noted of a method that is neither private nor static (5.4.2)
 abbrev pub IsNoted : {S : Type 0} → IndexMap MethodTexts Declarers S → List Entry → Bool → ℕ
-    → Member → Type 0
+    → MemberInfo → Type 0
 IsNoted declared pool named l m =
     is_virtual m.flags ≡ true
     → (t : MethodTexts) → text_at pool m.name_index ≡ Some t.name

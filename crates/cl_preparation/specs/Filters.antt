@@ -8,13 +8,13 @@ abbrev pub slot : Name → ℕ
 slot name = (length name * 37 + unwrap_or (slice_get name (length name - 1)) 0) % 256
 
 -- the slot of each method's name is marked, or of none is
-abbrev pub AreMarked : Bool → List Bool → List Member → Type 0
-AreMarked b slots ms = AllByRecursion (λ m. slice_get slots (slot m.key.name) ≡ Some b) ms
+abbrev pub SlotsAreMarked : Bool → List Bool → List Member → Type 0
+SlotsAreMarked b slots ms = AllByRecursion (λ m. slice_get slots (slot m.key.name) ≡ Some b) ms
 
 -- the slot of each method's name is marked
 abbrev pub Covers : List Bool → List Member → Type 0
-Covers slots ms = AreMarked true slots ms
+Covers slots ms = SlotsAreMarked true slots ms
 
 -- the slot of no method's name is
 abbrev pub Shuns : List Bool → List Member → Type 0
-Shuns slots ms = AreMarked false slots ms
+Shuns slots ms = SlotsAreMarked false slots ms

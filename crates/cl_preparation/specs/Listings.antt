@@ -52,8 +52,8 @@ all_listed es = record { needs = needs_of es; once = false }
 -- ---- for the steps of a call
 
 -- what stood among these stands among those
-abbrev pub Grows : List Need → List Need → Type 0
-Grows old new = (n : Need) → has_need old n ≡ true → has_need new n ≡ true
+abbrev pub NeedsGrow : List Need → List Need → Type 0
+NeedsGrow old new = (n : Need) → has_need old n ≡ true → has_need new n ≡ true
 
 -- all of these stand among those
 abbrev pub AreAmong : List Need → List Need → Type 0

@@ -17,7 +17,7 @@ key_in name descriptor =
     record { name = name; descriptor = descriptors.Method (type_in descriptor) }
 
 -- what stands at a method's indices is a name and a method descriptor (4.6)
-pub record IsTyped (pool : List Entry) (m : structure.Member) : Type 0 where
+pub record IsTyped (pool : List Entry) (m : structure.MemberInfo) : Type 0 where
   pub name : Name
   pub descriptor : Name
   pub named : text_at pool m.name_index ≡ Some name

@@ -13,17 +13,17 @@ use Rattle.cl_preparation.specs.Fewer.{begins_with_class, loaders}
 use Rattle.cl_preparation.specs.Walks.{opens}
 
 -- these loaders without one
-abbrev pub without : ℕ → List ℕ → List ℕ
-without a ls = filter (λ b. not (a == b)) ls
+abbrev pub without_loader : ℕ → List ℕ → List ℕ
+without_loader a ls = filter (λ b. not (a == b)) ls
 
 -- these loaders once a class below of this loader declares a method, public or protected or not
-abbrev pub added : ℕ → Bool → List ℕ → List ℕ
-added loader is_open ls = if is_open then loader ∷ without loader ls else ls
+abbrev pub added_loader : ℕ → Bool → List ℕ → List ℕ
+added_loader loader is_open ls = if is_open then loader ∷ without_loader loader ls else ls
 
 -- what is kept of a method tells of these classes, nearest first: the loaders of those that declare
 -- it public or protected, whether the nearest of these is no interface, and the loader of the
 -- nearest that declares it neither private nor static (5.4.2, 5.4.5)
-pub record Tells (key : Key) (ks : List Kin) (o : Option Above) : Type 0 where
+pub record TellsOfMethod (key : Key) (ks : List Kin) (o : Option Above) : Type 0 where
   pub wide :
       option_map_or (λ a. a.wide.items) o [] ≡ first_places [] (loaders (filter (opens key) ks))
   pub class :
@@ -32,22 +32,24 @@ pub record Tells (key : Key) (ks : List Kin) (o : Option Above) : Type 0 where
       option_map (λ a. a.nearest) o ≡ option_map (λ k. k.class.loader) (find (is_offered key) ks)
 
 -- it is so of each method
-abbrev pub AreTold : {S : Type 0} → IndexMap MethodTexts Above S → List Kin → Type 0
-AreTold table ks =
+abbrev pub TellsEach : {S : Type 0} → IndexMap MethodTexts Above S → List Kin → Type 0
+TellsEach table ks =
     (t : MethodTexts) (key : Key) → method_of t.name t.descriptor ≡ Some key
-    → Tells key ks (get same_texts table t)
+    → TellsOfMethod key ks (get same_texts table t)
 
 -- ---- for the steps of a call
 
 -- a method of a class more was put, and no other
-pub record IsPut {S : Type 0} (old : IndexMap MethodTexts Above S) (key : Key) (c : Kin)
+pub record MethodIsPut {S : Type 0} (old : IndexMap MethodTexts Above S) (key : Key) (c : Kin)
     (new : IndexMap MethodTexts Above S) : Type 0 where
   pub first :
       (t : MethodTexts) (ks : List Kin) → method_of t.name t.descriptor ≡ Some key
-      → Tells key ks (get same_texts old t) → Tells key (c ∷ ks) (get same_texts new t)
+      → TellsOfMethod key ks (get same_texts old t)
+      → TellsOfMethod key (c ∷ ks) (get same_texts new t)
   pub again :
       (t : MethodTexts) (ks : List Kin) → method_of t.name t.descriptor ≡ Some key
-      → Tells key (c ∷ ks) (get same_texts old t) → Tells key (c ∷ ks) (get same_texts new t)
+      → TellsOfMethod key (c ∷ ks) (get same_texts old t)
+      → TellsOfMethod key (c ∷ ks) (get same_texts new t)
   pub others :
       (t : MethodTexts) → (method_of t.name t.descriptor ≡ Some key → ⊥)
       → get same_texts new t ≡ get same_texts old t
@@ -57,5 +59,5 @@ abbrev pub ArePut : {S : Type 0} → IndexMap MethodTexts Above S → Kin → Li
     → Type 0
 ArePut table c ms ks =
     (t : MethodTexts) (key : Key) → method_of t.name t.descriptor ≡ Some key
-    → Tells key (if list_any (λ m. same_key m.key key) ms then c ∷ ks else ks)
+    → TellsOfMethod key (if list_any (λ m. same_key m.key key) ms then c ∷ ks else ks)
     (get same_texts table t)

@@ -40,7 +40,7 @@ pub record IsSurvey (rows : List Rowed) (s : Survey) : Type 0 where
   pub mixed : AreMixed s.declared s.mixed.items
 
 -- a lineage whose rows are among these, each as its class's (5.3.5)
-pub record IsPart (rows : List Rowed) (l : Lined) : Type 0 where
+pub record IsAmongRows (rows : List Rowed) (l : Lined) : Type 0 where
   pub own : IsRowIn rows l.own
   pub above : AllByRecursion (IsRowIn rows) l.above
 
@@ -48,4 +48,4 @@ pub record IsPart (rows : List Rowed) (l : Lined) : Type 0 where
 pub record Surveys (l : Lined) (s : Survey) : Type 0 where
   pub rows : List Rowed
   pub is : IsSurvey rows s
-  pub part : IsPart rows l
+  pub part : IsAmongRows rows l

@@ -6,7 +6,7 @@ ghost use Rattle.cl_hierarchy.specs.Imposed.{needs_of};
 ghost use Rattle.cl_hierarchy.specs.Lineages.{kin_of};
 ghost use Rattle.cl_hierarchy.specs.OversAt.{AreSharingIn};
 ghost use Rattle.cl_model.specs.Preparation.{takes_part};
-ghost use Rattle.cl_preparation.specs.Chains.{AreImposed, by_row, hidden_by};
+ghost use Rattle.cl_preparation.specs.Chains.{AreImposedAbove, by_row, hidden_by};
 ghost use Rattle.cl_preparation.specs.Fewer.{AddsDeclared, AddsLeft, AreFew, IsImposed, by_superinterfaces, fewer_inherited, loaders_left_over, others_after};
 ghost use Rattle.cl_preparation.specs.Listings.{with_all, once_of};
 ghost use Rattle.cl_preparation.specs.Nearby.{AddLoaders};
@@ -312,7 +312,7 @@ impl<'a, 'b, 'c, 'd, T: Told> Chained<'a, 'b, 'c, 'd, T> {
         rows: &[&Arc<ClassRow<T>>],
         hiding: Option<&Hiding<T>>,
     ) -> Result<(), AllocError>
-        requires { AreImposed (kin_of self.now)
+        requires { AreImposedAbove (kin_of self.now)
             (hidden_by (option_map (λ h. h.now) hiding)) (map (λ r. r.now.value) rows.now) }
         ensures { OnOk result (AddsLeft (kin_of self.now) needs.old
             (flat_map (λ r. by_row (kin_of self.now) r.now.value) rows.now) needs.new) }

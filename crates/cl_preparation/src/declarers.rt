@@ -4,7 +4,7 @@ ghost use Rattle.std.specs.Prelude.{◌≡◌, ℕ, Some, false, true, IfOk, OnO
 ghost use Rattle.std.specs.List.{AllByRecursion};
 ghost use Rattle.cl_classfile.specs.Files.{method_of};
 ghost use Rattle.indexmap.specs.IndexMap.{get};
-ghost use Rattle.cl_preparation.specs.Declarers.{AddsDeclarer, IsNoted, IsTold, Keeps, admits, is_mix, is_noted, is_plain, is_single, same_texts};
+ghost use Rattle.cl_preparation.specs.Declarers.{AddsDeclarer, IsNoted, NotedPass, KeepsNoted, admits, is_mix, is_noted, is_uniform, is_single, same_texts};
 
 use crate::key::MethodKey;
 use crate::method::is_virtual;
@@ -162,7 +162,7 @@ pub(crate) fn is_of_one(
     declared: &Declared,
     key: &MethodKey,
 ) -> Result<bool, AllocError>
-    ensures { IfOk result (λ b. b ≡ true → IsTold declared.now key.now is_single) }
+    ensures { IfOk result (λ b. b ≡ true → NotedPass declared.now key.now is_single) }
 {
     let texts = MethodTexts::of(alloc, key)?;
     match declared.get(&texts) {
@@ -177,7 +177,7 @@ pub(crate) fn is_no_mix(
     declared: &Declared,
     key: &MethodKey,
 ) -> Result<bool, AllocError>
-    ensures { IfOk result (λ b. b ≡ true → IsTold declared.now key.now is_plain) }
+    ensures { IfOk result (λ b. b ≡ true → NotedPass declared.now key.now is_uniform) }
 {
     let texts = MethodTexts::of(alloc, key)?;
     match declared.get(&texts) {
@@ -203,7 +203,7 @@ fn note(
     named: bool,
     loader: LoaderId,
 ) -> Result<(), AllocError>
-    ensures { OnOk result (Keeps declared.old declared.new
+    ensures { OnOk result (KeepsNoted declared.old declared.new
         × (is_noted declared.new texts named loader ≡ true)) }
 {
     let declarers = joined(declared, &texts, named, loader);
@@ -220,7 +220,7 @@ fn note_member(
     named: bool,
     loader: LoaderId,
 ) -> Result<(), AllocError>
-    ensures { OnOk result (Keeps declared.old declared.new
+    ensures { OnOk result (KeepsNoted declared.old declared.new
         × IsNoted declared.new pool.now named loader member.now) }
 {
     if !is_virtual(member.flags()) {
@@ -248,7 +248,7 @@ pub(crate) fn note_row<T: Told>(
     row: &ClassRow<T>,
     named: bool,
 ) -> Result<(), AllocError>
-    ensures { OnOk result (Keeps declared.old declared.new × AllByRecursion
+    ensures { OnOk result (KeepsNoted declared.old declared.new × AllByRecursion
         (IsNoted declared.new row.now.file.pool named row.now.class.loader)
         row.now.file.methods) }
 {

@@ -5,7 +5,7 @@ ghost use Rattle.cl_classfile.specs.Flags.{private, protected, public, static};
 ghost use Rattle.cl_model.specs.Examples.{app, boot, plug};
 ghost use Rattle.cl_model.specs.States.{Equal};
 ghost use Rattle.cl_hierarchy.specs.declared.equalities.Given.TheVariants as givens;
-ghost use Rattle.cl_preparation.specs.Examples.{Meets, with_m, with_m_over, with_none, with_none_over};
+ghost use Rattle.cl_preparation.specs.Examples.{MeetsAbove, with_m, with_m_over, with_none, with_none_over};
 ghost use Rattle.cl_preparation.specs.Fewer.{left_above};
 ghost use Rattle.cl_preparation.specs.Listings.{without_repeats};
 
@@ -22,13 +22,13 @@ pub fn constraints_once()
 /// Where superclasses all have a superinterface, the nearest that does not hide a method has imposed what a class below them would.
 /// Where all hide it, or an interface stands before, maybe none has.
 pub fn met_above()
-    ensures above_private { Meets (with_m private ∷ with_m public ∷ []) true }
-    ensures above_static { Meets (with_m static ∷ with_m private ∷ with_none ∷ []) true }
-    ensures nearest { Meets (with_m public ∷ with_m private ∷ []) true }
-    ensures all_hide { Meets (with_m private ∷ with_m static ∷ []) false }
-    ensures none { Meets [] false }
-    ensures interface { Meets (with_m private ∷ with_none_over ∷ []) false }
-    ensures below_interface { Meets (with_none_over ∷ with_m public ∷ []) false }
+    ensures above_private { MeetsAbove (with_m private ∷ with_m public ∷ []) true }
+    ensures above_static { MeetsAbove (with_m static ∷ with_m private ∷ with_none ∷ []) true }
+    ensures nearest { MeetsAbove (with_m public ∷ with_m private ∷ []) true }
+    ensures all_hide { MeetsAbove (with_m private ∷ with_m static ∷ []) false }
+    ensures none { MeetsAbove [] false }
+    ensures interface { MeetsAbove (with_m private ∷ with_none_over ∷ []) false }
+    ensures below_interface { MeetsAbove (with_none_over ∷ with_m public ∷ []) false }
 {}
 
 /// Of the superclasses that declare a method, a class below them is left with the nearest alone, if that is no interface, where it

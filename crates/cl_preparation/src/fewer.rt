@@ -13,7 +13,7 @@ ghost use Rattle.cl_hierarchy.specs.Lineages.{IsRowIn, Lined, kin_at, kin_of, ot
 ghost use Rattle.cl_preparation.specs.Chains.{AreOver, IsClassThere};
 ghost use Rattle.cl_preparation.specs.Fewer.{AreFew, fewer_constraints_of};
 ghost use Rattle.cl_preparation.specs.Listings.{has_need, without_repeats};
-ghost use Rattle.cl_preparation.specs.MethodsAbove.{AreTold};
+ghost use Rattle.cl_preparation.specs.MethodsAbove.{TellsEach};
 ghost use Rattle.cl_preparation.specs.Nearby.{AddAll, near_declared};
 ghost use Rattle.cl_preparation.specs.Relatives.{bare};
 ghost use Rattle.cl_preparation.specs.Surveys.{IsSurvey, Surveys};
@@ -171,7 +171,7 @@ fn chained_needs<T: Told>(
 ) -> Result<Vec<Equality>, AllocError>
     requires there { IsClassThere whole.old place lineage.now }
     requires survey { Surveys lineage.now survey.now }
-    requires above { AreTold above.now (superclasses (kin_of lineage.now)) }
+    requires above { TellsEach above.now (superclasses (kin_of lineage.now)) }
     ensures same { whole.new ≡ whole.old }
     ensures needs { IfOk result (λ v. AreFew given (kin_of lineage.now)
         (needs_of v.items)) }

@@ -4,8 +4,8 @@ ghost use Rattle.std.specs.Prelude.{◌≡◌, ℕ, true, IfOk, IfSome};
 ghost use Rattle.cl_hierarchy.specs.ClassesAt.{lined_at};
 ghost use Rattle.cl_hierarchy.specs.Lineages.{IsInOrder, Lined, kin_of};
 ghost use Rattle.cl_model.specs.Lineages.{superclasses};
-ghost use Rattle.cl_preparation.specs.MethodsAbove.{AreTold};
-ghost use Rattle.cl_preparation.specs.Chains.{IsKept, IsUnder};
+ghost use Rattle.cl_preparation.specs.MethodsAbove.{TellsEach};
+ghost use Rattle.cl_preparation.specs.Chains.{ChainIsKept, HasSuperclass};
 
 use crate::methods_above::{MethodsAbove, put_row};
 use crate::quiet::is_same;
@@ -32,7 +32,7 @@ impl Drop for Kept {
 
 /// Whether the superclass of the class of a lineage is this one.
 fn is_under<T: Told>(lineage: &Lineage<T>, class: &Class) -> bool
-    ensures { result ≡ true → IsUnder (kin_of lineage.now) class.now }
+    ensures { result ≡ true → HasSuperclass (kin_of lineage.now) class.now }
 {
     match lineage.superclass() {
         Some(row) => is_same(row.class(), class),
@@ -42,7 +42,7 @@ fn is_under<T: Told>(lineage: &Lineage<T>, class: &Class) -> bool
 
 /// What the superclasses of the class of a lineage declare, in time linear in these and their methods.
 fn told_anew<T: Told>(alloc: Global, lineage: &Lineage<T>) -> Result<MethodsAbove, AllocError>
-    ensures { IfOk result (λ m. AreTold m (superclasses (kin_of lineage.now))) }
+    ensures { IfOk result (λ m. TellsEach m (superclasses (kin_of lineage.now))) }
 {
     let mut methods = IndexMap::with_hasher(alloc, lineage.config().seed());
     let mut rows = lineage.superclasses(alloc)?;
@@ -67,9 +67,9 @@ impl Kept {
         methods: MethodsAbove,
         lineage: &Lineage<T>,
     ) -> Result<Kept, AllocError>
-        requires { AreTold methods (superclasses (kin_of lineage.now)) }
+        requires { TellsEach methods (superclasses (kin_of lineage.now)) }
         ensures { (l : Lined) (place : ℕ) → IsInOrder l → lineage.now ≡ lined_at l place
-            → IfOk result (IsKept l) }
+            → IfOk result (ChainIsKept l) }
     {
         let mut methods = methods;
         put_row(alloc, &mut methods, lineage.own())?;
@@ -84,9 +84,9 @@ pub(crate) fn told_above<T: Told>(
     kept: Option<Kept>,
     lineage: &Lineage<T>,
 ) -> Result<MethodsAbove, AllocError>
-    ensures { (l : Lined) (place : ℕ) → IsInOrder l → IfSome kept (IsKept l)
+    ensures { (l : Lined) (place : ℕ) → IsInOrder l → IfSome kept (ChainIsKept l)
         → lineage.now ≡ lined_at l place
-        → IfOk result (λ m. AreTold m (superclasses (kin_of lineage.now))) }
+        → IfOk result (λ m. TellsEach m (superclasses (kin_of lineage.now))) }
 {
     if let Some(kept) = kept {
         if is_under(lineage, &kept.last) {

@@ -3,7 +3,7 @@
 ghost use Rattle.std.specs.Prelude.{◌≡◌, Some, IfOk, IsSome};
 ghost use Rattle.cl_descriptors.specs.Reading.{whole_method};
 ghost use Rattle.cl_classfile.specs.Files.{method_of};
-ghost use Rattle.cl_model.specs.Preparation.{class_names, is_special};
+ghost use Rattle.cl_model.specs.Preparation.{class_names, begins_with_angle};
 ghost use Rattle.cl_preparation.specs.Listings.{IsOfDescriptor};
 ghost use Rattle.cl_preparation.specs.Methods.{key_in};
 
@@ -15,7 +15,7 @@ use std::marker::Model;
 
 /// Whether the name of a method is `<init>` or `<clinit>` (JVMS SE 8, 4.2.2).
 pub(crate) fn is_special(name: &Name) -> bool
-    ensures { result ≡ is_special name.now }
+    ensures { result ≡ begins_with_angle name.now }
 {
     name.bytes().starts_with(b"<")
 }
@@ -119,7 +119,7 @@ impl MethodKey {
 
     /// Whether it is `<init>` or `<clinit>` (JVMS SE 8, 4.2.2).
     pub fn is_special(&self) -> bool
-        ensures { result ≡ is_special self.now.name }
+        ensures { result ≡ begins_with_angle self.now.name }
     {
         is_special(&self.name)
     }

@@ -25,13 +25,13 @@ impl Drop for Listed {
 
 impl Model for Listed {
     ghost use Rattle.std.specs.Prelude.{List, ℕ};
-    ghost use Rattle.cl_preparation.specs.Listed.{AreMarked};
+    ghost use Rattle.cl_preparation.specs.Listed.{LoadersAreMarked};
 
     ghost Value = { List ℕ };
 
     ghost view = { λ l. l.loaders.items };
 
-    ghost invariant = { λ l. AreMarked l.loaders.items l.is_listed.items };
+    ghost invariant = { λ l. LoadersAreMarked l.loaders.items l.is_listed.items };
 }
 
 /// Whether a place is marked; one behind the last is not.

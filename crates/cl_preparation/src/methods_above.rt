@@ -5,7 +5,7 @@ ghost use Rattle.std.specs.Prelude.{◌≡◌, ◌++◌, ◌∷◌, List, [], fa
 ghost use Rattle.std.specs.Option.{option_map_or};
 ghost use Rattle.cl_model.specs.Lineages.{Kin, is_offered};
 ghost use Rattle.cl_preparation.specs.Fewer.{left_above, left_where, loaders, others_after};
-ghost use Rattle.cl_preparation.specs.MethodsAbove.{ArePut, AreTold, IsPut, added, without};
+ghost use Rattle.cl_preparation.specs.MethodsAbove.{ArePut, TellsEach, MethodIsPut, added_loader, without_loader};
 ghost use Rattle.cl_preparation.specs.Relatives.{bare};
 ghost use Rattle.cl_preparation.specs.Walks.{opens};
 
@@ -50,7 +50,7 @@ fn with_first(
     loader: LoaderId,
     others: &[LoaderId],
 ) -> Result<Vec<LoaderId>, AllocError>
-    ensures { IfOk result (λ v. v.items ≡ loader ∷ without loader others.now) }
+    ensures { IfOk result (λ v. v.items ≡ loader ∷ without_loader loader others.now) }
 {
     let mut all = Vec::new(alloc);
     all.push(loader)?;
@@ -132,7 +132,7 @@ impl Above {
         is_class: bool,
     ) -> Result<Above, AllocError>
         ensures nearest { IfOk result (λ a. a.nearest ≡ loader) }
-        ensures wide { IfOk result (λ a. a.wide.items ≡ added loader is_open
+        ensures wide { IfOk result (λ a. a.wide.items ≡ added_loader loader is_open
             (option_map_or (λ x. x.now.wide.items) known.entry [])) }
         ensures class { IfOk result (λ a. a.is_class ≡ (if is_open then is_class else
             option_map_or (λ x. x.now.is_class) known.entry false)) }
@@ -162,7 +162,7 @@ fn put<T: Told>(
     class: &Relative<T>,
     key: &MethodKey,
 ) -> Result<(), AllocError>
-    ensures { OnOk result (IsPut methods.old key.now (bare class.now) methods.new) }
+    ensures { OnOk result (MethodIsPut methods.old key.now (bare class.now) methods.new) }
 {
     let Some(is_open) = class.offered(key) else {
         return Ok(());
@@ -186,7 +186,7 @@ fn put_each<T: Told>(
     class: &Relative<T>,
     added: &[Method],
 ) -> Result<(), AllocError>
-    ensures { OnOk result ((ks : List Kin) → AreTold methods.old ks
+    ensures { OnOk result ((ks : List Kin) → TellsEach methods.old ks
         → ArePut methods.new (bare class.now) added.now ks) }
 {
     for method in added {
@@ -201,8 +201,8 @@ pub(crate) fn put_row<T: Told>(
     methods: &mut MethodsAbove,
     row: &Arc<ClassRow<T>>,
 ) -> Result<(), AllocError>
-    ensures { OnOk result ((ks : List Kin) → AreTold methods.old ks
-        → AreTold methods.new (bare row.now.value ∷ ks)) }
+    ensures { OnOk result ((ks : List Kin) → TellsEach methods.old ks
+        → TellsEach methods.new (bare row.now.value ∷ ks)) }
 {
     let class = Relative::of(alloc, row)?;
     let added = class.methods(alloc)?;
@@ -211,7 +211,7 @@ pub(crate) fn put_row<T: Told>(
 
 /// Lists loaders but for the own one.
 fn list_but(listed: &mut Listed, own: LoaderId, loaders: &[LoaderId]) -> Result<(), AllocError>
-    ensures { OnOk result (listed.new ≡ listed.old ++ without own loaders.now) }
+    ensures { OnOk result (listed.new ≡ listed.old ++ without_loader own loaders.now) }
 {
     for loader in loaders {
         if own != *loader {
@@ -231,7 +231,7 @@ pub(crate) fn wide_above(
     key: &MethodKey,
     given: Given,
 ) -> Result<Listed, AllocError>
-    ensures { (ks : List Kin) → AreTold methods.now ks → IfOk result (λ v. v ≡ others_after own []
+    ensures { (ks : List Kin) → TellsEach methods.now ks → IfOk result (λ v. v ≡ others_after own []
         (loaders (left_above given (filter (opens key.now) ks)))) }
 {
     let texts = MethodTexts::of(alloc, key)?;
@@ -246,7 +246,7 @@ pub(crate) fn nearest_above(
     methods: &MethodsAbove,
     key: &MethodKey,
 ) -> Result<Option<LoaderId>, AllocError>
-    ensures { (ks : List Kin) → AreTold methods.now ks → IfOk result (λ o. o ≡ option_map
+    ensures { (ks : List Kin) → TellsEach methods.now ks → IfOk result (λ o. o ≡ option_map
         (λ k. k.class.loader) (find (is_offered key.now) ks)) }
 {
     let texts = MethodTexts::of(alloc, key)?;

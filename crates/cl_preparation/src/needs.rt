@@ -5,7 +5,7 @@ ghost use Rattle.std.specs.List.{AllByRecursion};
 ghost use Rattle.cl_model.specs.Preparation.{equals_of};
 ghost use Rattle.cl_model.specs.States.{Need};
 ghost use Rattle.cl_hierarchy.specs.Imposed.{equal_need, needs_of};
-ghost use Rattle.cl_preparation.specs.Listings.{AreAmong, Grows, IsPassed, all_listed, with_all, with_one, once_of};
+ghost use Rattle.cl_preparation.specs.Listings.{AreAmong, NeedsGrow, IsPassed, all_listed, with_all, with_one, once_of};
 ghost use Rattle.cl_preparation.specs.Needs.{listing_of};
 
 use crate::described::{Described, push_equals};
@@ -119,7 +119,7 @@ impl Model for Needs {
 
 /// Lists an equality, if it is not listed.
 fn list_one(listed: &mut Equals, equality: Equality) -> Result<(), AllocError>
-    ensures kept { Grows (needs_of listed.old.keys) (needs_of listed.new.keys) }
+    ensures kept { NeedsGrow (needs_of listed.old.keys) (needs_of listed.new.keys) }
     ensures listed { OnOk result (once_of listed.new.keys
         ≡ with_one (once_of listed.old.keys) (equal_need equality)) }
 {
@@ -137,7 +137,7 @@ fn list_each(
     a: LoaderId,
     b: LoaderId,
 ) -> Result<(), AllocError>
-    ensures kept { Grows (needs_of listed.old.keys) (needs_of listed.new.keys) }
+    ensures kept { NeedsGrow (needs_of listed.old.keys) (needs_of listed.new.keys) }
     ensures listed { OnOk result (once_of listed.new.keys
         ≡ with_all (once_of listed.old.keys) (equals_of method.now a b)) }
 {

@@ -4,7 +4,7 @@ ghost use Rattle.std.specs.Prelude.{◌≡◌, ◌≤◌, ℕ, length, IfOk, IfS
 ghost use Rattle.cl_hierarchy.specs.ClassesAt.{lined_at};
 ghost use Rattle.cl_hierarchy.specs.Lineages.{IsLined, kin_of, rows_in};
 ghost use Rattle.cl_model.specs.Lineages.{superclasses};
-ghost use Rattle.cl_preparation.specs.MethodsAbove.{AreTold};
+ghost use Rattle.cl_preparation.specs.MethodsAbove.{TellsEach};
 ghost use Rattle.cl_preparation.specs.Surveys.{IsSurvey, Surveys};
 
 use crate::kept::{Kept, told_above};
@@ -38,14 +38,14 @@ impl<T: Told> Drop for Preparations<T> {
 impl<T: Told> Model for Preparations<T> {
     ghost use Rattle.std.specs.Prelude.{IfSome};
     ghost use Rattle.cl_hierarchy.specs.Lineages.{Lined, rows_in};
-    ghost use Rattle.cl_preparation.specs.Chains.{IsKept};
+    ghost use Rattle.cl_preparation.specs.Chains.{ChainIsKept};
     ghost use Rattle.cl_preparation.specs.Surveys.{IsSurvey};
 
     ghost Value = { Lined };
 
     ghost view = { λ p. p.lineages };
 
-    ghost invariant = { λ p. IfSome p.survey (IsSurvey (rows_in p.lineages)) × IfSome p.kept (IsKept p.lineages) };
+    ghost invariant = { λ p. IfSome p.survey (IsSurvey (rows_in p.lineages)) × IfSome p.kept (ChainIsKept p.lineages) };
 }
 
 /// So many looks take longer than a survey of classes whose methods are no more.
@@ -174,7 +174,7 @@ impl<T: Told> Preparations<T> {
     ) -> Result<MethodsAbove, AllocError>
         requires lineage { lineage.now ≡ lined_at self.old place }
         ensures same { self.new ≡ self.old }
-        ensures told { IfOk result (λ m. AreTold m (superclasses (kin_of lineage.now))) }
+        ensures told { IfOk result (λ m. TellsEach m (superclasses (kin_of lineage.now))) }
     {
         // brings what the lineage keeps
         let _ = self.lineage();
@@ -190,7 +190,7 @@ impl<T: Told> Preparations<T> {
         methods: MethodsAbove,
     ) -> Result<(), AllocError>
         requires lineage { lineage.now ≡ lined_at self.old place }
-        requires told { AreTold methods (superclasses (kin_of lineage.now)) }
+        requires told { TellsEach methods (superclasses (kin_of lineage.now)) }
         ensures same { self.new ≡ self.old }
     {
         // brings what the lineage keeps

@@ -8,7 +8,7 @@ ghost use Rattle.cl_classfile.specs.Files.{file_of, same_name};
 ghost use Rattle.cl_classfile.specs.Lookups.{method_named};
 ghost use Rattle.cl_hierarchy.specs.Lineages.{rows_in};
 ghost use Rattle.cl_hierarchy.specs.Rows.{Rowed};
-ghost use Rattle.cl_preparation.specs.Declarers.{AreMixed, Has, IsRowNoted, Keeps, NamesAre};
+ghost use Rattle.cl_preparation.specs.Declarers.{AreMixed, Has, IsRowNoted, KeepsNoted, NamesAre};
 ghost use Rattle.cl_preparation.specs.Surveys.{AreUnmixed, IsAlone, IsSurvey, IsUnmixed};
 
 use crate::declarers::{Declared, MethodTexts, is_no_mix, is_of_one, note_row};
@@ -90,7 +90,7 @@ fn note_class<T: Told>(
     names: &Names,
     row: &ClassRow<T>,
 ) -> Result<(), AllocError>
-    ensures { OnOk result (Keeps declared.old declared.new
+    ensures { OnOk result (KeepsNoted declared.old declared.new
         × IsRowNoted names.now declared.new row.now) }
 {
     let named = names.contains(&row.class().name);

@@ -1,13 +1,13 @@
 -- How a class file's reading ends, from its steps.
 use Rattle.std.proofs.Common.{◌≡◌, ◌⊎◌, ℕ, List, Option, Result, Ok, Err, IsErrAnd, inl, inr, sym, subst}
-use Rattle.cl_classfile.specs.Checking.{Fails}
+use Rattle.cl_classfile.specs.Checking.{GivesFault}
 use Rattle.cl_classfile.specs.Reading.{read_of}
 use Rattle.cl_classfile.specs.declared.fault.ReadError.{ReadError}
 use Rattle.cl_classfile.specs.declared.fault.ReadError.TheVariants as errors
 use Rattle.cl_program.specs.Faults.{print_fault}
-use Rattle.cl_source.specs.Seen.{IsWithin}
+use Rattle.cl_source.specs.Seen.{GivesAtMost}
 use Rattle.cl_program.specs.Files.{Giving, IsUnread}
-use Rattle.cl_program.specs.Readings.{AreLinesOf, FailsToRead, IsReading, IsRefusal, ReadingOf}
+use Rattle.cl_program.specs.Readings.{AreLinesOf, FailsToRead, IsReading, IsFileFault, ReadingOf}
 use Rattle.cl_program.specs.Outputs.{Outputs, Stream, TellsFault, WritesPart}
 use Rattle.cl_program.proofs.Running.{still}
 use Rattle.cl_program.specs.declared.fault.Fault.{Fault}
@@ -30,13 +30,13 @@ by_bytes gives path old Memory w = inl (appends_nothing old, tt)
 by_bytes gives path old fault w = absurd w
 
 -- it is no class file
-pub by_class : (gives : Giving) (path : List ℕ) (old : Option (List ℕ)) (bytes : List ℕ) (fault : Fault) → IsWithin gives MOST_CLASS_BYTES bytes → IsRefusal bytes fault → FailsToRead gives path (still old) fault
+pub by_class : (gives : Giving) (path : List ℕ) (old : Option (List ℕ)) (bytes : List ℕ) (fault : Fault) → GivesAtMost gives MOST_CLASS_BYTES bytes → IsFileFault bytes fault → FailsToRead gives path (still old) fault
 by_class gives path old bytes (File (errors.Fault f)) is w = (appends_nothing old, record { bytes = bytes; content = is; read = w })
 by_class gives path old bytes (File errors.Memory) is w = (appends_nothing old, tt)
 by_class gives path old bytes Memory is w = inl (appends_nothing old, tt)
 by_class gives path old bytes fault is w = absurd w
 
-pub refusal_is : (bytes : List ℕ) (error : ReadError) → Fails error (read_of bytes) → IsRefusal bytes (File error)
+pub refusal_is : (bytes : List ℕ) (error : ReadError) → GivesFault error (read_of bytes) → IsFileFault bytes (File error)
 refusal_is bytes errors.Memory w = tt
 refusal_is bytes (errors.Fault f) w = w
 

@@ -1,7 +1,7 @@
 -- What the files that the words name give.
 use Rattle.std.specs.Prelude.{◌≡◌, ◌⊎◌, ◌≤◌, ℕ, ⊤, List, length, string_bytes}
 use Rattle.std.specs.Str.{IsUtf8}
-use Rattle.cl_source.specs.Seen.{Seen, Missing, Refused, IsTooLarge, IsWithin}
+use Rattle.cl_source.specs.Seen.{Seen, Missing, Refused, IsTooLarge, GivesAtMost}
 use Rattle.cl_program.specs.declared.fault.Fault.{Fault}
 use Rattle.cl_program.specs.declared.fault.Fault.TheVariants.{NotUtf8, TooLarge, Path, Memory}
 use Rattle.cl_program.specs.declared.limits.TheConstants.{MOST_INPUT_BYTES}
@@ -26,14 +26,14 @@ abbrev pub AreNoText : List ℕ → Type 0
 AreNoText bytes = (length bytes ≤ MOST_INPUT_BYTES) × ¬ (IsUtf8 bytes)
 
 -- a text that a file gives
-pub record IsText (gives : Giving) (text : List ℕ) : Type 0 where
-  pub content : IsWithin gives MOST_INPUT_BYTES text
+pub record GivesText (gives : Giving) (text : List ℕ) : Type 0 where
+  pub content : GivesAtMost gives MOST_INPUT_BYTES text
   pub utf8 : IsUtf8 text
 
 -- a file gives bytes that are no text
 pub record IsNoText (gives : Giving) : Type 0 where
   pub bytes : List ℕ
-  pub content : IsWithin gives MOST_INPUT_BYTES bytes
+  pub content : GivesAtMost gives MOST_INPUT_BYTES bytes
   pub not_utf8 : ¬ (IsUtf8 bytes)
 
 -- why there is no text of the file at a path

@@ -24,18 +24,18 @@ abbrev pub outputs : {W E : Type 0} → (W → Option (List ℕ)) → W → W �
 outputs on_out old_out new_out on_err old_err new_err = record { out = stream on_out old_out new_out; err = stream on_err old_err new_err }
 
 -- these bytes are written
-abbrev pub Writes : Stream → List ℕ → Type 0
-Writes s bytes = Appends s.old s.new bytes
+abbrev pub WritesBytes : Stream → List ℕ → Type 0
+WritesBytes s bytes = Appends s.old s.new bytes
 
 -- a first part of these bytes is written, and no more
 abbrev pub WritesPart : Stream → List ℕ → Type 0
 WritesPart s bytes = AppendsPart s.old s.new bytes
 
 -- such lines are written
-pub record Prints (AreLines : List ℕ → Type 0) (out : Stream) : Type 0 where
+pub record PrintsLines (AreLines : List ℕ → Type 0) (out : Stream) : Type 0 where
   pub lines : List ℕ
   pub are : AreLines lines
-  pub whole : Writes out lines
+  pub whole : WritesBytes out lines
 
 -- a first part of such lines is written, and no more
 pub record BreaksOff (AreLines : List ℕ → Type 0) (out : Stream) : Type 0 where
@@ -45,7 +45,7 @@ pub record BreaksOff (AreLines : List ℕ → Type 0) (out : Stream) : Type 0 wh
 
 -- nothing is written, for this reason
 abbrev pub WritesNothing : Stream → Type 0 → Type 0
-WritesNothing s reason = Writes s [] × reason
+WritesNothing s reason = WritesBytes s [] × reason
 
 -- the line of a fault
 abbrev pub fault_line : List ℕ → List ℕ
@@ -57,13 +57,13 @@ TellsFault err fault = WritesPart err (fault_line (fault_text fault))
 
 -- the exit status, and what is on standard error
 abbrev pub EndsWith : Stream → ℕ → Result (Unit {0}) Fault → Type 0
-EndsWith err status (Ok x) = (status ≡ 0) × Writes err []
+EndsWith err status (Ok x) = (status ≡ 0) × WritesBytes err []
 EndsWith err status (Err fault) = (status ≡ 1) × TellsFault err fault
 
 -- what a run answers, and what is on its output: such lines, or what a fault that ends it leaves
 abbrev pub OutcomeOf : (List ℕ → Type 0) → (Stream → Fault → Type 0) → Stream
     → Result (Unit {0}) Fault → Type 0
-OutcomeOf AreLines EndsBy out (Ok x) = Prints AreLines out
+OutcomeOf AreLines EndsBy out (Ok x) = PrintsLines AreLines out
 OutcomeOf AreLines EndsBy out (Err fault) = EndsBy out fault
 
 -- a run answered so, and the exit status and both outputs say so

@@ -5,7 +5,7 @@ use Rattle.cl_classfile.specs.declared.fault.Fault.{Fault as ClassFault}
 use Rattle.cl_classfile.specs.declared.fault.ReadError.TheVariants as errors
 use Rattle.cl_classfile.specs.Reading.{read_of}
 use Rattle.cl_writer.specs.Listings.{listing_of}
-use Rattle.cl_source.specs.Seen.{IsWithin}
+use Rattle.cl_source.specs.Seen.{GivesAtMost}
 use Rattle.cl_program.specs.Files.{Giving, IsUnread}
 use Rattle.cl_program.specs.Outputs.{BreaksOff, Ended, OutcomeOf, Outputs, Stream, WritesNothing}
 use Rattle.cl_program.specs.declared.fault.Fault.{Fault}
@@ -21,13 +21,13 @@ pub record IsListing (bytes lines : List ℕ) : Type 0 where
 -- the lines of the class file that was read
 pub record AreLinesOf (gives : Giving) (lines : List ℕ) : Type 0 where
   pub bytes : List ℕ
-  pub content : IsWithin gives MOST_CLASS_BYTES bytes
+  pub content : GivesAtMost gives MOST_CLASS_BYTES bytes
   pub listing : IsListing bytes lines
 
 -- what was read is no class file, and this is its first fault (JVMS SE 8, 4; the order of faults is an own choice)
 pub record IsNoClass (gives : Giving) (fault : ClassFault) : Type 0 where
   pub bytes : List ℕ
-  pub content : IsWithin gives MOST_CLASS_BYTES bytes
+  pub content : GivesAtMost gives MOST_CLASS_BYTES bytes
   pub read : read_of bytes ≡ Err fault
 
 -- when a reading ends by a fault, and what is on its output
@@ -51,8 +51,8 @@ IsReading gives path = Ended (ReadingOf gives path)
 -- ---- its steps
 
 -- the first fault of bytes that spell no class file (JVMS SE 8, 4; the order of faults is an own choice), or out of memory
-abbrev pub IsRefusal : List ℕ → Fault → Type 0
-IsRefusal bytes (File (errors.Fault fault)) = read_of bytes ≡ Err fault
-IsRefusal bytes (File errors.Memory) = ⊤
-IsRefusal bytes Memory = ⊤
-IsRefusal bytes _ = ⊥
+abbrev pub IsFileFault : List ℕ → Fault → Type 0
+IsFileFault bytes (File (errors.Fault fault)) = read_of bytes ≡ Err fault
+IsFileFault bytes (File errors.Memory) = ⊤
+IsFileFault bytes Memory = ⊤
+IsFileFault bytes _ = ⊥

@@ -9,7 +9,7 @@ use Rattle.cl_registry.specs.declared.report.Report.{Report}
 use Rattle.cl_schedule.specs.Headline.{IsServed, IsServedInOrder}
 use Rattle.cl_source.specs.Seen.{IsTooLarge}
 use Rattle.cl_program.specs.Asking.{Wanted}
-use Rattle.cl_program.specs.Files.{Giving, IsText, IsNoText, IsUnreadable, LacksText}
+use Rattle.cl_program.specs.Files.{Giving, GivesText, IsNoText, IsUnreadable, LacksText}
 use Rattle.cl_program.specs.Outputs.{BreaksOff, Ended, OutcomeOf, Outputs, Stream, WritesNothing}
 use Rattle.cl_program.specs.Serving.{AreLinesBy, ByWorkers, IsUnserved}
 use Rattle.cl_program.specs.declared.fault.Fault.{Fault}
@@ -21,13 +21,13 @@ use Rattle.cl_program.specs.declared.limits.TheConstants.{MOST_INPUT_BYTES}
 -- what the text that a file gives is read as for a configuration: it, or its first fault
 pub record IsConfigAt (gives : Giving) (result : Result Configured ConfigFault) : Type 0 where
   pub text : List ℕ
-  pub given : IsText gives text
+  pub given : GivesText gives text
   pub read : config_of text ≡ result
 
 -- what the text that a file gives is read as for a script under a configuration: it, or its first fault
 pub record IsScriptAt (gives : Giving) (config : Configured) (result : Result Scripted ScriptFault) : Type 0 where
   pub text : List ℕ
-  pub given : IsText gives text
+  pub given : GivesText gives text
   pub read : script_of (names_of config) text result
 
 -- why there is no configuration at a path

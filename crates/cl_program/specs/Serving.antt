@@ -8,7 +8,7 @@ use Rattle.cl_schedule.specs.Counting.{faults}
 use Rattle.cl_schedule.specs.Headline.{IsServedInOrder}
 use Rattle.cl_schedule.specs.Serving.{reported}
 use Rattle.cl_schedule.specs.declared.serve.ServeFault.TheVariants as serve
-use Rattle.cl_pool.specs.Served.{MayServe}
+use Rattle.cl_pool.specs.Served.{WorkersMayServe}
 use Rattle.cl_program.specs.declared.fault.Fault.{Fault}
 use Rattle.cl_program.specs.declared.fault.Fault.TheVariants.{Serve, Threads}
 use Rattle.cl_program.specs.declared.fault.ThreadFault.{ThreadFault}
@@ -16,7 +16,7 @@ use Rattle.cl_program.specs.declared.fault.ThreadFault.TheVariants.{Workers}
 
 -- so many workers may serve, and the one holds where one serves, the other where several do
 pub record ByWorkers (workers : ℕ) (One Several : Type 0) : Type 0 where
-  pub within : MayServe workers
+  pub within : WorkersMayServe workers
   pub alone : workers ≡ 1 → One
   pub together : ¬ (workers ≡ 1) → Several
 
@@ -27,8 +27,8 @@ pub record IsServedAlone (told : Option Content) (config : Configured) (script :
 
 -- why several workers made no report: their number is blamed where there are none or too many, and nowhere else
 abbrev pub FailsBy : ℕ → ThreadFault → Type 0
-FailsBy workers Workers = ¬ (MayServe workers)
-FailsBy workers _ = MayServe workers
+FailsBy workers Workers = ¬ (WorkersMayServe workers)
+FailsBy workers _ = WorkersMayServe workers
 
 -- why a script was not served: one worker tells that memory was wanting, several tell a fault of theirs
 abbrev pub IsUnserved : ℕ → Fault → Type 0

@@ -2,7 +2,7 @@
 
 ghost use Rattle.std.specs.Prelude.{IfOk, IfErr, Some, length, IsOkUnless};
 ghost use Rattle.cl_config.specs.Scripts.{HasLoaders};
-ghost use Rattle.cl_model.specs.Content.{Tells};
+ghost use Rattle.cl_model.specs.Content.{TellsContent};
 ghost use Rattle.cl_registry.specs.Reports.{IsNamed};
 ghost use Rattle.cl_program.specs.Outputs.{stream};
 ghost use Rattle.cl_program.specs.Runs.{IsServedBy, RunOf};
@@ -94,7 +94,7 @@ fn serve_told<T: Told + Send + Sync, R: Threads + Wait + Sync>(
     script: Arc<Script>,
     workers: u32,
 ) -> Result<Report, Fault>
-    requires tells { Tells T.told source }
+    requires tells { TellsContent T.told source }
     requires loaders { HasLoaders (length config.value.loaders) script.value.requests }
     ensures served { IfOk result (IsServedBy workers T.told config.value script.value) }
     ensures named { IfOk result (IsNamed (length config.value.loaders)) }
@@ -114,7 +114,7 @@ fn serve_alone<T: Told>(
     source: MemorySource,
     script: Arc<Script>,
 ) -> Result<Report, ServeFault>
-    requires tells { Tells T.told source }
+    requires tells { TellsContent T.told source }
     requires loaders { HasLoaders (length config.value.loaders) script.value.requests }
     ensures served { IfOk result (IsServedAlone T.told config.value script.value) }
     ensures no_stray { IsOkUnless result ServeFault.Memory }

@@ -1,8 +1,8 @@
 //! The files that the program's words name.
 
 ghost use Rattle.std.specs.Prelude.{◌<◌, ◌^◌, IfOk, IfErr, string_bytes};
-ghost use Rattle.cl_source.specs.Seen.{IsWithin};
-ghost use Rattle.cl_program.specs.Files.{IsText, IsUnread, LacksText};
+ghost use Rattle.cl_source.specs.Seen.{GivesAtMost};
+ghost use Rattle.cl_program.specs.Files.{GivesText, IsUnread, LacksText};
 
 use crate::fault::Fault;
 use crate::limits::MOST_INPUT_BYTES;
@@ -46,7 +46,7 @@ pub(crate) fn bytes_at<F: ReadFile>(
     most: usize,
 ) -> Result<Vec<u8>, Fault>
     requires { most < 2 ^ 32 }
-    ensures ok { IfOk result (λ v. IsWithin (F.gives files.now path.now) most v.items) }
+    ensures ok { IfOk result (λ v. GivesAtMost (F.gives files.now path.now) most v.items) }
     ensures err { IfErr result (IsUnread (F.gives files.now path.now) most path.now) }
 {
     match files.read_file(alloc, path, most) {
@@ -59,7 +59,7 @@ pub(crate) fn bytes_at<F: ReadFile>(
 
 /// The text of the file at a path.
 pub(crate) fn text_at<F: ReadFile>(alloc: Global, files: &F, path: &str) -> Result<String, Fault>
-    ensures ok { IfOk result (λ t. IsText (F.gives files.now path.now) (string_bytes t)) }
+    ensures ok { IfOk result (λ t. GivesText (F.gives files.now path.now) (string_bytes t)) }
     ensures err { IfErr result (LacksText (F.gives files.now path.now) path.now) }
 {
     let bytes = bytes_at(alloc, files, path, MOST_INPUT_BYTES)?;

@@ -3,7 +3,7 @@
 ghost use Rattle.std.specs.Prelude.{◌≡◌, Ok, IfOk, IfErr};
 ghost use Rattle.cl_classfile.specs.Reading.{read_of};
 ghost use Rattle.cl_program.specs.Outputs.{stream};
-ghost use Rattle.cl_program.specs.Readings.{IsRefusal, ReadingOf};
+ghost use Rattle.cl_program.specs.Readings.{IsFileFault, ReadingOf};
 
 use crate::fault::Fault;
 use crate::files::bytes_at;
@@ -32,7 +32,7 @@ pub(crate) fn print_class<F: ReadFile, W: Write>(
 /// The class file that bytes spell.
 fn class_file(alloc: Global, bytes: &[u8]) -> Result<ClassFile, Fault>
     ensures ok { IfOk result (λ file. read_of bytes.now ≡ Ok file) }
-    ensures err { IfErr result (IsRefusal bytes.now) }
+    ensures err { IfErr result (IsFileFault bytes.now) }
 {
     match cl_classfile::read(alloc, bytes) {
         Ok(file) => Ok(file),

@@ -3,7 +3,7 @@
 ghost use Rattle.std.specs.Prelude.{IfOk, IfErr, OnOk, length};
 ghost use Rattle.cl_config.specs.Scripts.{HasLoaders};
 ghost use Rattle.cl_schedule.specs.Headline.{IsServed};
-ghost use Rattle.cl_pool.specs.Served.{MayServe};
+ghost use Rattle.cl_pool.specs.Served.{WorkersMayServe};
 ghost use Rattle.cl_program.specs.Serving.{FailsBy};
 
 use crate::fault::ThreadFault;
@@ -32,7 +32,7 @@ pub(crate) fn serve_by_threads<
 ) -> Result<Report, ThreadFault>
     requires { HasLoaders (length config.value.loaders) script.value.requests }
     ensures served { IfOk result (IsServed T.told config.value script.value) }
-    ensures workers { OnOk result (MayServe workers) }
+    ensures workers { OnOk result (WorkersMayServe workers) }
     ensures refused { IfErr result (FailsBy workers) }
 {
     match serve_with_rows::<T, S, OpenGate, R>(

@@ -9,12 +9,12 @@ use Rattle.std.proofs.lemmas.Cmp.{nat_eq_equiv}
 use Rattle.cl_classfile.specs.Files.{Name, File, file_of}
 use Rattle.cl_model.specs.declared.class.Class.{Class}
 use Rattle.cl_model.specs.Content.{Content}
-use Rattle.cl_model.specs.Homes.{World, home, is_java, is_loader, own_home, home_at, home_below}
+use Rattle.cl_model.specs.Homes.{World, home, is_java, is_loader, own_home, home_by_earlier, home_below}
 use Rattle.cl_model.specs.Classes.{class, Above, AtHome, Fitting, FitsAt, Good, IsGood, HasFile, IsAtHome, misfit, supers}
 use Rattle.cl_model.specs.Classes as classes
 use Rattle.cl_model.specs.States.{State, Entry, MayAdd, recorded, Keeps}
 use Rattle.cl_model.specs.Plans.{Load}
-use Rattle.cl_model.specs.Frames.{Frame, Judged, Accepts}
+use Rattle.cl_model.specs.Frames.{Frame, Judged, AcceptsFirst}
 use Rattle.cl_model.specs.Machine.{Setting, Define, Initiate, IsClosed, May}
 use Rattle.cl_model.proofs.Closed.{Stands, runs_are_closed}
 use Rattle.cl_model.proofs.Bind.{ok_same, none_not_some, some_same}
@@ -25,7 +25,7 @@ use Rattle.cl_model.proofs.Looks.{unmet_is_fresh}
 use Rattle.cl_model.proofs.Progress.{next_may}
 use Rattle.cl_model.proofs.Reached.{then_some}
 use Rattle.cl_config.specs.Views.{Configured}
-use Rattle.cl_config.specs.Loaders.{loader_of}
+use Rattle.cl_config.specs.Loaders.{world_loader}
 use Rattle.cl_delegation.specs.Worlds.{world_of, setting_of}
 use Rattle.cl_hierarchy.specs.Drafts.{Drafted, IsDraft}
 use Rattle.cl_hierarchy.specs.Rows.{FitsAs}
@@ -52,13 +52,13 @@ home_bound w l p name h = by_java (is_java name) h
     by_java : (b : Bool) → (elim b as (λ x. Option ℕ) [ true ↦ if is_loader w l then own_home w 0 name else None | false ↦ home_below w name (suc l) l ]) ≡ Some p → l < length w.loaders
     by_java true h = less_of l (length w.loaders) (if_some (is_loader w l) (own_home w 0 name) p h).0
     by_java false h =
-        let at : option_and_then (home_at w name (home_below w name l) l) (slice_get w.loaders l) ≡ Some p =
-        subst (λ (b : Bool). (elim b as (λ x. Option ℕ) [ true ↦ option_and_then (home_at w name (home_below w name l) l) (slice_get w.loaders l) | false ↦ home_below w name l l ]) ≡ Some p) (nat_eq_equiv.refl l) h in
-        let some = then_some (home_at w name (home_below w name l) l) (slice_get w.loaders l) p at in
+        let at : option_and_then (home_by_earlier w name (home_below w name l) l) (slice_get w.loaders l) ≡ Some p =
+        subst (λ (b : Bool). (elim b as (λ x. Option ℕ) [ true ↦ option_and_then (home_by_earlier w name (home_below w name l) l) (slice_get w.loaders l) | false ↦ home_below w name l l ]) ≡ Some p) (nat_eq_equiv.refl l) h in
+        let some = then_some (home_by_earlier w name (home_below w name l) l) (slice_get w.loaders l) p at in
         slice_get_within w.loaders l some.0 some.1
 
 loader_bound : (c : Configured) (content : Content) (l p : ℕ) (name : Name) → home (world_of c content) l name ≡ Some p → l < length c.loaders
-loader_bound c content l p name h = subst (λ (n : ℕ). l < n) (length-map c.loaders loader_of) (home_bound (world_of c content) l p name h)
+loader_bound c content l p name h = subst (λ (n : ℕ). l < n) (length-map c.loaders world_loader) (home_bound (world_of c content) l p name h)
 
 -- a draft's class is at home, under the configuration that it was found under
 pub draft_at_home : (c : Configured) (content : Content) (d : Drafted) → IsDraft (Some content) d → d.home.config ≡ c → IsAtHome (world_of c content) d.class
@@ -82,7 +82,7 @@ pub row_of_some : {A : Type 0} (P : A → Type 0) (o : Option A) (a : A) → o �
 row_of_some {A = A} P o a e h = subst (λ (o : Option A). IfSome o P) e h
 
 -- the record that comes next in a load may be made
-may_by : (g : Setting) (s : State) (c : Class) (f : File) (ts : List Class) → IsClosed g.world s → IsAtHome g.world c → HasFile g.world c f → Accepts g.world c ts (supers f) → AllByRecursion (Keeps s c.loader) ts → slice_get (supers f) (length ts) ≡ None
+may_by : (g : Setting) (s : State) (c : Class) (f : File) (ts : List Class) → IsClosed g.world s → IsAtHome g.world c → HasFile g.world c f → AcceptsFirst g.world c ts (supers f) → AllByRecursion (Keeps s c.loader) ts → slice_get (supers f) (length ts) ≡ None
     → MayAdd s (Entry c.loader c.name c.loader) → May g s (Define c)
 may_by g s c f ts closed at file accepts kept none free =
     let x : Frame = record { class = c; file = f; accepted = ts } in
@@ -104,7 +104,7 @@ recorded_at x l a some =
 
 all_accepted : (content : Content) (x : Shown) (c : Class) (others : List Above) → IsKept (Some content) x → AllByRecursion (λ (a : Above). IsSome (recorded (records_of x) c.loader a.name)) others
     → AllByRecursion (λ (a : Above). IfSome (looked x c.loader a.name) (FitsAs c a)) others
-    → Accepts (world_of x.config content) c (recorded_as x c.loader others) others × AllByRecursion (Keeps (state_of x) c.loader) (recorded_as x c.loader others)
+    → AcceptsFirst (world_of x.config content) c (recorded_as x c.loader others) others × AllByRecursion (Keeps (state_of x) c.loader) (recorded_as x c.loader others)
 all_accepted content x c [] kept above fit = (tt, tt)
 all_accepted content x c (a ∷ others) kept above fit =
     let w = world_of x.config content in

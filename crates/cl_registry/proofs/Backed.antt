@@ -15,8 +15,8 @@ use Rattle.cl_model.specs.Tables.{BearsAnswer}
 use Rattle.cl_model.specs.Views.{answer_of, request_of}
 use Rattle.cl_findings.specs.Findings.{Answered, loader_of}
 use Rattle.cl_registry.specs.Tables.{Shown, state_of, settlements, settled_at, NamesLoaders}
-use Rattle.cl_registry.specs.Posting.{Fits}
-use Rattle.cl_registry.specs.SettlingLaws.{FittingIsBorne, LinkedIsPrepared, PostedIsSettled, SettledIsBacked}
+use Rattle.cl_registry.specs.Posting.{AnswerFits}
+use Rattle.cl_registry.specs.SettlingLaws.{FittingIsBorne, PostedLinkIsPrepared, PostedIsSettled, SettledIsBacked}
 use Rattle.cl_registry.proofs.Cited.{settled_by_in, settled_cited_by}
 use Rattle.cl_registry.proofs.Named.{record_is_named}
 use Rattle.cl_registry.proofs.Posted.{borne}
@@ -26,7 +26,7 @@ use Rattle.cl_registry.proofs.Posted.{borne}
 pub fitting_is_borne : FittingIsBorne
 fitting_is_borne x q f fits = borne x f f.answer fits.backed.answer
 
-said_borne : (x : Shown) (q : ℕ) (f : Answered) (r : Request) (a : Answer) → Fits x q f → f.request ≡ r → answer_of f.answer ≡ a → BearsAnswer (state_of x) (request_of r) a
+said_borne : (x : Shown) (q : ℕ) (f : Answered) (r : Request) (a : Answer) → AnswerFits x q f → f.request ≡ r → answer_of f.answer ≡ a → BearsAnswer (state_of x) (request_of r) a
 said_borne x q f r a fits is said = subst (λ (b : Answer). BearsAnswer (state_of x) (request_of r) b) said (subst (λ (s : Request). BearsAnswer (state_of x) (request_of s) (answer_of f.answer)) is (fitting_is_borne x q f fits))
 
 pub posted_is_settled : PostedIsSettled
@@ -36,7 +36,7 @@ posted_is_settled x q f loader place i name v fits is at said entry member =
       | inr more ↦ elim more [ inl e ↦ absurd (member e) | inr e ↦ e ]
     ]
 
-pub linked_is_prepared : LinkedIsPrepared
+pub linked_is_prepared : PostedLinkIsPrepared
 linked_is_prepared x q f loader name c fits is said = said_borne x q f (requests.Link loader name) (Said (IsLinked c)) fits is said c refl
 
 -- ---- what is settled

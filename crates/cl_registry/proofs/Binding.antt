@@ -35,7 +35,7 @@ use Rattle.cl_findings.proofs.Answered.{standing_settles}
 use Rattle.cl_registry.specs.Kept.{Fields, IsRegistry}
 use Rattle.cl_registry.specs.Tables.{Shown, steps, state_of, settlements, settled_at, looked, IsKept}
 use Rattle.cl_registry.specs.References.{Cited, cited_by, settled_by, AddsSettled, IsReferencePut}
-use Rattle.cl_registry.specs.Settling.{Says, IsToSettle, with_settle, Settles, SettledAs}
+use Rattle.cl_registry.specs.Settling.{SaysVerdict, IsToSettle, with_settle, Settles, SettledAs}
 use Rattle.cl_registry.specs.SettlingLaws.{AllowedIsSettled, OtherFindingIsStray}
 use Rattle.cl_registry.proofs.Cited.{IsCitedBy, cited_is, settled_cited}
 use Rattle.cl_registry.proofs.Kept.{HasRoom, IsFine, book_event, kept_event, moved, registry_event, rows_same, same_rounds, state_event}
@@ -106,7 +106,7 @@ fine told x f shared k rests free to =
     record { silent = refl; allows = may_keep told x f shared.value k free to; may = may_settle told x f shared.value k rests free to; names = tt }
 
 -- the verdict names loaders that there are
-named_verdict : (x : Shown) (f : Answered) (v : Verdict) → Says f v → Stands x.config (state_of x) f → VerdictNames (length x.config.loaders) v
+named_verdict : (x : Shown) (f : Answered) (v : Verdict) → SaysVerdict f v → Stands x.config (state_of x) f → VerdictNames (length x.config.loaders) v
 named_verdict x f v says stands = subst (λ a. AnswerNames (length x.config.loaders) a) says.said stands.within.answer
 
 pub kept_settle : (told : Option Content) (x : Shown) (f : Answered) (shared : Arc Settled Global) → IsKept told x → Rests told f → settled_by x f.request ≡ None → IsToSettle x f shared.value → IsKept told (with_settle x shared)

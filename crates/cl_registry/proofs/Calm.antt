@@ -7,7 +7,7 @@ use Rattle.std.proofs.lemmas.List.Folds.{find-append}
 use Rattle.cl_classfile.specs.Files.{Name}
 use Rattle.cl_model.specs.declared.event.Event.{Event}
 use Rattle.cl_model.specs.declared.event.Event.TheVariants as events
-use Rattle.cl_model.specs.States.{State, Equality, Posted, Entry, Answer, recorded, answer_to, IsPath, Clashes, MayAdd}
+use Rattle.cl_model.specs.States.{State, Equality, Posted, Entry, Answer, recorded, answer_to, IsPathBetween, Clashes, MayAdd}
 use Rattle.cl_model.specs.Machine.{Define, Initiate, NextRound, after, state_after}
 use Rattle.cl_model.specs.Views.{answer_at, post_of, step_of, steps_of}
 use Rattle.cl_registry.specs.Tables.{posts}
@@ -19,7 +19,7 @@ use Rattle.std.proofs.lemmas.Bool.{or_parts}
 -- ---- equalities
 
 -- without equalities a loader is joined with itself alone
-alone : (ks : List Equality) (name : Name) (a : ℕ) (path : List ℕ) (b : ℕ) → ks ≡ [] → IsPath ks name a path b → a ≡ b
+alone : (ks : List Equality) (name : Name) (a : ℕ) (path : List ℕ) (b : ℕ) → ks ≡ [] → IsPathBetween ks name a path b → a ≡ b
 alone ks name a [] b e h = h
 alone ks name a (c ∷ cs) b e h = absurd (no_equality h.0.equality (subst (λ (x : List Equality). Contains x h.0.equality) e h.0.imposed))
 

@@ -31,7 +31,7 @@ use Rattle.cl_registry.specs.declared.registry.RegistryFault.{RegistryFault}
 use Rattle.cl_registry.specs.declared.registry.RegistryFault.TheVariants.{Memory, Stray, Violates, AlreadyPosted, NotYet}
 use Rattle.cl_registry.specs.Kept.{Fields, IsRegistry}
 use Rattle.cl_registry.specs.Parts.{IsPut}
-use Rattle.cl_registry.specs.Refusals.{AddRefusedFor, Blames, BlamesIn, DefineRefusedFor, InitiateRefusedFor, MemoryOrStray, RecordRefusedFor}
+use Rattle.cl_registry.specs.Refusals.{AddRefusedFor, BlamesNeed, BlamesIn, DefineRefusedFor, InitiateRefusedFor, MemoryOrStray, RecordRefusedFor}
 use Rattle.cl_registry.specs.Tables.{Shown, state_of, records_of, IsKept, ArePlaced, with_define, with_initiate, looked, row_for, place_in, IsNew, LacksRecord, MayEnter, MayJoin, Defines, DefinedAs, Initiates, InitiatedAs}
 use Rattle.cl_registry.proofs.Running.{may_record}
 use Rattle.cl_registry.proofs.Looked.{looked_push, looked_some, looked_records, at_self, fresh_row, row_push}
@@ -238,7 +238,7 @@ module _ (told : Option Content) (x y : Shown) (h : Located) (v : Rowed) (k : Is
 -- ---- refusals
 
 -- a record that a book does not admit is to be blamed
-pub blames_record : (x : Shown) (stands : State → Type 0) (b : Bool) (l p : ℕ) (n : List ℕ) (need : Need) → Entry l n p ≡ need → Admits stands (Entry l n p) b → b ≡ false → stands (state_of x) → Blames x (needs.Entry l n p) need
+pub blames_record : (x : Shown) (stands : State → Type 0) (b : Bool) (l p : ℕ) (n : List ℕ) (need : Need) → Entry l n p ≡ need → Admits stands (Entry l n p) b → b ≡ false → stands (state_of x) → BlamesNeed x (needs.Entry l n p) need
 blames_record x stands true l p n need is admits e at = absurd cc
 blames_record x stands false l p n need is admits e at = record { is = is; refused = subst (λ (m : Need). Refused (state_of x) m) is (admits (state_of x) at) }
 
@@ -287,7 +287,7 @@ pub asked_entry : (h : Located) (asked place : ℕ) (name : List ℕ) → asked 
 asked_entry h asked place name a p n = ap (λ (l : ℕ). Entry l name place) a ∙ ap (λ (m : List ℕ). Entry h.asked m place) n ∙ ap (λ (q : ℕ). Entry h.asked h.name q) p
 
 -- a record that is blamed, told in other parts
-pub blamed_as : (x : Shown) (need other : Need) (n m : List ℕ) (l k p q : ℕ) → l ≡ k → p ≡ q → n ≡ m → Blames x (needs.Entry l n p) need → need ≡ other → Blames x (needs.Entry k m q) other
+pub blamed_as : (x : Shown) (need other : Need) (n m : List ℕ) (l k p q : ℕ) → l ≡ k → p ≡ q → n ≡ m → BlamesNeed x (needs.Entry l n p) need → need ≡ other → BlamesNeed x (needs.Entry k m q) other
 blamed_as x need other n m l k p q a b c blames is = record {
   is = ap (λ (j : ℕ). Entry j m q) (sym a) ∙ ap (λ (o : List ℕ). Entry l o q) (sym c) ∙ ap (λ (i : ℕ). Entry l n i) (sym b) ∙ blames.is ∙ is;
   refused = subst (λ (o : Need). Refused (state_of x) o) is blames.refused;

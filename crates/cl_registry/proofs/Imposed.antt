@@ -18,11 +18,11 @@ use Rattle.cl_model.specs.States.{State, Need, Equal, Met, Refused, AllMet, IsRe
 use Rattle.cl_model.specs.Machine.{Constrain, Prepare, after, May}
 use Rattle.cl_model.specs.Preparation.{constraints_of}
 use Rattle.cl_config.specs.Views.{Configured}
-use Rattle.cl_constraints.specs.Books.{IsBookOf, Refuses}
+use Rattle.cl_constraints.specs.Books.{IsBookOf, SaysRefused}
 use Rattle.cl_constraints.proofs.Standing.{unrefused}
 use Rattle.cl_delegation.specs.Worlds.{setting_of}
 use Rattle.cl_hierarchy.specs.Imposed.{AreOf, Listed, Sprung, OfPreparation, OfReference, equal_need, needs_of}
-use Rattle.cl_hierarchy.specs.Lineages.{IsWithin, Lined, kin_of, rows_in, row_of}
+use Rattle.cl_hierarchy.specs.Lineages.{IsWithinConfig, Lined, kin_of, rows_in, row_of}
 use Rattle.cl_hierarchy.proofs.Enough.{all_among}
 use Rattle.cl_hierarchy.specs.Rows.{Rowed}
 use Rattle.cl_registry.specs.declared.registry.RegistryFault.{RegistryFault}
@@ -30,7 +30,7 @@ use Rattle.cl_registry.specs.declared.registry.RegistryFault.TheVariants.{Memory
 use Rattle.cl_findings.specs.Bases.{AreLineages, IsListed}
 use Rattle.cl_registry.specs.Imposing.{IsNextOf, MayConstrainAs, MayImpose, MayPrepareAs, OriginStands, with_constrain, with_prepare}
 use Rattle.cl_registry.specs.Kept.{Fields, IsRegistry}
-use Rattle.cl_registry.specs.Refusals.{AddRefusedFor, Blames, ImposeRefusedFor}
+use Rattle.cl_registry.specs.Refusals.{AddRefusedFor, BlamesNeed, ImposeRefusedFor}
 use Rattle.cl_registry.specs.Tables.{Shown, state_of, IsKept}
 use Rattle.cl_registry.proofs.Constrained.{imposed_is_allowed}
 use Rattle.cl_registry.proofs.Entered.{BookAdds, KeepsOthers}
@@ -40,8 +40,8 @@ use Rattle.cl_registry.proofs.Named.{recorded_is_named}
 
 -- ---- loaders of equalities
 
-within_rows : (x : Shown) (l : Lined) → l.config ≡ x.config → AllByRecursion (IsWithin l.config) (rows_in l) → AllByRecursion (λ (r : Rowed). r.class.loader < length x.config.loaders) (rows_in l)
-within_rows x l config h = subst (λ (c : Configured). AllByRecursion (IsWithin c) (rows_in l)) config h
+within_rows : (x : Shown) (l : Lined) → l.config ≡ x.config → AllByRecursion (IsWithinConfig l.config) (rows_in l) → AllByRecursion (λ (r : Rowed). r.class.loader < length x.config.loaders) (rows_in l)
+within_rows x l config h = subst (λ (c : Configured). AllByRecursion (IsWithinConfig c) (rows_in l)) config h
 
 -- the equalities of what stands in the tables name loaders that there are
 names_by : (told : Option Content) (x : Shown) (o : Sprung) (ns : List Need) → AreLineages told o → AreOf o ns → OriginStands x o → AllByRecursion (Names (λ l. l < length x.config.loaders)) ns
@@ -134,8 +134,8 @@ kept_prepared {home} {joins} told x c f table wide references prepared used come
 -- ---- refusals
 
 -- an equality that a book refuses is to be blamed
-pub blames_equality : (x : Shown) (stands : State → Type 0) (b : Bool) (e : Equality) (name : List ℕ) → name ≡ e.name → Refuses stands (Equal name e.one e.other) b → b ≡ true → stands (state_of x)
-    → Blames x (needs.Equal (record { name = name; one = e.one; other = e.other })) (equal_need e)
+pub blames_equality : (x : Shown) (stands : State → Type 0) (b : Bool) (e : Equality) (name : List ℕ) → name ≡ e.name → SaysRefused stands (Equal name e.one e.other) b → b ≡ true → stands (state_of x)
+    → BlamesNeed x (needs.Equal (record { name = name; one = e.one; other = e.other })) (equal_need e)
 blames_equality x stands true e name named refuses is at = record {
   is = ap (λ (n : List ℕ). Equal n e.one e.other) named;
   refused = subst (λ (n : List ℕ). Refused (state_of x) (Equal n e.one e.other)) named (refuses (state_of x) at);
@@ -143,7 +143,7 @@ blames_equality x stands true e name named refuses is at = record {
 blames_equality x stands false e name named refuses is at = absurd cc
 
 -- one that it does not refuse is not refused
-pub free_equality : (x : Shown) (stands : State → Type 0) (b : Bool) (e : Equality) (name : List ℕ) → name ≡ e.name → Refuses stands (Equal name e.one e.other) b → b ≡ false → stands (state_of x) → Refused (state_of x) (equal_need e) → ⊥
+pub free_equality : (x : Shown) (stands : State → Type 0) (b : Bool) (e : Equality) (name : List ℕ) → name ≡ e.name → SaysRefused stands (Equal name e.one e.other) b → b ≡ false → stands (state_of x) → Refused (state_of x) (equal_need e) → ⊥
 free_equality x stands true e name named refuses is at = absurd cc
 free_equality x stands false e name named refuses is at = λ r. refuses (state_of x) at (subst (λ (n : List ℕ). Refused (state_of x) (Equal n e.one e.other)) (sym named) r)
 
@@ -158,7 +158,7 @@ impose_lacks x e k n may at unmet = (may, next_unmet x e k n at unmet)
 pub impose_refused : (x : Shown) (e : Listed) (k : ℕ) (n : Equality) (fault : RegistryFault) → MayImpose x e k → slice_get e.needs k ≡ Some n → (Met (state_of x) (equal_need n) → ⊥) → AddRefusedFor x (equal_need n) fault → ImposeRefusedFor x e k fault
 impose_refused x e k n Memory may at unmet r = impose_lacks x e k n may at unmet
 impose_refused x e k n Stray may at unmet r = absurd r
-impose_refused x e k n (Violates m) may at unmet r = (may, subst (λ (o : Option Equality). IfSome o (λ q. Blames x m (equal_need q))) (sym at) r)
+impose_refused x e k n (Violates m) may at unmet r = (may, subst (λ (o : Option Equality). IfSome o (λ q. BlamesNeed x m (equal_need q))) (sym at) r)
 impose_refused x e k n AlreadyPosted may at unmet r = r
 impose_refused x e k n NotYet may at unmet r = r
 

@@ -8,7 +8,7 @@ use Rattle.cl_model.specs.Machine.{Step, after}
 use Rattle.cl_model.proofs.Runs.{met_stays}
 use Rattle.cl_model.proofs.Bind.{some_same}
 use Rattle.cl_hierarchy.specs.Imposed.{equal_need, needs_of}
-use Rattle.cl_registry.specs.Imposing.{IsNoted, StandsWith}
+use Rattle.cl_registry.specs.Imposing.{IsNotedAt, StandsWith}
 use Rattle.cl_registry.specs.Kept.{Fields, IsRegistry}
 use Rattle.cl_registry.specs.Tables.{Shown, state_of}
 use Rattle.std.proofs.lemmas.Option.{none-some}
@@ -34,7 +34,7 @@ taken s known zero e h one = (one, tt)
 taken s [] (suc place) e h one = (one, tt)
 taken s (x ∷ known) (suc place) e h one = (h.0, taken s known place e h.1 one)
 
-pub met_noted : (s : State) (old : List Equality) (place : ℕ) (e : Equality) (new : List Equality) → IsNoted old place e new → AllMet s (needs_of old) → Met s (equal_need e) → AllMet s (needs_of new)
+pub met_noted : (s : State) (old : List Equality) (place : ℕ) (e : Equality) (new : List Equality) → IsNotedAt old place e new → AllMet s (needs_of old) → Met s (equal_need e) → AllMet s (needs_of new)
 met_noted s old place e new (inl same) h one = subst (λ (es : List Equality). AllMet s (needs_of es)) (sym same) h
 met_noted s old place e new (inr is) h one = subst (λ (es : List Equality). AllMet s (needs_of es)) (sym is) (taken s old place e h one)
 

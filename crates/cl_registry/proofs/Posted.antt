@@ -30,7 +30,7 @@ use Rattle.cl_findings.specs.Findings.{Answered, IsLookedUp, Rests}
 use Rattle.cl_findings.proofs.Answered.{standing_answers}
 use Rattle.cl_registry.specs.Tables.{Shown, steps, state_of, records_of, round_of, IsTrusted}
 use Rattle.cl_registry.specs.References.{settled_by}
-use Rattle.cl_registry.specs.Posting.{AnswerBacked, VerdictBacked, Fits}
+use Rattle.cl_registry.specs.Posting.{AnswerBacked, VerdictBacked, AnswerFits}
 use Rattle.cl_registry.specs.Allowed.{FittingIsAllowed}
 use Rattle.cl_registry.proofs.Calm.{unposted_stays}
 use Rattle.cl_registry.proofs.Cited.{settled_by_in, settled_cited_by}
@@ -150,7 +150,7 @@ borne x f (answers.SourceFault n l) backed = tt
 -- ---- a post
 
 -- a request that fits is of the round that is served
-pub in_its_round : (x : Shown) (q : ℕ) (f : Answered) → IsTrusted x → Fits x q f → (n : ℕ) × (slice_get x.script.rounds_of q ≡ Some n) × (n ≡ round_of x)
+pub in_its_round : (x : Shown) (q : ℕ) (f : Answered) → IsTrusted x → AnswerFits x q f → (n : ℕ) × (slice_get x.script.rounds_of q ≡ Some n) × (n ≡ round_of x)
 in_its_round x q f trusted fits =
     let n = round_at x.script.requests x.script.rounds_of q f.request trusted.script.each fits.may.asked in
     let none = open_answer x.answers q fits.may.unanswered in (

@@ -27,7 +27,7 @@ use Rattle.cl_hierarchy.specs.Imposed.{needs_of}
 use Rattle.cl_hierarchy.specs.Lineages.{row_of}
 use Rattle.cl_registry.specs.Kept.{Fields, IsRegistry, open_in}
 use Rattle.cl_registry.specs.Tables.{Shown, state_of, records_of, round_of, defined, posts, settlements, settled_at, with_post, IsTrusted, IsKept, IsLater, IsPlaced, NamesLoaders}
-use Rattle.cl_registry.specs.Posting.{Fits}
+use Rattle.cl_registry.specs.Posting.{AnswerFits}
 use Rattle.cl_registry.proofs.Calm.{unposted_stays}
 use Rattle.cl_registry.proofs.Histories.{trusted_more, run_more, posts_then, defined_then, settlements_then, is_in_push, swap_nat, eq_nat, other_answer, this_answer, left_set, open_set, steps_posts, state_posts, posted_by, unposted, less}
 use Rattle.cl_registry.proofs.Known.{met_after}
@@ -43,7 +43,7 @@ not_later x q n round at le is later =
 
 -- ---- the tables allow it, under any source
 
-may_tell : (x : Shown) (q : ℕ) (f : Answered) → IsTrusted x → Fits x q f → MayTell (schedule_of x.script) (state_of x) q (answer_of f.answer)
+may_tell : (x : Shown) (q : ℕ) (f : Answered) → IsTrusted x → AnswerFits x q f → MayTell (schedule_of x.script) (state_of x) q (answer_of f.answer)
 may_tell x q f trusted fits =
     let n = in_its_round x q f trusted fits in
     record {
@@ -74,7 +74,7 @@ named_post x q a n names = record {
   answers = All-set (λ o. IfSome o (AnswerNames (length x.config.loaders))) x.answers q (Some a) names n.answers;
 }
 
-kept : (told : Option Content) (x : Shown) (q : ℕ) (f : Answered) → IsKept told x → Fits x q f → Rests told f → IsKept told (with_post x q f.answer)
+kept : (told : Option Content) (x : Shown) (q : ℕ) (f : Answered) → IsKept told x → AnswerFits x q f → Rests told f → IsKept told (with_post x q f.answer)
 kept told x q f k fits rests =
     let a = f.answer in
     let y = with_post x q a in
@@ -141,7 +141,7 @@ counted told x f q n k at is =
 pub counts_down : {stands : State → Type 0} (told : Option Content) (x : Shown) (f : Fields) (q n : ℕ) → IsRegistry told x f stands → slice_get x.script.rounds_of q ≡ Some n → slice_get x.answers q ≡ Some None → MatchOption (slice_get f.unanswered n) ⊥ (λ w. 0 < w)
 counts_down told x f q n k at is = let w = counted told x f q n k at is in subst (λ (o : Option ℕ). MatchOption o ⊥ (λ w. 0 < w)) (sym w.1) w.2
 
-pub kept_post : {home : Name → ℕ → Option ℕ} {joins : Name → ℕ → ℕ → Type 0} (told : Option Content) (x : Shown) (f : Fields) (q n : ℕ) (a : Answered) (events room left : ℕ) (unanswered : List ℕ) → IsRegistry told x f (IsBookOf home joins) → Fits x q a → Rests told a → slice_get x.script.rounds_of q ≡ Some n
+pub kept_post : {home : Name → ℕ → Option ℕ} {joins : Name → ℕ → ℕ → Type 0} (told : Option Content) (x : Shown) (f : Fields) (q n : ℕ) (a : Answered) (events room left : ℕ) (unanswered : List ℕ) → IsRegistry told x f (IsBookOf home joins) → AnswerFits x q a → Rests told a → slice_get x.script.rounds_of q ≡ Some n
     → MatchOption (slice_get f.unanswered n) ⊥ (λ w. unanswered ≡ slice_set f.unanswered n (w - 1)) → events ≡ f.events + 1 → room ≡ f.room_for_events → left + 1 ≡ f.left
     → IsRegistry told (with_post x q a.answer) (record f { events = events; room_for_events = room; left = left; unanswered = unanswered }) (IsBookOf home joins)
 kept_post {home} {joins} told x f q n a used room less unanswered k fits rests at lower one same left =

@@ -33,7 +33,7 @@ use Rattle.cl_hierarchy.specs.RowTables.{AreRows}
 use Rattle.cl_hierarchy.specs.Lineages.{row_of}
 use Rattle.cl_constraints.specs.Books.{IsBookOf}
 use Rattle.cl_registry.specs.Kept.{left_in, open_in, Fields, IsRegistry}
-use Rattle.cl_registry.specs.Tables.{Shown, steps, state_of, records_of, round_of, posts, defined, settlements, reference_in, RunsAs, IsPlaced, with_round, MayGoOn}
+use Rattle.cl_registry.specs.Tables.{Shown, steps, state_of, records_of, round_of, posts, defined, settlements, reference_in, RunsAs, IsPlaced, with_round, RoundMayBegin}
 use Rattle.cl_registry.proofs.Histories.{given, open_answer, eq_nat}
 use Rattle.cl_registry.proofs.Running.{answered, named_new}
 use Rattle.cl_registry.proofs.Allowed.{round_is_allowed}
@@ -113,7 +113,7 @@ some_open round (n ∷ ns) (None ∷ xs) h = by_test (nat_eq n round) refl h (so
 
 -- ---- when the next round may begin
 
-pub may_go_on : {stands : State → Type 0} (told : Option Content) (x : Shown) (f : Fields) (n : ℕ) → IsRegistry told x f stands → slice_get f.unanswered f.round ≡ Some n → n ≡ 0 → f.round + 1 < x.script.rounds → MayGoOn x
+pub may_go_on : {stands : State → Type 0} (told : Option Content) (x : Shown) (f : Fields) (n : ℕ) → IsRegistry told x f stands → slice_get f.unanswered f.round ≡ Some n → n ≡ 0 → f.round + 1 < x.script.rounds → RoundMayBegin x
 may_go_on told x f n k at zero-left more = record {
   answered = λ q e asked same.
       let count = k.counts f.round n at in
@@ -130,7 +130,7 @@ round_there_is told x f n k more e = let each = k.each_round in slice_get_read f
 none_is_some : (o : Option Answer) → o ≡ None → is_some o ≡ true → ⊥
 none_is_some o e h = cc
 
-pub open_stops : {stands : State → Type 0} (told : Option Content) (x : Shown) (f : Fields) (n : ℕ) → IsRegistry told x f stands → slice_get f.unanswered f.round ≡ Some n → (n ≡ 0 → ⊥) → MayGoOn x → ⊥
+pub open_stops : {stands : State → Type 0} (told : Option Content) (x : Shown) (f : Fields) (n : ℕ) → IsRegistry told x f stands → slice_get f.unanswered f.round ≡ Some n → (n ≡ 0 → ⊥) → RoundMayBegin x → ⊥
 open_stops told x f n k at some may =
     let o = some_open f.round x.script.rounds_of x.answers (λ z. some (k.counts f.round n at ∙ z)) in
     let asks = some_at x.script.requests o.request (subst (λ (m : ℕ). o.request < m) k.kept.trusted.whole (slice_get_within x.answers o.request None o.is_open)) in
@@ -138,7 +138,7 @@ open_stops told x f n k at some may =
     none_is_some (given x.answers o.request) (open_answer x.answers o.request o.is_open)
     (sym (answered x o.request k.kept.trusted) ∙ may.answered o.request (record { request = request_of asks.0; round = f.round }) there k.round)
 
-pub last_stops : {stands : State → Type 0} (told : Option Content) (x : Shown) (f : Fields) → IsRegistry told x f stands → x.script.rounds ≤ f.round + 1 → MayGoOn x → ⊥
+pub last_stops : {stands : State → Type 0} (told : Option Content) (x : Shown) (f : Fields) → IsRegistry told x f stands → x.script.rounds ≤ f.round + 1 → RoundMayBegin x → ⊥
 last_stops told x f k last may = let r = k.round in let l = may.later in omega arith
 
 pub round_left : {stands : State → Type 0} (told : Option Content) (x : Shown) (f : Fields) → IsRegistry told x f stands → f.round + 1 < x.script.rounds → round_of x + 1 < x.script.rounds
@@ -159,7 +159,7 @@ below_or_at a b h = by_test (nat_eq a b) refl
 state_round : (x : Shown) → round_of (with_round x) ≡ round_of x + 1
 state_round x = ap (λ (s : State). s.round) (state_event x x.rows events.NextRound)
 
-pub kept_round : {home : Name → ℕ → Option ℕ} {joins : Name → ℕ → ℕ → Type 0} (told : Option Content) (x : Shown) (f : Fields) (used more : ℕ) → IsRegistry told x f (IsBookOf home joins) → MayGoOn x → used ≡ f.events + 1 → more ≡ f.room_for_events
+pub kept_round : {home : Name → ℕ → Option ℕ} {joins : Name → ℕ → ℕ → Type 0} (told : Option Content) (x : Shown) (f : Fields) (used more : ℕ) → IsRegistry told x f (IsBookOf home joins) → RoundMayBegin x → used ≡ f.events + 1 → more ≡ f.room_for_events
     → IsRegistry told (with_round x) (record f { events = used; room_for_events = more; round = f.round + 1 }) (IsBookOf home joins)
 kept_round {home} {joins} told x f used more k may one same =
     let earlier : (q round : ℕ) → slice_get x.script.rounds_of q ≡ Some round → round < round_of (with_round x) → IsSome (answer_at (answers_of x.answers) q) =

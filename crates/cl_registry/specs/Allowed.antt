@@ -17,9 +17,9 @@ use Rattle.cl_findings.specs.Findings.{Answered, IsLookedUp, Rests, Stands}
 use Rattle.cl_registry.specs.declared.registry.RegistryFault.TheVariants.{Stray}
 use Rattle.cl_findings.specs.Bases.{IsListed}
 use Rattle.cl_registry.specs.Imposing.{AreOfConfig, IsListOf, IsReady, MayImpose}
-use Rattle.cl_registry.specs.Posting.{Fits}
+use Rattle.cl_registry.specs.Posting.{AnswerFits}
 use Rattle.cl_registry.specs.Refusals.{DefineRefusedFor}
-use Rattle.cl_registry.specs.Tables.{Shown, state_of, records_of, NamesLoaders, IsKept, IsAsked, IsNew, LacksRecord, MayEnter, MayJoin, MayGoOn, machine}
+use Rattle.cl_registry.specs.Tables.{Shown, state_of, records_of, NamesLoaders, IsKept, IsAsked, IsNew, LacksRecord, MayEnter, MayJoin, RoundMayBegin, machine}
 use Rattle.cl_findings.specs.Loads.{asked_record, own_record}
 
 -- a class of this configuration that the machine may define has no record and may be entered, and is not refused (5.3.4, 5.3.5)
@@ -86,7 +86,7 @@ AllowedIsMarked =
 -- an answer that fits and rests on the content may be posted by the machine (5.3.5)
 abbrev pub FittingIsAllowed : Type 0
 FittingIsAllowed =
-    (content : Content) (x : Shown) (q : ℕ) (f : Answered) → IsKept (Some content) x → Fits x q f → Rests (Some content) f
+    (content : Content) (x : Shown) (q : ℕ) (f : Answered) → IsKept (Some content) x → AnswerFits x q f → Rests (Some content) f
     → MayPost (machine x content) (state_of x) q (answer_of f.answer)
 
 -- a verdict that a finding says of its request, and that the machine may post, fits where the finding stands, or the verdict is
@@ -95,11 +95,11 @@ abbrev pub AllowedIsPosted : Type 0
 AllowedIsPosted =
     (content : Content) (x : Shown) (q : ℕ) (f : Answered) (v : Verdict) → IsKept (Some content) x → IsAsked x q f
     → f.answer ≡ answers.Said v → IsLookedUp f.request v ⊎ Stands x.config (state_of x) f
-    → MayPost (machine x content) (state_of x) q (answer_of f.answer) → Fits x q f
+    → MayPost (machine x content) (state_of x) q (answer_of f.answer) → AnswerFits x q f
 
 -- the next round may begin just where the machine may go on: both are `EndsRound` of the same script, so that nothing is left to show
 abbrev pub RoundIsAllowed : Type 0
-RoundIsAllowed = (content : Content) (x : Shown) → MayGoOn x → May (machine x content) (state_of x) NextRound
+RoundIsAllowed = (content : Content) (x : Shown) → RoundMayBegin x → May (machine x content) (state_of x) NextRound
 
 -- a class of another configuration than the registry's has no row of its own to be recorded
 abbrev pub OtherConfigIsStray : Type 0

@@ -128,8 +128,8 @@ pub record StandsWith (stands : State → Type 0) (known : List Equality) (s : S
   pub met : AllMet s (needs_of known)
 
 -- an equality is kept at a place, with those before it, or all stays
-abbrev pub IsNoted : List Equality → ℕ → Equality → List Equality → Type 0
-IsNoted old place e new = (new ≡ old) ⊎ (new ≡ take place old ++ e ∷ [])
+abbrev pub IsNotedAt : List Equality → ℕ → Equality → List Equality → Type 0
+IsNotedAt old place e new = (new ≡ old) ⊎ (new ≡ take place old ++ e ∷ [])
 
 -- where a content is told, the machine may impose an equality that is not refused (5.3.4)
 abbrev pub MayConstrainAs : Option Content → Shown → Equality → Type 0

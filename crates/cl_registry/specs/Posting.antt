@@ -30,12 +30,12 @@ pub record IsBacked (x : Shown) (f : Answered) : Type 0 where
   pub answer : AnswerBacked x f f.answer
 
 -- an answer to this request may be posted under this number: the request is the script's, is of no later round, and has no answer yet
-pub record MayPost (x : Shown) (q : ℕ) (r : Request) : Type 0 where
+pub record MayPostUnder (x : Shown) (q : ℕ) (r : Request) : Type 0 where
   pub asked : slice_get x.script.requests q ≡ Some r
   pub begun : IsLater x q → ⊥
   pub unanswered : IsOpen x q
 
 -- the request that was answered may be, under this number, and the tables bear the answer (5.3 to 5.4.3)
-pub record Fits (x : Shown) (q : ℕ) (f : Answered) : Type 0 where
-  pub may : MayPost x q f.request
+pub record AnswerFits (x : Shown) (q : ℕ) (f : Answered) : Type 0 where
+  pub may : MayPostUnder x q f.request
   pub backed : IsBacked x f

@@ -15,14 +15,14 @@ use Rattle.cl_hierarchy.specs.Drafts.{Drafted}
 use Rattle.cl_hierarchy.specs.Imposed.{Listed}
 use Rattle.cl_findings.specs.Findings.{Answered}
 use Rattle.cl_registry.specs.Imposing.{Imposes, IsNextOf, IsPreparedBy, MayImpose, MayMark}
-use Rattle.cl_registry.specs.Tables.{Shown, IsKept, state_of, IsNew, LacksRecord, MayEnter, MayJoin, IsAsked, IsLater, IsOpen, MayGoOn}
+use Rattle.cl_registry.specs.Tables.{Shown, IsKept, state_of, IsNew, LacksRecord, MayEnter, MayJoin, IsAsked, IsLater, IsOpen, RoundMayBegin}
 use Rattle.cl_registry.specs.References.{settled_by}
-use Rattle.cl_registry.specs.Settling.{MaySettle}
-use Rattle.cl_registry.specs.Posting.{IsBacked, MayPost}
+use Rattle.cl_registry.specs.Settling.{FindingSettles}
+use Rattle.cl_registry.specs.Posting.{IsBacked, MayPostUnder}
 use Rattle.cl_findings.specs.Loads.{asked_record, own_record}
 
 -- this need, and no other, is refused: adding it would violate an equality (5.3.4)
-pub record Blames (x : Shown) (blamed : Need) (need : states.Need) : Type 0 where
+pub record BlamesNeed (x : Shown) (blamed : Need) (need : states.Need) : Type 0 where
   pub is : need_of blamed ≡ need
   pub refused : Refused (state_of x) need
 
@@ -30,7 +30,7 @@ pub record Blames (x : Shown) (blamed : Need) (need : states.Need) : Type 0 wher
 abbrev pub AddRefusedFor : Shown → states.Need → RegistryFault → Type 0
 AddRefusedFor x need Memory = Refused (state_of x) need → ⊥
 AddRefusedFor x need Stray = ⊥
-AddRefusedFor x need (Violates n) = Blames x n need
+AddRefusedFor x need (Violates n) = BlamesNeed x n need
 AddRefusedFor x need AlreadyPosted = ⊥
 AddRefusedFor x need NotYet = ⊥
 
@@ -52,7 +52,7 @@ fault_of books.Violates need = Violates need
 abbrev pub RecordRefusedFor : Shown → (lacks may : Type 0) → states.Need → RegistryFault → Type 0
 RecordRefusedFor x lacks may need Memory = lacks → may
 RecordRefusedFor x lacks may need Stray = lacks × (may → ⊥)
-RecordRefusedFor x lacks may need (Violates n) = lacks × may × Blames x n need
+RecordRefusedFor x lacks may need (Violates n) = lacks × may × BlamesNeed x n need
 RecordRefusedFor x lacks may need AlreadyPosted = ⊥
 RecordRefusedFor x lacks may need NotYet = ⊥
 
@@ -77,7 +77,7 @@ MemoryOrStray holds NotYet = ⊥
 abbrev pub ImposeRefusedFor : Shown → Listed → ℕ → RegistryFault → Type 0
 ImposeRefusedFor x e k Memory = MayImpose x e k × (IsNextOf e k (Met (state_of x)) → ⊥)
 ImposeRefusedFor x e k Stray = MayImpose x e k → ⊥
-ImposeRefusedFor x e k (Violates n) = MayImpose x e k × IsNextOf e k (Blames x n)
+ImposeRefusedFor x e k (Violates n) = MayImpose x e k × IsNextOf e k (BlamesNeed x n)
 ImposeRefusedFor x e k AlreadyPosted = ⊥
 ImposeRefusedFor x e k NotYet = ⊥
 
@@ -101,8 +101,8 @@ MarkRefusedFor x e NotYet = ⊥
 -- a finding is strayed where the entry that its request resolves is not settled and it settles none; others are refused where
 -- memory ran out alone (5.4.3)
 abbrev pub SettleRefusedFor : Shown → Answered → RegistryFault → Type 0
-SettleRefusedFor x f Memory = settled_by x f.request ≡ None → MaySettle x f
-SettleRefusedFor x f Stray = (settled_by x f.request ≡ None) × (MaySettle x f → ⊥)
+SettleRefusedFor x f Memory = settled_by x f.request ≡ None → FindingSettles x f
+SettleRefusedFor x f Stray = (settled_by x f.request ≡ None) × (FindingSettles x f → ⊥)
 SettleRefusedFor x f (Violates n) = ⊥
 SettleRefusedFor x f AlreadyPosted = ⊥
 SettleRefusedFor x f NotYet = ⊥
@@ -111,7 +111,7 @@ SettleRefusedFor x f NotYet = ⊥
 -- told that the request is of a later round, or has an answer
 abbrev pub PostRefusedFor : Shown → ℕ → Answered → RegistryFault → Type 0
 PostRefusedFor x q f Memory = ⊥
-PostRefusedFor x q f Stray = (IsAsked x q f → ⊥) ⊎ (MayPost x q f.request × (IsBacked x f → ⊥))
+PostRefusedFor x q f Stray = (IsAsked x q f → ⊥) ⊎ (MayPostUnder x q f.request × (IsBacked x f → ⊥))
 PostRefusedFor x q f (Violates n) = ⊥
 PostRefusedFor x q f AlreadyPosted = IsAsked x q f × (IsLater x q → ⊥) × (IsOpen x q → ⊥)
 PostRefusedFor x q f NotYet = IsAsked x q f × IsLater x q
@@ -122,4 +122,4 @@ RoundRefusedFor x Memory = ⊥
 RoundRefusedFor x Stray = ⊥
 RoundRefusedFor x (Violates n) = ⊥
 RoundRefusedFor x AlreadyPosted = ⊥
-RoundRefusedFor x NotYet = MayGoOn x → ⊥
+RoundRefusedFor x NotYet = RoundMayBegin x → ⊥

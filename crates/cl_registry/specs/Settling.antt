@@ -17,24 +17,24 @@ pub record IsSettledKind (v : Verdict) : Type 0 where
   pub is_class_member : v ≢ verdicts.ArrayMember
 
 -- a finding says this verdict, which is such a one (5.4.3)
-pub record Says (f : Answered) (v : Verdict) : Type 0 where
+pub record SaysVerdict (f : Answered) (v : Verdict) : Type 0 where
   pub said : f.answer ≡ answers.Said v
   pub kind : IsSettledKind v
 
 -- it says none
 abbrev pub SaysNone : Answered → Type 0
-SaysNone f = (v : Verdict) → Says f v → ⊥
+SaysNone f = (v : Verdict) → SaysVerdict f v → ⊥
 
 -- what a finding settles: the entry that its request resolves, to the verdict that it says, which is one that is settled
 -- and stands in the tables (5.4.3)
 pub record IsToSettle (x : Shown) (f : Answered) (s : Settled) : Type 0 where
   pub cited : cited_by x f.request ≡ Some (record { class = s.class; index = s.index })
-  pub says : Says f s.verdict
+  pub says : SaysVerdict f s.verdict
   pub stands : Stands x.config (state_of x) f
 
 -- a finding settles something (5.4.3)
-abbrev pub MaySettle : Shown → Answered → Type 0
-MaySettle x f = (s : Settled) × IsToSettle x f s
+abbrev pub FindingSettles : Shown → Answered → Type 0
+FindingSettles x f = (s : Settled) × IsToSettle x f s
 
 -- a reference more is settled (5.4.3)
 abbrev pub with_settle : Shown → Arc Settled Global → Shown

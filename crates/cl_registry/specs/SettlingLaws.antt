@@ -23,7 +23,7 @@ use Rattle.cl_registry.specs.declared.registry.RegistryFault.TheVariants.{Stray}
 use Rattle.cl_registry.specs.Tables.{Shown, state_of, records_of, IsKept, settled_at, machine}
 use Rattle.cl_registry.specs.References.{IsSettledIn, IsUnsettled, cited_by, settled_by}
 use Rattle.cl_registry.specs.Settling.{IsToSettle}
-use Rattle.cl_registry.specs.Posting.{Fits, IsBacked}
+use Rattle.cl_registry.specs.Posting.{AnswerFits, IsBacked}
 use Rattle.cl_registry.specs.Refusals.{SettleRefusedFor}
 
 -- what a history tells to be settled is so in the linkage machine (5.4.3)
@@ -78,20 +78,20 @@ OtherFindingIsUnbacked =
 
 -- under any source the tables bear what is posted (5.3 to 5.4.3)
 abbrev pub FittingIsBorne : Type 0
-FittingIsBorne = (x : Shown) (q : ℕ) (f : Answered) → Fits x q f → BearsAnswer (state_of x) (request_of f.request) (answer_of f.answer)
+FittingIsBorne = (x : Shown) (q : ℕ) (f : Answered) → AnswerFits x q f → BearsAnswer (state_of x) (request_of f.request) (answer_of f.answer)
 
 -- so a reference's verdict is posted only as it is settled, where the class of its request is recorded (5.4.3)
 abbrev pub PostedIsSettled : Type 0
 PostedIsSettled =
-    (x : Shown) (q : ℕ) (f : Answered) (loader place index : ℕ) (name : Name) (v : Verdict) → Fits x q f
+    (x : Shown) (q : ℕ) (f : Answered) (loader place index : ℕ) (name : Name) (v : Verdict) → AnswerFits x q f
     → f.request ≡ requests.Resolve loader name index → recorded (records_of x) loader name ≡ Some place
     → answer_of f.answer ≡ Said v → v ≢ BadEntry → v ≢ ArrayMember
     → settled_to (state_of x).settled (class name place) index ≡ Some v
 
 -- and a class is posted to be linked only where it is recorded and prepared (5.4)
-abbrev pub LinkedIsPrepared : Type 0
-LinkedIsPrepared =
-    (x : Shown) (q : ℕ) (f : Answered) (loader : ℕ) (name : Name) (c : Class) → Fits x q f
+abbrev pub PostedLinkIsPrepared : Type 0
+PostedLinkIsPrepared =
+    (x : Shown) (q : ℕ) (f : Answered) (loader : ℕ) (name : Name) (c : Class) → AnswerFits x q f
     → f.request ≡ requests.Link loader name → answer_of f.answer ≡ Said (IsLinked c)
     → Records (state_of x) loader name c × Contains (state_of x).prepared c
 

@@ -254,5 +254,5 @@ abbrev pub IsOpen : Shown → ℕ → Type 0
 IsOpen x q = slice_get x.answers q ≡ Some None
 
 -- each request of the round has its answer, and there is a later round
-abbrev pub MayGoOn : Shown → Type 0
-MayGoOn x = EndsRound (schedule_of x.script) x.script.rounds (state_of x)
+abbrev pub RoundMayBegin : Shown → Type 0
+RoundMayBegin x = EndsRound (schedule_of x.script) x.script.rounds (state_of x)

@@ -8,7 +8,7 @@ ghost use Rattle.cl_findings.specs.Findings.{Decides};
 ghost use Rattle.cl_constraints.specs.Books.{TellsOf};
 ghost use Rattle.cl_hierarchy.specs.Imposed.{equal_need, needs_of};
 ghost use Rattle.cl_model.specs.States.{AllMet, Met};
-ghost use Rattle.cl_registry.specs.Imposing.{IsNoted, StandsWith};
+ghost use Rattle.cl_registry.specs.Imposing.{IsNotedAt, StandsWith};
 
 use cl_constraints::ConstraintBook;
 use cl_model::Equality;
@@ -60,7 +60,7 @@ pub fn are_met<B: ConstraintBook>(book: &B, known: &[Equality], equalities: &[Eq
 /// Keeps the equality at a place of a list, in place of what another list had there and after it. It is left out where one
 /// before it was, or where memory is refused: the book is asked of it again.
 pub fn note(alloc: Global, known: &mut Vec<Equality>, place: usize, equality: &Equality)
-    ensures { IsNoted known.old.items place equality.now known.new.items }
+    ensures { IsNotedAt known.old.items place equality.now known.new.items }
 {
     if place > known.len() || stands_at(known.as_slice(), place, equality) {
         return;

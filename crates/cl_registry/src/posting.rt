@@ -6,7 +6,7 @@ ghost use Rattle.cl_model.specs.States.{ArrayMember, BadEntry};
 ghost use Rattle.cl_model.specs.Tables.{Bears, Records};
 ghost use Rattle.cl_model.specs.Views.{request_of, verdict_of};
 ghost use Rattle.cl_findings.specs.Findings.{Decides, IsLookedUp};
-ghost use Rattle.cl_registry.specs.Posting.{AnswerBacked, Fits, IsBacked, VerdictBacked};
+ghost use Rattle.cl_registry.specs.Posting.{AnswerBacked, AnswerFits, IsBacked, VerdictBacked};
 ghost use Rattle.cl_registry.specs.References.{settled_by};
 ghost use Rattle.cl_registry.specs.Refusals.{PostRefusedFor};
 ghost use Rattle.cl_registry.specs.Tables.{IsKept, state_of, with_post};
@@ -54,7 +54,7 @@ impl<T: Told> Registry<T> {
     /// loaded is recorded, an entry of a recorded class is settled so, a class that was linked is prepared, and of an error
     /// what was found on the way stands.
     pub fn post(&mut self, q: u32, finding: Finding<T>) -> Result<(), PostRefused<T>>
-        ensures fits { OnOk result (Fits self.old q finding) }
+        ensures fits { OnOk result (AnswerFits self.old q finding) }
         ensures posted { OnOk result (self.new ≡ with_post self.old q finding.answer) }
         ensures refused { IfErr result (λ e. PostRefusedFor self.old q finding e.fault) }
         ensures unchanged { IfErr result (λ e. (self.new ≡ self.old) × (e.finding ≡ finding)) }

@@ -3,7 +3,7 @@
 ghost use Rattle.std.specs.Prelude.{◌≡◌, OnOk, IfOk, IfErr, MatchOption, map};
 ghost use Rattle.std.specs.Option.{option_map};
 ghost use Rattle.cl_model.specs.Tables.{Records};
-ghost use Rattle.cl_registry.specs.Tables.{IsKept, LacksRecord, MayGoOn, empty_of, looked, round_of, state_of, with_round};
+ghost use Rattle.cl_registry.specs.Tables.{IsKept, LacksRecord, RoundMayBegin, empty_of, looked, round_of, state_of, with_round};
 ghost use Rattle.cl_registry.specs.Refusals.{RoundRefusedFor};
 ghost use Rattle.cl_registry.specs.Reports.{IsBack, IsReported};
 ghost use Rattle.cl_findings.specs.Findings.{Decides};
@@ -204,7 +204,7 @@ impl<T: Told> Registry<T> {
 
     /// Begins the next round, once each request of this one has its answer, and answers its number.
     pub fn next_round(&mut self) -> Result<u32, RegistryFault>
-        ensures may { OnOk result (MayGoOn self.old) }
+        ensures may { OnOk result (RoundMayBegin self.old) }
         ensures begun { OnOk result (self.new ≡ with_round self.old) }
         ensures number { IfOk result (λ round. round ≡ round_of self.new) }
         ensures refused { IfErr result (λ fault. RoundRefusedFor self.old fault) }

@@ -5,7 +5,7 @@ ghost use Rattle.std.specs.Option.{option_map};
 ghost use Rattle.cl_findings.specs.Findings.{Decides, Stands};
 ghost use Rattle.cl_registry.specs.References.{IsSettledIn, IsUnsettled, cited_by, settled_by};
 ghost use Rattle.cl_registry.specs.Refusals.{MemoryOrStray, SettleRefusedFor};
-ghost use Rattle.cl_registry.specs.Settling.{IsToSettle, MaySettle, Says, SaysNone, Settles};
+ghost use Rattle.cl_registry.specs.Settling.{IsToSettle, FindingSettles, SaysVerdict, SaysNone, Settles};
 ghost use Rattle.cl_registry.specs.Tables.{IsKept, settled_at, state_of};
 
 use crate::references::{bind, find_reference};
@@ -20,7 +20,7 @@ use std::sync::Arc;
 
 /// The verdict that a finding says, if it is one that is settled.
 fn binding<T: Told>(finding: &Finding<T>) -> Option<&Verdict>
-    ensures { MatchOption result (SaysNone finding.now) (λ v. Says finding.now v.now) }
+    ensures { MatchOption result (SaysNone finding.now) (λ v. SaysVerdict finding.now v.now) }
 {
     match finding.answer() {
         Answer::Said(Verdict::BadEntry) => None,
@@ -122,7 +122,7 @@ impl<T: Told> Registry<T> {
     /// What a finding settles.
     fn to_settle(&self, alloc: Global, finding: &Finding<T>) -> Result<Settled, RegistryFault>
         ensures settled { IfOk result (λ s. IsToSettle self.now finding.now s) }
-        ensures refused { IfErr result (MemoryOrStray (MaySettle self.now finding.now)) }
+        ensures refused { IfErr result (MemoryOrStray (FindingSettles self.now finding.now)) }
     {
         let Some((class, index)) = self.cited_by(finding.request()) else {
             return Err(RegistryFault::Stray);

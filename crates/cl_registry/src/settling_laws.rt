@@ -1,6 +1,6 @@
 //! Laws of what is settled and posted: each is the contract of a function without a body.
 
-ghost use Rattle.cl_registry.specs.SettlingLaws.{AllowedIsSettled, FittingIsBorne, LinkedIsPrepared, OtherFindingIsStray, OtherFindingIsUnbacked, PostedIsSettled, PreparedComes, SettledIsAllowed, SettledIsBacked, SettledIsTold, SettledStays, UnsettledIsTold};
+ghost use Rattle.cl_registry.specs.SettlingLaws.{AllowedIsSettled, FittingIsBorne, PostedLinkIsPrepared, OtherFindingIsStray, OtherFindingIsUnbacked, PostedIsSettled, PreparedComes, SettledIsAllowed, SettledIsBacked, SettledIsTold, SettledStays, UnsettledIsTold};
 
 /// What a history tells to be settled is so in the linkage machine, and nothing else is (JVMS SE 8, 5.4.3).
 pub fn settled_is_told()
@@ -45,7 +45,7 @@ pub fn other_finding_is_unbacked()
 pub fn fitting_is_borne()
     ensures borne { FittingIsBorne }
     ensures settled { PostedIsSettled }
-    ensures linked { LinkedIsPrepared }
+    ensures linked { PostedLinkIsPrepared }
 {}
 
 /// What an entry is settled to may be the answer of each request that resolves it, under any source (JVMS SE 8, 5.4.3).

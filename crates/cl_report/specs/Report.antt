@@ -3,7 +3,7 @@ use Rattle.std.specs.Prelude.{ℕ, Bool, List, [], ◌∷◌, ◌++◌, if◌the
 use Rattle.std.specs.List.{enumerate_from, flat_map}
 use Rattle.cl_model.specs.declared.event.Event.{Event}
 use Rattle.cl_model.specs.declared.answer.Answer.{Answer}
-use Rattle.cl_model.specs.Lines.{ended, answer_line, step_line}
+use Rattle.cl_model.specs.Lines.{ended_line, answer_line, step_line}
 use Rattle.cl_model.specs.Views.{answer_of, step_of}
 
 -- the line of the step that an event tells, where it has one; a post has none, whatever its answer
@@ -16,7 +16,7 @@ history_lines loaders events = flat_map (event_line loaders) events
 
 -- the line of an answer, by the place of its request, counted from 0
 abbrev pub numbered_line : List (List ℕ) → ℕ → Answer → List ℕ
-numbered_line loaders place answer = ended (answer_line loaders place (answer_of answer))
+numbered_line loaders place answer = ended_line (answer_line loaders place (answer_of answer))
 
 -- the line of each answer in turn
 abbrev pub answer_lines : List (List ℕ) → List Answer → List ℕ

@@ -1,7 +1,7 @@
 ghost use Rattle.std.specs.Prelude.{◌≡◌, ◌++◌, [], ◌∷◌, length, map, string_bytes, All, OnOk, OnErr, if◌then◌else◌};
 ghost use Rattle.std.specs.Fmt.{decimal};
 ghost use Rattle.std.specs.Io.KnownBytes.{Appends};
-ghost use Rattle.cl_model.specs.Lines.{answer_text, ended, words};
+ghost use Rattle.cl_model.specs.Lines.{answer_text, ended_line, words};
 ghost use Rattle.cl_model.specs.Texts.{EventNames, AnswerNames};
 ghost use Rattle.cl_model.specs.Views.{answer_of};
 ghost use Rattle.cl_streams.specs.Writing.{AppendsPart, Passes};
@@ -117,10 +117,10 @@ fn put_answer<W: Write>(
 ) -> Result<(), PrintFault>
     requires { AnswerNames (length loaders.now) answer.now }
     ensures line { OnOk result (Passes (W.contents out.old) (string_bytes waiting.old)
-        (W.contents out.new) (string_bytes waiting.new) (ended (words (decimal number ∷ answer_text
+        (W.contents out.new) (string_bytes waiting.new) (ended_line (words (decimal number ∷ answer_text
         (map string_bytes loaders.now) (answer_of answer.now) ∷ [])))) }
     ensures part { OnErr result (AppendsPart (W.contents out.old) (W.contents out.new)
-        (string_bytes waiting.old ++ ended (words (decimal number ∷ answer_text
+        (string_bytes waiting.old ++ ended_line (words (decimal number ∷ answer_text
         (map string_bytes loaders.now) (answer_of answer.now) ∷ [])))) }
 {
     write!(waiting, "{number} ")?;

@@ -27,7 +27,7 @@ use Rattle.cl_model.proofs.Tables.{may_bear}
 use Rattle.cl_registry.specs.Imposing.{ArePreparedAbove, HoldsFor, IsReadyBy, IsStanding, OriginStands}
 use Rattle.cl_registry.specs.Posting.{AnswerBacked, IsBacked}
 use Rattle.cl_registry.specs.References.{Cited, cited_by, settled_by}
-use Rattle.cl_registry.specs.Settling.{MaySettle}
+use Rattle.cl_registry.specs.Settling.{FindingSettles}
 use Rattle.cl_registry.specs.Tables.{Shown, IsKept, MayEnter, looked, records_of, settled_at, state_of, steps, machine}
 use Rattle.cl_registry.proofs.Placed.{recorded_row}
 use Rattle.cl_registry.proofs.Tracing.{looked_row}
@@ -160,7 +160,7 @@ cited_later old new (requests.Resolve loader name i) e h is =
     the_cited : ℕ → Cited
     the_cited p = record { class = class name p; index = i }
 
-settle_later : (told : Option Content) (old new : Shown) (f : Answered) → IsAfter told old new → MaySettle old f → MaySettle new f
+settle_later : (told : Option Content) (old new : Shown) (f : Answered) → IsAfter told old new → FindingSettles old f → FindingSettles new f
 settle_later told old new f h (s, is) = (
   s,
   record { cited = cited_later old new f.request (record { class = s.class; index = s.index }) h.goes is.cited; says = is.says; stands = stands_later told old new f h is.stands },

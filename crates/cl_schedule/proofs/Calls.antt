@@ -22,8 +22,8 @@ use Rattle.cl_registry.specs.declared.registry.RegistryFault.{RegistryFault}
 use Rattle.cl_registry.specs.declared.registry.RegistryFault.TheVariants.{Memory, Stray, Violates, AlreadyPosted, NotYet}
 use Rattle.cl_registry.specs.Imposing.{Constrains, Imposes, MarksBy, MayImpose, MayMark}
 use Rattle.cl_registry.specs.References.{Cited, IsSettledIn, settled_by}
-use Rattle.cl_registry.specs.Refusals.{Blames, DefineRefusedFor, ImposeRefusedFor, InitiateRefusedFor, MarkRefusedFor, MemoryOrStray, SettleRefusedFor}
-use Rattle.cl_registry.specs.Settling.{MaySettle, SettledAs, Settles}
+use Rattle.cl_registry.specs.Refusals.{BlamesNeed, DefineRefusedFor, ImposeRefusedFor, InitiateRefusedFor, MarkRefusedFor, MemoryOrStray, SettleRefusedFor}
+use Rattle.cl_registry.specs.Settling.{FindingSettles, SettledAs, Settles}
 use Rattle.cl_registry.specs.Tables.{Shown, Defines, DefinedAs, Initiates, InitiatedAs, MayEnter, MayJoin, records_of, row_for, settled_at, state_of}
 use Rattle.cl_registry.proofs.Settled.{settled_is_told}
 use Rattle.cl_tasks.specs.Follows.{IsSettledOf}
@@ -90,7 +90,7 @@ pub record IsBlamed (x : Shown) (need : Need) (n : needs.Need) : Type 0 where
   pub is : Some need ≡ Some (need_of n)
   pub refused : Refused (state_of x) (need_of n)
 
-blamed : (x new : Shown) (need : Need) (n : needs.Need) → new ≡ x → Blames x n need → IsBlamed new need n
+blamed : (x new : Shown) (need : Need) (n : needs.Need) → new ≡ x → BlamesNeed x n need → IsBlamed new need n
 blamed x new need n same b = record {
   is = ap (λ (k : Need). Some k) (sym b.is);
   refused = subst (λ (y : Shown). Refused (state_of y) (need_of n)) (sym same) (subst (Refused (state_of x)) (sym b.is) b.refused);
@@ -130,7 +130,7 @@ lineage_answered A x c (Violates n) refused = absurd refused
 lineage_answered A x c AlreadyPosted refused = absurd refused
 lineage_answered A x c NotYet refused = absurd refused
 
-pub settle_answered : (A : Type 0) (x new : Shown) (f : Answered) (fault : RegistryFault) → SettleRefusedFor x f fault → TellsRefused A (MaySettle x f) new (Settling f.request) fault
+pub settle_answered : (A : Type 0) (x new : Shown) (f : Answered) (fault : RegistryFault) → SettleRefusedFor x f fault → TellsRefused A (FindingSettles x f) new (Settling f.request) fault
 settle_answered A x new f Memory refused = record { fits = λ e. ended e; tells = tt; shows = tt }
   where
     ended : Settling f.request ≡ Ended → ⊥
@@ -148,7 +148,7 @@ impose_answered A x new l k Memory refused same = record { fits = λ e. ended e;
 impose_answered A x new l k Stray refused same = refused
 impose_answered A x new l k (Violates n) refused same = let b = by_entry (slice_get l.needs k) refl refused.1 in record { fits = b.0; tells = b.1; shows = tt }
   where
-    by_entry : (o : Option Equality) → slice_get l.needs k ≡ o → IfSome o (λ e. Blames x n (equal_need e)) → (option_map equal_need (slice_get l.needs k) ≡ Some (need_of n)) × Refused (state_of new) (need_of n)
+    by_entry : (o : Option Equality) → slice_get l.needs k ≡ o → IfSome o (λ e. BlamesNeed x n (equal_need e)) → (option_map equal_need (slice_get l.needs k) ≡ Some (need_of n)) × Refused (state_of new) (need_of n)
     by_entry None at blames = absurd (past_end l.needs k at refused.0.within)
     by_entry (Some e) at blames = let b = blamed x new (equal_need e) n same blames in (ap (option_map equal_need) at ∙ b.is, b.refused)
 impose_answered A x new l k AlreadyPosted refused same = absurd refused

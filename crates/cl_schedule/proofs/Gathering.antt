@@ -120,7 +120,7 @@ has_answer x q t below closed = answered x q t ∙ some_given x.answers q (subst
     some_given (x ∷ xs) (suc p) below closed = some_given xs p (omega arith) closed
 
 -- where all requests below a number have their answers, and no further round may begin, that number is of the round
-first_round : (x : Shown) (first m : ℕ) → IsTrusted x → MayGather x first → (tables.MayGoOn x → ⊥) → first < length x.script.requests → slice_get x.script.rounds_of first ≡ Some m → m ≡ round_of x
+first_round : (x : Shown) (first m : ℕ) → IsTrusted x → MayGather x first → (tables.RoundMayBegin x → ⊥) → first < length x.script.requests → slice_get x.script.rounds_of first ≡ Some m → m ≡ round_of x
 first_round x first m t g over below at = elim (cases_lt m (round_of x)) [
   | inl less ↦ absurd (none_some (answer_at (answers_of x.answers) first) (open_answer x.answers first (g.front.open_later first (omega arith) below)) (t.earlier first m at less))
   | inr least ↦
@@ -139,14 +139,14 @@ first_round x first m t g over below at = elim (cases_lt m (round_of x)) [
 -- ---- what was put down is who waits
 
 -- the requests of the next round were put down: they are of the round, and wait
-of_round : (x : Shown) (first : ℕ) (ws : List ℕ) (next p : ℕ) → IsTrusted x → MayGather x first → (tables.MayGoOn x → ⊥) → AreOfRound x.script first ws next → first ≤ p → p < next → slice_get x.script.rounds_of p ≡ Some (round_of x)
+of_round : (x : Shown) (first : ℕ) (ws : List ℕ) (next p : ℕ) → IsTrusted x → MayGather x first → (tables.RoundMayBegin x → ⊥) → AreOfRound x.script first ws next → first ≤ p → p < next → slice_get x.script.rounds_of p ≡ Some (round_of x)
 of_round x first ws next p t g over a least less =
     let below : first < length x.script.requests = let most = a.within in omega arith in
     let m = round_at x.script first t.script below in
     a.alike p least less ∙ m.1 ∙ ap (λ (n : ℕ). Some n) (first_round x first m.0 t g over below m.1)
 
 -- those behind them are of later rounds
-behind_round : (x : Shown) (first : ℕ) (ws : List ℕ) (next q : ℕ) → IsTrusted x → MayGather x first → (tables.MayGoOn x → ⊥) → AreOfRound x.script first ws next → next ≤ q → q < length x.script.requests → IsLater x q
+behind_round : (x : Shown) (first : ℕ) (ws : List ℕ) (next q : ℕ) → IsTrusted x → MayGather x first → (tables.RoundMayBegin x → ⊥) → AreOfRound x.script first ws next → next ≤ q → q < length x.script.requests → IsLater x q
 behind_round x first ws next q t g over a least below =
     let from : first ≤ next = let until = a.until in omega arith in
     let m = round_at x.script first t.script (omega arith) in
@@ -164,7 +164,7 @@ behind_round x first ws next q t g over a least below =
     ]
 
 -- what was put down of the next round is who waits in it
-pub gathered : (told : Option Content) (x : Shown) (first : ℕ) (ws : List ℕ) (next : ℕ) → IsKept told x → MayGather x first → (tables.MayGoOn x → ⊥) → AreOfRound x.script first ws next → HasGathered x ws next
+pub gathered : (told : Option Content) (x : Shown) (first : ℕ) (ws : List ℕ) (next : ℕ) → IsKept told x → MayGather x first → (tables.RoundMayBegin x → ⊥) → AreOfRound x.script first ws next → HasGathered x ws next
 gathered told x first ws next k g over a =
     let t = k.trusted in
     let until = a.until in

@@ -8,18 +8,18 @@ use Rattle.cl_model.specs.Machine.{Scheduled, Step, Post, after, state_after}
 use Rattle.cl_model.proofs.Runs.{records_stay}
 use Rattle.cl_model.proofs.Sound.{settled_stay, prepared_stay}
 use Rattle.cl_model.proofs.Derived.{all_both}
-use Rattle.cl_schedule.specs.Known.{Has, SaysOrLacks}
+use Rattle.cl_schedule.specs.Known.{HasVerdict, SaysOrLacks}
 use Rattle.cl_schedule.specs.Serving.{IsPost, NoPosts}
 
 -- what the tables have they keep
-pub has_stays : (s : State) (es : List Step) (r : Request) (v : Verdict) → Has s r v → Has (state_after s es) r v
+pub has_stays : (s : State) (es : List Step) (r : Request) (v : Verdict) → HasVerdict s r v → HasVerdict (state_after s es) r v
 has_stays s es (Load loader name) v h = (h.0, (h.1.0, records_stay s es loader h.0.loader name h.1.1), h.2)
 has_stays s es (Resolve loader name i) v h = (h.0, (h.1.0, records_stay s es loader h.0.loader name h.1.1), settled_stay s es h.0 i v h.2)
 has_stays s es (Link loader name) v h = (h.0, (h.1.0, records_stay s es loader h.0.loader name h.1.1), (prepared_stay s es h.0 h.2.0, h.2.1))
 
 -- a post of a request whose verdict a state has is of it, or tells that memory ran out
 abbrev pub SaysKnown : List Scheduled → State → Step → Type 0
-SaysKnown script s (Post q a) = (r : Scheduled) (v : Verdict) → slice_get script q ≡ Some r → Has s r.request v → SaysOrLacks v a
+SaysKnown script s (Post q a) = (r : Scheduled) (v : Verdict) → slice_get script q ≡ Some r → HasVerdict s r.request v → SaysOrLacks v a
 SaysKnown script s other = Unit {0}
 
 -- each post says what the tables had of its request at a post before
@@ -81,7 +81,7 @@ says_at P [] ys e all = all.0
 says_at P (x ∷ xs) ys e all = says_at P xs ys e all.1
 
 pub known_at : (script : List Scheduled) (s : State) (before between behind : List Step) (p q : ℕ) (b a : Answer) (r : Scheduled) (v : Verdict) → KeepsKnown script s (before ++ Post p b ∷ (between ++ Post q a ∷ behind)) → slice_get script q ≡ Some r
-    → Has (state_after s before) r.request v → SaysOrLacks v a
+    → HasVerdict (state_after s before) r.request v → SaysOrLacks v a
 known_at script s [] between behind p q b a r v k asked has =
     says_at (SaysKnown script (after s (Post p b))) between behind (Post q a) (k.0 tt) r v asked (has_stays s (Post p b ∷ []) r.request v has)
 known_at script s (e ∷ before) between behind p q b a r v k asked has = known_at script (after s e) before between behind p q b a r v k.1 asked has

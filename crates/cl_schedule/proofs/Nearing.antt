@@ -24,7 +24,7 @@ use Rattle.cl_tasks.specs.declared.turn.Reply.TheVariants as reply
 use Rattle.cl_tasks.specs.declared.turn.Turn.{Turn}
 use Rattle.cl_tasks.specs.declared.turn.Turn.TheVariants as turn
 use Rattle.cl_schedule.specs.declared.seats.Seat.{Seat}
-use Rattle.cl_schedule.specs.Known.{Has}
+use Rattle.cl_schedule.specs.Known.{HasVerdict}
 use Rattle.cl_schedule.specs.Nearing.{AtHand, IsNear, OnWay, OwnCall, by_verdict, calls_after, calls_from}
 use Rattle.cl_schedule.specs.Replies.{CallSays, IsCall, IsReplied}
 use Rattle.cl_schedule.specs.Seats.{GoesOn, IsSeatedAt}
@@ -170,8 +170,8 @@ way_later s es r v t u way = elim (post_or_call u) [
     posted : {A : Type 0} (s : State) (es : List Step) (r : Request) (v : Verdict) (t : Tasked) (u : Turn A) (f : Answered) → u ≡ turn.Post f → OnWay s r v t u → OnWay (state_after s es) r v t u
     posted {A = A} s es r v t u f is way = subst (λ (w : Turn A). OnWay (state_after s es) r v t w) (sym is) (subst (λ (w : Turn A). OnWay s r v t w) is way)
 
-has_later : (old new : Shown) (r : plans.Request) (v : Verdict) → GoesOn old new → Has (state_of old) r v → Has (state_of new) r v
-has_later old new r v goes has = subst (λ (s : State). Has s r v) (sym (state_later old new goes)) (has_stays (state_of old) goes.made r v has)
+has_later : (old new : Shown) (r : plans.Request) (v : Verdict) → GoesOn old new → HasVerdict (state_of old) r v → HasVerdict (state_of new) r v
+has_later old new r v goes has = subst (λ (s : State). HasVerdict s r v) (sym (state_later old new goes)) (has_stays (state_of old) goes.made r v has)
 
 -- ---- the measure
 

@@ -19,7 +19,7 @@ use Rattle.cl_schedule.specs.declared.seats.Seat.{Seat}
 use Rattle.cl_schedule.specs.Counting.{CountGrows, CountsFaults, Grows, RoseBy, debt, fault, faults, owed, owed_all, owed_at, owed_of, told_faults}
 use Rattle.cl_schedule.specs.Places.{seat_at, seat_of}
 use Rattle.cl_schedule.specs.Replies.{CallSays, IsCall, IsStepOf}
-use Rattle.cl_schedule.specs.Rooms.{HasTaken, IsOver, IsServing, NoneSeated, ServesOn}
+use Rattle.cl_schedule.specs.Rooms.{HasTaken, RoomIsOver, IsServing, NoneSeated, ServesOn}
 use Rattle.cl_schedule.specs.Rounds.{RoundsPassed}
 use Rattle.cl_schedule.specs.Seats.{HasGathered}
 use Rattle.cl_schedule.proofs.Counted.{faults_none, faults_set, grows_none, grows_same, grows_then, told_fault, told_none}
@@ -220,11 +220,11 @@ debt_first config script empty new room is passed none =
 -- ---- at the end
 
 -- where each request has its answer none has not
-pub none_unfinished : {A : Type 0} (told : Option Content) (config : Configured) (script : Scripted) (x : Shown) (room : Room A) → IsServing told config script x room → IsOver x room → IsUnfinished x → ⊥
+pub none_unfinished : {A : Type 0} (told : Option Content) (config : Configured) (script : Scripted) (x : Shown) (room : Room A) → IsServing told config script x room → RoomIsOver x room → IsUnfinished x → ⊥
 none_unfinished told config script x room serves over = none_left told x room.next serves.kept (subst (λ (ws : List ℕ). HasGathered x ws room.next) over.none serves.places.gathered) over.over
 
 -- as many answers of the report are faults of the source as the count rose by
-pub counts_faults : {A : Type 0} (told : Option Content) (config : Configured) (script : Scripted) (first x : Shown) (opened room : Room A) (r : Report) (k l : ℕ) → debt first opened ≡ 0 → ServesOn told config script first x opened room k l → IsOver x room → IsReport x r → CountsFaults r k l
+pub counts_faults : {A : Type 0} (told : Option Content) (config : Configured) (script : Scripted) (first x : Shown) (opened room : Room A) (r : Report) (k l : ℕ) → debt first opened ≡ 0 → ServesOn told config script first x opened room k l → RoomIsOver x room → IsReport x r → CountsFaults r k l
 counts_faults {A = A} told config script first x opened room r k l none on over is =
     let nothing = owed_nothing room.tasks.items room.calls.items (λ q. by_seat q (seat_at room q) refl) in
     let more = on.faults.counted in

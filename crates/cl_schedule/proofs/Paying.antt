@@ -29,10 +29,10 @@ use Rattle.cl_schedule.specs.Choices.{taken_by}
 use Rattle.cl_schedule.specs.Nearing.{IsNear, by_verdict}
 use Rattle.cl_schedule.specs.Paying.{IsPlanIn, PaysFor, StartsWithin, by_plan}
 use Rattle.cl_schedule.specs.Places.{seat_at}
-use Rattle.cl_schedule.specs.Replies.{CallSays, IsCall, IsRead}
-use Rattle.cl_schedule.specs.Rooms.{AllSeated, HasTurned, IsServing, MayBeTaken, KeepsTakings, WaitsAgain, left_at}
+use Rattle.cl_schedule.specs.Replies.{CallSays, IsCall, AsksForRead}
+use Rattle.cl_schedule.specs.Rooms.{AllSeated, HasTurned, IsServing, MayBeTaken, KeepsTakings, WaitsAgain, left_of_request}
 use Rattle.cl_schedule.specs.Rounds.{RoundsPassed}
-use Rattle.cl_schedule.specs.Seats.{GoesOn, HasPosted, IsReady, IsSeated, IsSeatedAt}
+use Rattle.cl_schedule.specs.Seats.{GoesOn, HasPosted, TaskIsReady, IsSeated, IsSeatedAt}
 use Rattle.cl_schedule.specs.Takings.{ComesNearer}
 use Rattle.cl_schedule.proofs.Later.{is_later}
 use Rattle.cl_schedule.proofs.Nearing.{memory_known, same_request, verdict_measure}
@@ -50,18 +50,18 @@ no_more a b c h k = omega arith
 -- ---- from a reply to the call
 
 -- a turn that is no read asks for none
-pub no_read_is : {A : Type 0} (u : Turn A) → ((l : ℕ) (n : List ℕ) → u ≡ turn.Read l n → ⊥) → IsRead u → ⊥
+pub no_read_is : {A : Type 0} (u : Turn A) → ((l : ℕ) (n : List ℕ) → u ≡ turn.Read l n → ⊥) → AsksForRead u → ⊥
 no_read_is (turn.Read l n) unread is = unread l n refl
 no_read_is other unread is = is
 
 -- a call that is no read is one of the tables
-made_call : {A : Type 0} (u : Turn A) → IsCall u → (IsRead u → ⊥) → made_by (call_of u) ≡ 1
+made_call : {A : Type 0} (u : Turn A) → IsCall u → (AsksForRead u → ⊥) → made_by (call_of u) ≡ 1
 made_call (turn.Read l n) call unread = absurd (unread tt)
 made_call (turn.Post f) call unread = absurd call
 made_call other call unread = refl
 
 -- a turn leaves no more calls than there were, but for the one before it
-pub pays_on : {A : Type 0} (told : Option Content) (x : Shown) (r : Request) (t next : Tasked) (given : Reply A) → IsReady told x t given r → IfSome t.request (λ r. CallsWithin told t.config (λ x. TellsNow x t given) r (made_by t.waits) next.calls t.calls)
+pub pays_on : {A : Type 0} (told : Option Content) (x : Shown) (r : Request) (t next : Tasked) (given : Reply A) → TaskIsReady told x t given r → IfSome t.request (λ r. CallsWithin told t.config (λ x. TellsNow x t given) r (made_by t.waits) next.calls t.calls)
     → PaysFor told x r t next
 pays_on told x r t next given ready calls = λ w p is.
     let within = of_request t.request r (λ (r : Request). CallsWithin told t.config (λ x. TellsNow x t given) r (made_by t.waits) next.calls t.calls) ready.request calls in
@@ -120,13 +120,13 @@ fewer_later old new w p t goes left = left.fewer w p (state_of old) (state_of ne
 
 -- a seat's call was made, and the request went on: one call fewer is left
 pub call_pays : {A S : Type 0} (told : Option Content) (old new : Shown) (was now : Seat A) (q : ℕ) (more : Reply A) (count later : ℕ) (since source : S) → IsKept told old → IsSeatedAt told old was.task was.call q → CallSays told old new was.call more count later since source
-    → ((x : Shown) (r : Request) → IsReady told x was.task more r → PaysFor told x r was.task now.task) → ComesNearer (by_plan told old.config) old new q (Some was) (Some now)
+    → ((x : Shown) (r : Request) → TaskIsReady told x was.task more r → PaysFor told x r was.task now.task) → ComesNearer (by_plan told old.config) old new q (Some was) (Some now)
 call_pays told old new was now q more count later since source kept (k, may, seated) says goes_on = λ r known n asked is few.
     let w = known.0 in
     let p = known.1 in
     let t = was.task in
     let goes : GoesOn old new = (after_call told old new was.call more count later since source says).goes in
-    let ready : IsReady told new t more k = ready_again told old new t was.call q k more count later since source kept seated says in
+    let ready : TaskIsReady told new t more k = ready_again told old new t was.call q k more count later since source kept seated says in
     let of : IsPlanIn told old.config (request_of k) w p = subst (λ (m : Request). IsPlanIn told old.config (request_of m) w p) (same_request old q r k asked may.asked) is in
     let plan = subst (λ (c : Configured). IsPlanIn told c (request_of k) w p) (sym goes.config) of in
     let one : made_by t.waits ≡ 1 = ap made_by seated.asks ∙ made_call was.call says.call seated.unread in
@@ -193,8 +193,8 @@ takings_none told x room choice seated nobody = record {
 pub takings_turned : {A : Type 0} (told : Option Content) (config : Configured) (script : Scripted) (old new : Shown) (room done : Room A) (choice q : ℕ) (after : Option (Seat A)) → IsServing told config script old room → IsOpen old q → taken_by (schedule_of old.script) (state_of old) choice ≡ Some q
     → HasTurned told old new q (seat_at room q) after → HasMoved room done q after → KeepsTakings told old new room done choice
 takings_turned told config script old new room done choice q after serves is_open whom turned moved = record {
-  known = keeps_turned told by_verdict old new room done choice q (left_at room q) after (verdict_measure told) serves.kept serves.places.seated is_open whom turned.did moved turned.known;
-  paid = keeps_turned told (by_plan told old.config) old new room done choice q (left_at room q) after (plan_measure told old.config) serves.kept serves.places.seated is_open whom turned.did moved turned.paid;
+  known = keeps_turned told by_verdict old new room done choice q (left_of_request room q) after (verdict_measure told) serves.kept serves.places.seated is_open whom turned.did moved turned.known;
+  paid = keeps_turned told (by_plan told old.config) old new room done choice q (left_of_request room q) after (plan_measure told old.config) serves.kept serves.places.seated is_open whom turned.did moved turned.paid;
 }
 
 pub takings_rounds : {A : Type 0} (told : Option Content) (old mid new : Shown) (was room done : Room A) (choice : ℕ) → AllSeated told mid room → RoundsPassed mid new → done.tasks.items ≡ room.tasks.items → done.calls.items ≡ room.calls.items → KeepsTakings told old mid was room choice → KeepsTakings told old new was done choice

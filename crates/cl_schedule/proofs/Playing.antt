@@ -7,12 +7,12 @@ use Rattle.cl_model.specs.States.{State, start}
 use Rattle.cl_model.specs.Machine.{Scheduled, Setting, Step, state_after}
 use Rattle.cl_model.specs.Service.{PassesRounds}
 use Rattle.cl_model.proofs.Views.{state_then}
-use Rattle.cl_registry.specs.Tables.{Shown, MayGoOn, state_of, steps, machine}
+use Rattle.cl_registry.specs.Tables.{Shown, RoundMayBegin, state_of, steps, machine}
 use Rattle.cl_schedule.specs.Choices.{AreInTime, Plays, PlayedAs, ArePrompt, IsInTime, IsPieceOf, IsPrompt, Piece, piece, steps_in, IsPlayedBy}
 use Rattle.cl_schedule.specs.Counting.{debt}
 use Rattle.cl_schedule.specs.Nearing.{by_verdict}
 use Rattle.cl_schedule.specs.Paying.{by_plan}
-use Rattle.cl_schedule.specs.Rooms.{IsOpened, KeepsTakings, PlayedPast, PlayedTo, PlaysIn, ServesOn}
+use Rattle.cl_schedule.specs.Rooms.{RoomIsOpened, KeepsTakings, PlayedPast, PlayedTo, PlaysIn, ServesOn}
 use Rattle.cl_config.specs.Loaders.{schedule_of}
 use Rattle.cl_config.specs.Views.{Configured, Scripted}
 use Rattle.cl_schedule.specs.declared.choices.Room.{Room}
@@ -78,7 +78,7 @@ RoomPlayed (Some content) x room cs = IsPlayedIn content x room cs
 abbrev pub RoomPast : {A : Type 0} → Option Content → Shown → Room A → List ℕ → Type 0
 RoomPast told x room cs = (more : ℕ) × RoomPlayed told x room (cs ++ replicate more 0)
 
-pub room_none : {A : Type 0} (told : Option Content) (x : Shown) (room : Room A) → IsOpened told x room → RoomPlayed told x room []
+pub room_none : {A : Type 0} (told : Option Content) (x : Shown) (room : Room A) → RoomIsOpened told x room → RoomPlayed told x room []
 room_none told x room opened = by_told told opened.begun
   where
     by_told : (o : Option Content) → PlayedTo o x [] → RoomPlayed o x room []
@@ -143,10 +143,10 @@ room_past (Some content) x room cs (more, played) = (more, (played.rounds, playe
 -- between two choices: what is served is served on, and of the choices so far this holds
 pub record IsBetween {A : Type 0} (told : Option Content) (config : Configured) (script : Scripted) (old new : Shown) (was now : Room A) (before after : ℕ) (Played : Type 0) : Type 0 where
   pub on : ServesOn told config script old new was now before after
-  pub over : MayGoOn new → ⊥
+  pub over : RoundMayBegin new → ⊥
   pub played : Played
 
-pub between_on : {A : Type 0} (told : Option Content) (config : Configured) (script : Scripted) (first old new : Shown) (opened was now : Room A) (k l m : ℕ) (Played Next : Type 0) → IsBetween told config script first old opened was k l Played → ServesOn told config script old new was now l m → (MayGoOn new → ⊥)
+pub between_on : {A : Type 0} (told : Option Content) (config : Configured) (script : Scripted) (first old new : Shown) (opened was now : Room A) (k l m : ℕ) (Played Next : Type 0) → IsBetween told config script first old opened was k l Played → ServesOn told config script old new was now l m → (RoundMayBegin new → ⊥)
     → (new.config ≡ old.config → new.script ≡ old.script → Played → Next) → IsBetween told config script first new opened now k m Next
 between_on told config script first old new opened was now k l m Played Next between on over next = record {
   on = record { serves = on.serves; faults = count_then (debt first opened) (debt old was) (debt new now) k l m between.on.faults on.faults };

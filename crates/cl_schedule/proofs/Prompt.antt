@@ -10,7 +10,7 @@ use Rattle.cl_model.specs.Service.{PassesRounds}
 use Rattle.cl_registry.specs.Tables.{Shown, state_of, steps, machine}
 use Rattle.cl_registry.proofs.Histories.{eq_nat}
 use Rattle.cl_schedule.specs.Choices.{Chooses, IsInTime, IsPrompt, Piece, first_taken, is_of, piece, takings}
-use Rattle.cl_schedule.specs.Known.{Has}
+use Rattle.cl_schedule.specs.Known.{HasVerdict}
 use Rattle.cl_schedule.specs.Nearing.{by_verdict}
 use Rattle.cl_schedule.specs.Paying.{by_plan}
 use Rattle.cl_schedule.specs.Takings.{PostsInTime}
@@ -127,7 +127,7 @@ this_post old new content c q a one rounds rest whole chosen passed post =
 pub is_prompt : (A : Type 0) (old new : Shown) (content : Content) (c : ℕ) (one rounds : List Step) (ps : List Piece) → PostsInTime {A = A} by_verdict old new c ps → steps new ≡ steps old ++ (one ++ rounds) → Chooses (machine old content) (state_of old) c one → PassesRounds (machine old content) (state_after (state_of old) one) rounds
     → IsPrompt (schedule_of old.script) ps (piece (schedule_of old.script) (state_of old) c one rounds)
 is_prompt A old new content c one rounds ps posts whole chosen passed = λ q r s v taken twice asked first has.
-    let k = posts q r v taken asked (subst (λ (o : Option State). Has (unwrap_or o (state_of old)) r.request v) (sym first) has) (omega arith) in (
+    let k = posts q r v taken asked (subst (λ (o : Option State). HasVerdict (unwrap_or o (state_of old)) r.request v) (sym first) has) (omega arith) in (
       k.0,
       k.2,
       this_post old new content c q k.0 one rounds k.1 whole chosen passed k.3,

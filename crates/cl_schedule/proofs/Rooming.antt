@@ -32,7 +32,7 @@ use Rattle.cl_schedule.specs.declared.seats.Seat.{Seat}
 use Rattle.cl_schedule.specs.Blames.{EachBlames, IsAskedFor}
 use Rattle.cl_schedule.specs.Places.{seat_at}
 use Rattle.cl_schedule.specs.Replies.{Did}
-use Rattle.cl_schedule.specs.Rooms.{AllSeated, ChoosesIn, FirstFalls, HasTaken, IsRoom, IsServing, OpenSeats, PlaysIn, TakesFirst, WaitsAgain, first_left, left_at, left_of, room_sum}
+use Rattle.cl_schedule.specs.Rooms.{AllSeated, ChoosesIn, FirstFalls, HasTaken, IsRoom, IsServing, OpenSeats, PlaysIn, TakesFirst, WaitsAgain, first_left, left_of_request, left_of, room_sum}
 use Rattle.cl_schedule.specs.Rounds.{RoundsPassed}
 use Rattle.cl_schedule.specs.Seats.{AreOfRound, GoesOn, HasAdvanced, HasGathered, HasPosted, IsSeated, IsSeatedAt, NextIn}
 use Rattle.cl_schedule.proofs.Blaming.{each_blames_more, each_blames_none, each_blames_passed, each_blames_still}
@@ -221,7 +221,7 @@ serves_turned told config script old new room done q left after serves kept did 
 -- ---- the first request, taken again and again
 
 -- a request went on: fewer turns are left of it
-pub first_advanced : {A : Type 0} (room mid done : Room A) (q i : ℕ) (s : Seat A) → HasTaken room mid q → HasMoved room done q (Some s) → i ≡ 0 → slice_get room.waiting.items i ≡ Some q → s.task.left < left_at room q
+pub first_advanced : {A : Type 0} (room mid done : Room A) (q i : ℕ) (s : Seat A) → HasTaken room mid q → HasMoved room done q (Some s) → i ≡ 0 → slice_get room.waiting.items i ≡ Some q → s.task.left < left_of_request room q
     → done.waiting.items ≡ mid.waiting.items → done.next ≡ mid.next
     → (room_sum done ≡ room_sum room) × (done.waiting.items ≡ room.waiting.items) × (first_left done done.waiting.items < first_left room room.waiting.items)
 first_advanced {A = A} room mid done q i s taken moved zero_is at less waiting next =
@@ -234,9 +234,9 @@ first_advanced {A = A} room mid done q i s taken moved zero_is at less waiting n
     sum_same : length done.tasks.items ≡ length room.tasks.items → length done.waiting.items ≡ length room.waiting.items → done.next ≡ room.next → room_sum done ≡ room_sum room
     sum_same a b c = omega (arith, a, b, c)
 
-    by_first : (ws : List ℕ) → slice_get ws 0 ≡ Some q → left_at done q ≡ s.task.left → first_left done ws < first_left room ws
+    by_first : (ws : List ℕ) → slice_get ws 0 ≡ Some q → left_of_request done q ≡ s.task.left → first_left done ws < first_left room ws
     by_first [] at now = absurd cc
-    by_first (p ∷ ws) at now = subst (λ (n : ℕ). left_at done n < left_at room n) (sym (some_same p q at)) (subst (λ (n : ℕ). n < left_at room q) (sym now) less)
+    by_first (p ∷ ws) at now = subst (λ (n : ℕ). left_of_request done n < left_of_request room n) (sym (some_same p q at)) (subst (λ (n : ℕ). n < left_of_request room q) (sym now) less)
 
 -- a request was answered: fewer have none
 pub first_answered : {A : Type 0} (room mid done : Room A) (q i : ℕ) → HasTaken room mid q → HasMoved room done q None → i < length room.waiting.items → done.waiting.items ≡ remove mid.waiting.items i → done.next ≡ mid.next → room_sum done + 1 ≡ room_sum room
@@ -308,7 +308,7 @@ serves_waiting told config script old new room serves kept passed some =
     serves_rounds told config script old new room room serves kept passed refl refl (gathered_rounds told old new room.waiting.items room.next serves.kept passed serves.places.gathered some)
 
 -- where nobody waits those of the next round are gathered
-pub serves_gathered : {A : Type 0} (told : Option Content) (config : Configured) (script : Scripted) (old new : Shown) (room done : Room A) (n : ℕ) → IsServing told config script old room → IsKept told new → room.waiting.items ≡ [] → RoundsPassed old new → (tables.MayGoOn new → ⊥)
+pub serves_gathered : {A : Type 0} (told : Option Content) (config : Configured) (script : Scripted) (old new : Shown) (room done : Room A) (n : ℕ) → IsServing told config script old room → IsKept told new → room.waiting.items ≡ [] → RoundsPassed old new → (tables.RoundMayBegin new → ⊥)
     → AreOfRound script room.next done.waiting.items n → done.tasks.items ≡ room.tasks.items → done.calls.items ≡ room.calls.items → done.next ≡ n → IsServing told config script new done
 serves_gathered told config script old new room done n serves kept none passed over are tasks calls next =
     let may = may_gather told old new room.next serves.kept passed (subst (λ (ws : List ℕ). HasGathered old ws room.next) none serves.places.gathered) in
@@ -317,7 +317,7 @@ serves_gathered told config script old new room done n serves kept none passed o
     (gathered told new room.next done.waiting.items n kept may over (subst (λ (y : Scripted). AreOfRound y room.next done.waiting.items n) (sym (passed.script ∙ serves.scripted)) are)))
 
 -- before the first choice
-pub serves_first : {A : Type 0} (told : Option Content) (config : Configured) (script : Scripted) (empty new : Shown) (done : Room A) (n m : ℕ) → empty ≡ empty_of config script → HasLoaders (length config.loaders) script.requests → IsKept told new → RoundsPassed empty new → (tables.MayGoOn new → ⊥)
+pub serves_first : {A : Type 0} (told : Option Content) (config : Configured) (script : Scripted) (empty new : Shown) (done : Room A) (n m : ℕ) → empty ≡ empty_of config script → HasLoaders (length config.loaders) script.requests → IsKept told new → RoundsPassed empty new → (tables.RoundMayBegin new → ⊥)
     → AreOfRound script 0 done.waiting.items n → m ≡ length script.requests → done.tasks.items ≡ replicate m None → done.calls.items ≡ replicate m None → done.next ≡ n → IsServing told config script new done
 serves_first {A = A} told config script empty new done n m is loaders kept passed over are whole tasks calls next =
     let may = may_gather_first config script empty new is passed in

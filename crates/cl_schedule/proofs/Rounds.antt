@@ -33,7 +33,7 @@ use Rattle.cl_registry.proofs.Histories.{eq_nat, swap_nat}
 use Rattle.cl_registry.proofs.Schedules.{schedule_round}
 use Rattle.cl_registry.proofs.Calm.{post_other}
 use Rattle.cl_tasks.proofs.LinkPlan.{taken_long}
-use Rattle.cl_schedule.specs.Known.{Has, KnownStays, SaysOrLacks, TellsKnown}
+use Rattle.cl_schedule.specs.Known.{HasVerdict, KnownStays, SaysOrLacks, TellsKnown}
 use Rattle.cl_schedule.specs.Serving.{GoesBy, InOrder, IsDone, IsPost, NoPosts}
 use Rattle.cl_schedule.specs.Rounds.{RoundsPassed}
 use Rattle.cl_schedule.proofs.Histories.{goes_event}
@@ -71,10 +71,10 @@ passing_none x = record {
 }
 
 -- where the next round may begin, in the machine's words
-pub goes_on_there : (old x : Shown) (content : Content) → x.script ≡ old.script → tables.MayGoOn x → MayGoOn (machine_of old content) (state_of x)
+pub goes_on_there : (old x : Shown) (content : Content) → x.script ≡ old.script → tables.RoundMayBegin x → MayGoOn (machine_of old content) (state_of x)
 goes_on_there old x content s h = subst (λ k. EndsRound (schedule_of k) k.rounds (state_of x)) s h
 
-pub passing_on : (old x new : Shown) → Passing old x → tables.MayGoOn x → GoesBy x new NextRound → new.rows ≡ x.rows → Passing old new
+pub passing_on : (old x new : Shown) → Passing old x → tables.RoundMayBegin x → GoesBy x new NextRound → new.rows ≡ x.rows → Passing old new
 passing_on old x new p may h rows = record {
   config = h.config ∙ p.config;
   script = h.script ∙ p.script;
@@ -90,7 +90,7 @@ passing_on old x new p may h rows = record {
       (p.later content (NextRound ∷ es) (refl, goes_on_there old x content p.script may, subst (λ (s : State). PassesRounds (machine_of old content) s es) (state_goes x new NextRound h) more));
 }
 
-all_passed : (old now : Shown) → Passing old now → (tables.MayGoOn now → ⊥) → RoundsPassed old now
+all_passed : (old now : Shown) → Passing old now → (tables.RoundMayBegin now → ⊥) → RoundsPassed old now
 all_passed old now p over = record {
   config = p.config;
   script = p.script;
@@ -110,7 +110,7 @@ pub round_goes : (x new : Shown) → new ≡ with_round x → GoesBy x new NextR
 round_goes x new e = goes_event x new events.NextRound e refl
 
 -- the number of rounds to come falls
-pub next_number : (x new : Shown) → tables.MayGoOn x → new ≡ with_round x → new.script.rounds - round_of new < x.script.rounds - round_of x
+pub next_number : (x new : Shown) → tables.RoundMayBegin x → new ≡ with_round x → new.script.rounds - round_of new < x.script.rounds - round_of x
 next_number x new may e =
     let same : new.script ≡ x.script = ap (λ (y : Shown). y.script) e in
     let rounds : new.script.rounds ≡ x.script.rounds = ap (λ s. s.rounds) same in
@@ -126,7 +126,7 @@ end_of_rounds old x new other p same refused = absurd refused
 -- ---- after rounds have passed
 
 -- no further round may begin
-pub none_goes_on : (old new : Shown) → RoundsPassed old new → tables.MayGoOn new → ⊥
+pub none_goes_on : (old new : Shown) → RoundsPassed old new → tables.RoundMayBegin new → ⊥
 none_goes_on old new p may =
     passes_none (machine_of old []) (state_of old) p.passed (p.rounds [])
     (subst (λ (s : State). MayGoOn (machine_of old []) s) (ap (state_after start) p.steps_more ∙ state_then start (steps old) p.passed)
@@ -194,7 +194,7 @@ within rounds ns q n all at = subst (λ (k : ℕ). k < rounds) (index_is ns q n 
     index_is (k ∷ ns) (suc q) n at = index_is ns q n at
 
 -- once all before it are posted, and no further round may begin, the next request is of no later round
-pub next_is_now : (x : Shown) (q : ℕ) → IsTrusted x → posts x.history ≡ range_with_len 0 q → (tables.MayGoOn x → ⊥) → IsLater x q → ⊥
+pub next_is_now : (x : Shown) (q : ℕ) → IsTrusted x → posts x.history ≡ range_with_len 0 q → (tables.RoundMayBegin x → ⊥) → IsLater x q → ⊥
 next_is_now x q t order over late = over (record { answered = answered; later = later })
   where
     later : round_of x + 1 < x.script.rounds
@@ -219,7 +219,7 @@ next_is_now x q t order over late = over (record { answered = answered; later = 
         (is_before p e (schedule_round x.script.requests x.script.rounds_of p e at) same (cases_lt p q))
 
 -- where all requests are posted, and no further round may begin, nothing is left
-pub nothing_left : (x : Shown) (n : ℕ) → IsTrusted x → posts x.history ≡ range_with_len 0 n → length x.script.requests ≡ n → (tables.MayGoOn x → ⊥) → IsUnfinished x → ⊥
+pub nothing_left : (x : Shown) (n : ℕ) → IsTrusted x → posts x.history ≡ range_with_len 0 n → length x.script.requests ≡ n → (tables.RoundMayBegin x → ⊥) → IsUnfinished x → ⊥
 nothing_left x n t order whole over (inl open_one) = none_is_open x n t order whole open_one
 nothing_left x n t order whole over (inr later) = over (record { answered = answered; later = later })
   where
@@ -316,7 +316,7 @@ says_known : (told : Option Content) {S : Type 0} (old x : Shown) (q : ℕ) (r :
 says_known told old x q r source later is asked opened d tells = λ k v at has.
     let e = scheduled_at old.script.requests old.script.rounds_of q r is.each asked in
     let same : k ≡ record { request = request_of r; round = e.0 } = some_same k (record { request = request_of r; round = e.0 }) (sym at ∙ e.1) in
-    let t = tells v (subst (λ (h : Scheduled). Has (state_of old) h.request v) same has) in
+    let t = tells v (subst (λ (h : Scheduled). HasVerdict (state_of old) h.request v) same has) in
     let one : Some t.answer ≡ Some d.answer = one_answer old.answers q None (Some t.answer) (Some d.answer) opened (sym (ap (λ (y : Shown). y.answers) t.posted) ∙ d.answers) in
     subst (λ (a : rust.Answer). SaysOrLacks v (answer_of a)) (some_same t.answer d.answer one) t.is
 

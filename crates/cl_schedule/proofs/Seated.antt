@@ -17,19 +17,19 @@ use Rattle.cl_registry.specs.declared.registry.RegistryFault.TheVariants.{Memory
 use Rattle.cl_registry.specs.References.{Cited, cited_by}
 use Rattle.cl_registry.specs.Refusals.{PostRefusedFor}
 use Rattle.cl_registry.specs.Tables.{Shown, IsAsked, IsKept, RunsAs, state_of, steps, with_post, machine}
-use Rattle.cl_registry.specs.Posting.{MayPost}
+use Rattle.cl_registry.specs.Posting.{MayPostUnder}
 use Rattle.cl_tasks.specs.Facts.{Holds}
 use Rattle.cl_tasks.specs.Measures.{all_left}
-use Rattle.cl_tasks.specs.Follows.{AreLeft, Backed, FollowsWhere, Tells, TellsOf, Unrecorded}
-use Rattle.cl_tasks.specs.Tasks.{Tasked, begun}
+use Rattle.cl_tasks.specs.Follows.{AreLeft, Backed, FollowsWhere, Tells, ReplyTells, Unrecorded}
+use Rattle.cl_tasks.specs.Tasks.{Tasked, begun_task}
 use Rattle.cl_tasks.specs.Turns.{Asks, Expects, IsReplyTo, KeepsRequest, call_of}
 use Rattle.cl_tasks.specs.Waits.{Waits, Reading, Settling}
 use Rattle.cl_tasks.specs.declared.turn.Reply.{Reply}
 use Rattle.cl_tasks.specs.declared.turn.Reply.TheVariants as reply
 use Rattle.cl_tasks.specs.declared.turn.Turn.{Turn}
 use Rattle.cl_tasks.specs.declared.turn.Turn.TheVariants as turn
-use Rattle.cl_schedule.specs.Replies.{CallSays, Did, IsCall, IsRead, IsReplied, IsStepOf}
-use Rattle.cl_schedule.specs.Seats.{FollowsIn, GoesOn, HasAdvanced, HasPosted, IsAfter, IsCitedFor, IsFor, IsReady, IsSeated, IsSeatedAt, NextIn, PostsIn}
+use Rattle.cl_schedule.specs.Replies.{CallSays, Did, IsCall, AsksForRead, IsReplied, IsStepOf}
+use Rattle.cl_schedule.specs.Seats.{FollowsIn, GoesOn, HasAdvanced, HasPosted, IsAfter, IsCitedFor, TurnIsFor, TaskIsReady, IsSeated, IsSeatedAt, NextIn, PostsIn}
 use Rattle.cl_schedule.specs.Serving.{GoesBy}
 use Rattle.cl_schedule.proofs.Blaming.{blames_here}
 use Rattle.cl_schedule.proofs.Backing.{call_backed_later, cited_later, post_backed_later}
@@ -53,30 +53,30 @@ expects_reply {A = A} x t u more config asks replied =
 
 -- what a task was told before a call, and by the reply
 ready_told : {A : Type 0} (told : Option Content) (x : Shown) (r : Request) (t : Tasked) (u : Turn A) (more : Reply A) → IsKept told x → t.config ≡ x.config → t.request ≡ Some r → t.left ≤ all_left → Asks t u → Holds x t → IsReplied x (call_of u) more → IsCitedFor x (call_of u) more
-    → IsReady told x t more r
+    → TaskIsReady told x t more r
 ready_told told x r t u more kept config request few asks held replied cited = record {
   kept = kept;
   config = config;
   request = request;
   few = few;
   tells = record {
-    told = record { before = held; now = subst (λ (w : Waits). TellsOf x w more) (sym asks) replied.tells };
+    told = record { before = held; now = subst (λ (w : Waits). ReplyTells x w more) (sym asks) replied.tells };
     unrecorded = subst (λ (w : Waits). Unrecorded x w more) (sym asks) (unrecorded_of x (call_of u) more replied.shows);
   };
   cited = subst (λ (w : Waits). IsCitedFor x w more) (sym asks) cited;
 }
 
 -- after a read the same registry goes on
-pub ready_on : {A : Type 0} (told : Option Content) (x : Shown) (r : Request) (t next : Tasked) (given more : Reply A) (l : ℕ) (n : List ℕ) → IsReady told x t given r → TurnSays told t next given (turn.Read l n) → next.left < t.left → IsReplied x (Reading l n) more
-    → IsReady told x next more r
+pub ready_on : {A : Type 0} (told : Option Content) (x : Shown) (r : Request) (t next : Tasked) (given more : Reply A) (l : ℕ) (n : List ℕ) → TaskIsReady told x t given r → TurnSays told t next given (turn.Read l n) → next.left < t.left → IsReplied x (Reading l n) more
+    → TaskIsReady told x next more r
 ready_on told x r t next given more l n ready says less replied =
     let few = ready.few in
     ready_told told x r next (turn.Read l n) more ready.kept (says.config ∙ ready.config) (says.serves ∙ ready.request) (omega arith) says.asks (says.keeps x ready.tells.told) replied tt
 
 -- a request that begins
-pub ready_begun : {A : Type 0} (told : Option Content) (x : Shown) (c : Configured) (q : ℕ) (r : Request) (t : Tasked) → IsKept told x → x.config ≡ c → t ≡ begun c q r → IsReady {A = A} told x t reply.Start r
+pub ready_begun : {A : Type 0} (told : Option Content) (x : Shown) (c : Configured) (q : ℕ) (r : Request) (t : Tasked) → IsKept told x → x.config ≡ c → t ≡ begun_task c q r → TaskIsReady {A = A} told x t reply.Start r
 ready_begun {A = A} told x c q r t kept config is =
-    subst (λ (k : Tasked). IsReady {A = A} told x k reply.Start r) (sym is) (record {
+    subst (λ (k : Tasked). TaskIsReady {A = A} told x k reply.Start r) (sym is) (record {
       kept = kept;
       config = sym config;
       request = refl;
@@ -91,23 +91,23 @@ ready_begun {A = A} told x c q r t kept config is =
 -- ---- a turn
 
 -- a turn is for the request of its task
-is_for : {A : Type 0} (t next : Tasked) (u : Turn A) (r : Request) → KeepsRequest t next u → t.request ≡ Some r → IsFor next u r
+is_for : {A : Type 0} (t next : Tasked) (u : Turn A) (r : Request) → KeepsRequest t next u → t.request ≡ Some r → TurnIsFor next u r
 is_for t next (turn.Settle f) r serves is = (some_same f.request r (sym serves.0 ∙ is), serves.1 ∙ is)
 is_for t next (turn.Post f) r serves is = some_same f.request r (sym serves ∙ is)
 is_for t next other r serves is = serves ∙ is
 
 -- what is posted is borne wherever the registry goes on to, where a content is told
-posts_later : {A : Type 0} (told : Option Content) (x y : Shown) (q : ℕ) (r : Request) (u : Turn A) → IsAfter told x y → FollowsIn told y r u → Backed x u → (t : Tasked) → IsFor t u r → PostsIn told y q r u
+posts_later : {A : Type 0} (told : Option Content) (x y : Shown) (q : ℕ) (r : Request) (u : Turn A) → IsAfter told x y → FollowsIn told y r u → Backed x u → (t : Tasked) → TurnIsFor t u r → PostsIn told y q r u
 posts_later told x y q r (turn.Post f) after follows backed t is = λ content e may.
     post_backed_later content x y r f (subst (λ (o : Option Content). IsAfter o x y) e after) (follows content e) is backed
 posts_later told x y q r other after follows backed t is = tt
 
 -- after a turn the request waits with what is asked
-pub seated_on : {A : Type 0} (told : Option Content) (x : Shown) (q : ℕ) (r : Request) (t next : Tasked) (given : Reply A) (u : Turn A) → IsReady told x t given r → TurnSays told t next given u → next.left < t.left → (IsRead u → ⊥) → AreLeft next.calls → IsSeated told x next u q r
+pub seated_on : {A : Type 0} (told : Option Content) (x : Shown) (q : ℕ) (r : Request) (t next : Tasked) (given : Reply A) (u : Turn A) → TaskIsReady told x t given r → TurnSays told t next given u → next.left < t.left → (AsksForRead u → ⊥) → AreLeft next.calls → IsSeated told x next u q r
 seated_on told x q r t next given u ready says less unread more =
     let few = ready.few in
     let here : Backed x u = says.backed x (sym ready.config) ready.kept.named (trusted_is_consistent (schedule_of x.script) x.script.rounds (steps x) ready.kept.trusted.tables) ready.tells in
-    let is : IsFor next u r = is_for t next u r says.serves ready.request in
+    let is : TurnIsFor next u r = is_for t next u r says.serves ready.request in
     record {
       config = says.config ∙ ready.config;
       asks = says.asks;
@@ -133,12 +133,12 @@ seated_on told x q r t next given u ready says less unread more =
 pub seated_backed : {A : Type 0} (told : Option Content) (x : Shown) (t : Tasked) (u : Turn A) (q : ℕ) → IsKept told x → IsSeatedAt told x t u q → IsCall u → Backed x u
 seated_backed told x t u q kept (r, may, seated) call = seated.backed x (after_none told x kept) call
 
-serves_self : {A : Type 0} (t : Tasked) (u : Turn A) (r : Request) → IsFor t u r → IsCall u → KeepsRequest t t u
+serves_self : {A : Type 0} (t : Tasked) (u : Turn A) (r : Request) → TurnIsFor t u r → IsCall u → KeepsRequest t t u
 serves_self t (turn.Settle f) r is call = (is.1 ∙ ap (λ (k : Request). Some k) (sym is.0), refl)
 serves_self t (turn.Post f) r is call = absurd call
 serves_self t other r is call = refl
 
-pub request_of_call : {A : Type 0} (t : Tasked) (u : Turn A) (r : Request) → IsFor t u r → IsCall u → t.request ≡ Some r
+pub request_of_call : {A : Type 0} (t : Tasked) (u : Turn A) (r : Request) → TurnIsFor t u r → IsCall u → t.request ≡ Some r
 request_of_call t (turn.Settle f) r is call = is.1
 request_of_call t (turn.Post f) r is call = absurd call
 request_of_call t other r is call = is
@@ -171,8 +171,8 @@ seated_expects told old new t u q more count later since source (r, may, seated)
     expects_reply new t u more (seated.config ∙ sym after.goes.config) seated.asks says.replied
 
 -- what a call leaves of who may be posted
-may_stay : {A : Type 0} (old new : Shown) (u : Turn A) (q : ℕ) (r : Request) → Did old new (IsStepOf old u) → MayPost old q r → MayPost new q r
-may_stay old new u q r (inl same) may = subst (λ (y : Shown). MayPost y q r) (sym same) may
+may_stay : {A : Type 0} (old new : Shown) (u : Turn A) (q : ℕ) (r : Request) → Did old new (IsStepOf old u) → MayPostUnder old q r → MayPostUnder new q r
+may_stay old new u q r (inl same) may = subst (λ (y : Shown). MayPostUnder y q r) (sym same) may
 may_stay old new u q r (inr (e, is, goes)) may = record {
   asked = ap (λ (s : Scripted). slice_get s.requests q) goes.script ∙ may.asked;
   begun = λ late. may.begun (record {
@@ -193,14 +193,14 @@ cited_after old new (turn.Settle f) more h (s, is) = cited_settling new f.reques
 cited_after old new other more h backed = tt
 
 -- what a task was told before a call that was made, and by its reply, holds behind it
-pub ready_again : {A S : Type 0} (told : Option Content) (old new : Shown) (t : Tasked) (u : Turn A) (q : ℕ) (r : Request) (more : Reply A) (count later : ℕ) (since source : S) → IsKept told old → IsSeated told old t u q r → CallSays told old new u more count later since source → IsReady told new t more r
+pub ready_again : {A S : Type 0} (told : Option Content) (old new : Shown) (t : Tasked) (u : Turn A) (q : ℕ) (r : Request) (more : Reply A) (count later : ℕ) (since source : S) → IsKept told old → IsSeated told old t u q r → CallSays told old new u more count later since source → TaskIsReady told new t more r
 ready_again told old new t u q r more count later since source kept seated says =
     let after = after_call told old new u more count later since source says in
     ready_told told new r t u more says.kept (seated.config ∙ sym after.goes.config) (request_of_call t u r seated.for_request says.call) seated.few seated.asks (seated.holds new after) says.replied (cited_after old new u more after.goes (seated.backed old (after_none told old kept) says.call))
 
 -- it waits again after the call and what follows it
 pub seated_again : {A S : Type 0} (told : Option Content) (old new : Shown) (t next : Tasked) (u w : Turn A) (q : ℕ) (more : Reply A) (count later : ℕ) (since source : S) → IsKept told old → IsSeatedAt told old t u q → CallSays told old new u more count later since source
-    → ((x : Shown) (q : ℕ) (r : Request) → IsReady told x t more r → IsSeated told x next w q r) → IsSeatedAt told new next w q
+    → ((x : Shown) (q : ℕ) (r : Request) → TaskIsReady told x t more r → IsSeated told x next w q r) → IsSeatedAt told new next w q
 seated_again told old new t next u w q more count later since source kept (r, may, seated) says goes_on = (
   r,
   may_stay old new u q r says.did may,

@@ -12,7 +12,7 @@ use Rattle.cl_model.specs.Views.{answer_of, request_of}
 use Rattle.cl_model.proofs.Service.{begun_push, begun_ends, run_last}
 use Rattle.cl_registry.specs.Tables.{Shown, IsKept, IsOpen, RunsAs, posts, round_of, steps, state_of, with_post, machine}
 use Rattle.cl_registry.proofs.Histories.{posts_then, steps_posts, unposted}
-use Rattle.cl_registry.specs.Posting.{MayPost}
+use Rattle.cl_registry.specs.Posting.{MayPostUnder}
 use Rattle.cl_tasks.specs.declared.turn.Turn.{Turn}
 use Rattle.cl_tasks.specs.Blames.{AnswerBlames}
 use Rattle.cl_tasks.specs.Follows.{AnswerFollows}
@@ -119,7 +119,7 @@ going_did told old x new r u g (inr did) next kept = let n = next did.0 did.1 in
 -- ---- the post
 
 -- what might be posted may be still
-pub may_still : (told : Option Content) (old x : Shown) (r : Request) (q : ℕ) → Going told old x r → MayPost old q r → MayPost x q r
+pub may_still : (told : Option Content) (old x : Shown) (r : Request) (q : ℕ) → Going told old x r → MayPostUnder old q r → MayPostUnder x q r
 may_still told old x r q g may = record {
   asked = ap (λ s. slice_get s.requests q) g.script ∙ may.asked;
   begun = λ later. may.begun (record {

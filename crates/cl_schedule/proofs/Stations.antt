@@ -21,9 +21,9 @@ use Rattle.cl_tasks.specs.declared.turn.Reply.{Reply}
 use Rattle.cl_tasks.specs.declared.turn.Reply.TheVariants as reply
 use Rattle.cl_tasks.specs.declared.turn.Turn.{Turn}
 use Rattle.cl_tasks.specs.declared.turn.Turn.TheVariants as turn
-use Rattle.cl_schedule.specs.Known.{Has, HasOf, SaysOrLacks, TellsKnown}
+use Rattle.cl_schedule.specs.Known.{HasVerdict, HasOf, SaysOrLacks, TellsKnown}
 use Rattle.cl_schedule.specs.Nearing.{AtHand, OwnCall}
-use Rattle.cl_schedule.specs.Replies.{Did, IsCall, IsRead, IsReplied, IsStepOf}
+use Rattle.cl_schedule.specs.Replies.{Did, IsCall, AsksForRead, IsReplied, IsStepOf}
 use Rattle.cl_schedule.proofs.Places.{some_none}
 use Rattle.cl_tasks.proofs.Lacking.{posts_or}
 use Rattle.cl_model.proofs.Bind.{some_same}
@@ -40,7 +40,7 @@ no_posts a u p call = no_post_or a u (posts_or a u p) call
 
 -- ---- stations
 
-has_of : (x : Shown) (r : Request) (v : Verdict) (row : Rowed) → Has (state_of x) (request_of r) v → IsRecordedAs x (loader_of r) (name_of r) row → HasOf (state_of x) (request_of r) row.class v
+has_of : (x : Shown) (r : Request) (v : Verdict) (row : Rowed) → HasVerdict (state_of x) (request_of r) v → IsRecordedAs x (loader_of r) (name_of r) row → HasOf (state_of x) (request_of r) row.class v
 has_of x (requests.Load loader name) v row h k = h.2 ∙ ap (λ (c : Class). IsClass c) (one_class (state_of x) loader name h.0 row.class h.1 k.records)
 has_of x (requests.Resolve loader name i) v row h k =
     subst (λ (c : Class). settled_to (state_of x).settled c i ≡ Some v) (one_class (state_of x) loader name h.0 row.class h.1 k.records) h.2
@@ -48,7 +48,7 @@ has_of x (requests.Link loader name) v row h k =
     let same = one_class (state_of x) loader name h.0 row.class h.1 k.records in
     (subst (λ (c : Class). Contains (state_of x).prepared c) same h.2.0, h.2.1 ∙ ap (λ (c : Class). IsLinked c) same)
 
-has_record : (s : State) (r : Request) (v : Verdict) → Has s (request_of r) v → (place : ℕ) × (recorded s.records (loader_of r) (name_of r) ≡ Some place)
+has_record : (s : State) (r : Request) (v : Verdict) → HasVerdict s (request_of r) v → (place : ℕ) × (recorded s.records (loader_of r) (name_of r) ≡ Some place)
 has_record s (requests.Load loader name) v h = (h.0.loader, h.1.1)
 has_record s (requests.Resolve loader name i) v h = (h.0.loader, h.1.1)
 has_record s (requests.Link loader name) v h = (h.0.loader, h.1.1)
@@ -77,7 +77,7 @@ own_call s r v t new other u at q own refused call = absurd at
 
 -- ---- from a call to the reply
 
-look_told : {A : Type 0} (x : Shown) (r : Request) (v : Verdict) (t : Tasked) (told : Reply A) → Has (state_of x) (request_of r) v → IsReplied x (Looking (loader_of r) (name_of r)) told → t.waits ≡ Looking (loader_of r) (name_of r) → t.frames ≡ [] → t.facts ≡ [] → AtHand (state_of x) r v t told
+look_told : {A : Type 0} (x : Shown) (r : Request) (v : Verdict) (t : Tasked) (told : Reply A) → HasVerdict (state_of x) (request_of r) v → IsReplied x (Looking (loader_of r) (name_of r)) told → t.waits ≡ Looking (loader_of r) (name_of r) → t.frames ≡ [] → t.facts ≡ [] → AtHand (state_of x) r v t told
 look_told x r v t reply.Start has is waits frames facts = tt
 look_told x r v t (reply.Looked None) has is waits frames facts = let k = has_record (state_of x) r v has in absurd (some_none (recorded (records_of x) (loader_of r) (name_of r)) k.0 k.1 is.shows)
 look_told x r v t (reply.Looked (Some row)) has is waits frames facts = (waits, frames, facts, has_of x r v row.value has is.tells)
@@ -117,7 +117,7 @@ pub record Standing {A S : Type 0} (old now : Shown) (r : Request) (v : Verdict)
 
 -- and so for each verdict that the tables have
 abbrev pub Known : {A S : Type 0} → Shown → Shown → Request → Tasked → Reply A → S → S → Type 0
-Known old now r t told source since = (v : Verdict) → Has (state_of old) (request_of r) v → Standing old now r v t told source since
+Known old now r t told source since = (v : Verdict) → HasVerdict (state_of old) (request_of r) v → Standing old now r v t told source since
 
 pub known_start : {A S : Type 0} (old : Shown) (r : Request) (t : Tasked) (source : S) → Known {A = A} old old r t reply.Start source source
 known_start old r t source = λ v has. record { same = refl; unread = refl; at = tt }
@@ -132,11 +132,11 @@ own_same s r v new x y (turn.Impose l k) own (inr did) = absurd own
 own_same s r v new x y (turn.Mark l) own (inr did) = absurd own
 own_same s r v new x y other own (inr did) = absurd did.1
 
-own_unread : {A : Type 0} (s : State) (r : Request) (v : Verdict) (new : Tasked) (u : Turn A) → OwnCall s r v new u → IsRead u → ⊥
+own_unread : {A : Type 0} (s : State) (r : Request) (v : Verdict) (new : Tasked) (u : Turn A) → OwnCall s r v new u → AsksForRead u → ⊥
 own_unread s r v new (turn.Read l n) own read = own
 own_unread s r v new other own read = read
 
-pub own_told : {A : Type 0} (x : Shown) (r : Request) (v : Verdict) (new : Tasked) (u : Turn A) (told : Reply A) → OwnCall (state_of x) r v new u → Has (state_of x) (request_of r) v → new.waits ≡ call_of u → IsReplied x (call_of u) told → AtHand (state_of x) r v new told
+pub own_told : {A : Type 0} (x : Shown) (r : Request) (v : Verdict) (new : Tasked) (u : Turn A) (told : Reply A) → OwnCall (state_of x) r v new u → HasVerdict (state_of x) (request_of r) v → new.waits ≡ call_of u → IsReplied x (call_of u) told → AtHand (state_of x) r v new told
 own_told x r v new (turn.Look l n) told own has asks is =
     let w : Looking l n ≡ Looking (loader_of r) (name_of r) = rw (own.2, own.3) refl in
     look_told x r v new told has (subst (λ (k : Waits). IsReplied x k told) w is) (asks ∙ w) own.0 own.1
@@ -146,7 +146,7 @@ own_told x r v new other told own has asks is = absurd own
 
 -- after one call more
 pub known_on : {A S : Type 0} (old x y : Shown) (r : Request) (t new : Tasked) (told next : Reply A) (u : Turn A) (source since later : S) → Known old x r t told source since → t.request ≡ Some r → AnswersOwn t new told u → Refuses (refusal t told) u → IsCall u
-    → new.waits ≡ call_of u → Did x y (IsStepOf x u) → IsReplied y (call_of u) next → ((IsRead u → ⊥) → later ≡ since) → Known old y r new next source later
+    → new.waits ≡ call_of u → Did x y (IsStepOf x u) → IsReplied y (call_of u) next → ((AsksForRead u → ⊥) → later ≡ since) → Known old y r new next source later
 known_on old x y r t new told next u source since later known q own refused call asks did is unread = λ v has.
     let k = known v has in
     let c = own_call (state_of old) r v t new told u k.at q own refused call in

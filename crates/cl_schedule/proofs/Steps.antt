@@ -11,8 +11,8 @@ use Rattle.cl_model.proofs.Tables.{trusted_is_consistent}
 use Rattle.cl_registry.specs.Tables.{Shown, IsKept, RunsAs, state_of, steps, machine}
 use Rattle.cl_tasks.specs.Blames.{BlamesWhere}
 use Rattle.cl_tasks.specs.Facts.{Holds}
-use Rattle.cl_tasks.specs.Follows.{Backed, BackedWhere, Follows, FollowsWhere, Refuses, ServedIn, Tells, TellsNow, TellsOf, Unrecorded, refusal}
-use Rattle.cl_tasks.specs.Tasks.{Tasked, begun}
+use Rattle.cl_tasks.specs.Follows.{Backed, BackedWhere, Follows, FollowsWhere, Refuses, ServedIn, Tells, TellsNow, ReplyTells, Unrecorded, refusal}
+use Rattle.cl_tasks.specs.Tasks.{Tasked, begun_task}
 use Rattle.cl_tasks.specs.Turns.{AnswersOwn, Asks, Expects, IsReplyTo, KeepsRequest, call_of}
 use Rattle.cl_tasks.specs.Waits.{Waits, Looking}
 use Rattle.cl_tasks.specs.declared.turn.Reply.{Reply}
@@ -50,7 +50,7 @@ pub record Turning {A S : Type 0} (told : Option Content) (old now : Shown) (c :
   pub faults : Grows (told_faults given) count since
   pub known : Known old now r t given source later
 
-turning_begun : {A S : Type 0} (told : Option Content) (old : Shown) (c : Configured) (q : ℕ) (r : Request) (count : ℕ) (source : S) → IsKept told old → old.config ≡ c → Turning {A = A} told old old c r (begun c q r) reply.Start count count source source
+turning_begun : {A S : Type 0} (told : Option Content) (old : Shown) (c : Configured) (q : ℕ) (r : Request) (count : ℕ) (source : S) → IsKept told old → old.config ≡ c → Turning {A = A} told old old c r (begun_task c q r) reply.Start count count source source
 turning_begun {A = A} told old c q r count source kept base =
     record {
       expects = refl;
@@ -60,10 +60,10 @@ turning_begun {A = A} told old c q r count source kept base =
       request = refl;
       tells = record { told = record { before = record { frames = tt; facts = tt }; now = tt }; unrecorded = tt };
       faults = grows_none count;
-      known = known_start {A = A} old r (begun c q r) source;
+      known = known_start {A = A} old r (begun_task c q r) source;
     }
 
-pub turning_start : {A S : Type 0} (told : Option Content) (old : Shown) (c : Configured) (q : ℕ) (r : Request) (t : Tasked) (count : ℕ) (source : S) → IsKept told old → old.config ≡ c → t ≡ begun c q r → Turning {A = A} told old old c r t reply.Start count count source source
+pub turning_start : {A S : Type 0} (told : Option Content) (old : Shown) (c : Configured) (q : ℕ) (r : Request) (t : Tasked) (count : ℕ) (source : S) → IsKept told old → old.config ≡ c → t ≡ begun_task c q r → Turning {A = A} told old old c r t reply.Start count count source source
 turning_start {A = A} told old c q r t count source kept base is =
     subst (λ (k : Tasked). Turning {A = A} told old old c r k reply.Start count count source source) (sym is) (turning_begun {A = A} told old c q r count source kept base)
 
@@ -129,7 +129,7 @@ turning_on {A = A} told old x new c r t next given more u count since after sour
       tells = record {
         told = record {
           before = holds_did told x new u next did.did did.kept (says.keeps x k.tells.told);
-          now = subst (λ (w : Waits). TellsOf new w more) (sym says.asks) did.replied.tells;
+          now = subst (λ (w : Waits). ReplyTells new w more) (sym says.asks) did.replied.tells;
         };
         unrecorded = subst (λ (w : Waits). Unrecorded new w more) (sym says.asks) (unrecorded_of new (call_of u) more did.replied.shows);
       };

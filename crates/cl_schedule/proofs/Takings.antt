@@ -18,7 +18,7 @@ use Rattle.cl_schedule.specs.Places.{seat_at}
 use Rattle.cl_schedule.specs.Rooms.{AllSeated, NoneSeated, WaitsAgain}
 use Rattle.cl_schedule.specs.Rounds.{RoundsPassed}
 use Rattle.cl_schedule.specs.Seats.{GoesOn, HasPosted, IsSeated}
-use Rattle.cl_schedule.specs.Takings.{AreWithin, ComesNearer, IsWithin, Keeps, Measure, Posts}
+use Rattle.cl_schedule.specs.Takings.{AreWithin, ComesNearer, IsTakenWithin, ChoiceKeeps, Measure, PostsAnswerOf}
 use Rattle.cl_schedule.proofs.Later.{goes_on_none, goes_on_rounds}
 use Rattle.cl_schedule.proofs.Places.{HasMoved, bool_cases, some_none}
 use Rattle.cl_schedule.proofs.Prompt.{first_since, of_other, takings_other, takings_this, this_of, untaken_before, untaken_none}
@@ -43,19 +43,19 @@ pub begun_nearer : {A : Type 0} (told : Option Content) (m : Measure A) (old new
 begun_nearer told m old new q seat after law starts nearer = λ r k n asked fits all. nearer r k n asked fits (law.more (state_of old) r k (m.all k) (suc n) seat all (starts r k asked fits))
 
 within_later : {A : Type 0} (told : Option Content) (m : Measure A) (old new : Shown) (q : ℕ) (r : Request) (k : m.Known) (n : ℕ) (seat : Option (Seat A)) → IsMeasure told m → GoesOn old new
-    → ((s : Seat A) → seat ≡ Some s → IsSeated told old s.task s.call q r) → IsWithin m (state_of old) r k n seat → IsWithin m (state_of new) r k n seat
+    → ((s : Seat A) → seat ≡ Some s → IsSeated told old s.task s.call q r) → IsTakenWithin m (state_of old) r k n seat → IsTakenWithin m (state_of new) r k n seat
 within_later told m old new q r k n None law goes seated within = within
 within_later told m old new q r k n (Some s) law goes seated within = law.later old new q r k n s goes (seated s refl) within
 
 -- a request that was taken, and has no answer
 within_now : {A : Type 0} (told : Option Content) (m : Measure A) (old new : Shown) (q left : ℕ) (r : Request) (k : m.Known) (n : ℕ) (after : Option (Seat A)) → MatchOption after (HasPosted told old new q) (WaitsAgain told old new q left) → IsOpen new q
-    → MatchOption after (Posts m old new q k) (m.Within (state_of new) r k n) → IsWithin m (state_of new) r k n after
+    → MatchOption after (PostsAnswerOf m old new q k) (m.Within (state_of new) r k n) → IsTakenWithin m (state_of new) r k n after
 within_now told m old new q left r k n None posted is_open nearer = absurd (not_open old new q posted.answer posted.unanswered posted.posted is_open)
 within_now told m old new q left r k n (Some s) waits is_open nearer = nearer
 
 -- a request that was taken for the last time
 posts_now : {A : Type 0} (told : Option Content) (m : Measure A) (old new : Shown) (q left : ℕ) (r : Request) (k : m.Known) (after : Option (Seat A)) → IsMeasure told m → MatchOption after (HasPosted told old new q) (WaitsAgain told old new q left)
-    → MatchOption after (Posts m old new q k) (m.Within (state_of new) r k 0) → Posts m old new q k
+    → MatchOption after (PostsAnswerOf m old new q k) (m.Within (state_of new) r k 0) → PostsAnswerOf m old new q k
 posts_now told m old new q left r k None law posted nearer = nearer
 posts_now told m old new q left r k (Some s) law waits nearer = absurd (law.once new q waits.seated.0 r k s waits.seated.2 nearer)
 
@@ -69,11 +69,11 @@ fits_now m x room ps q r k are fits = by_first (first_taken q ps) refl fits
     by_first (Some s) is f = are.fits q r k s is f
 
 within_before : {A : Type 0} (m : Measure A) (x : Shown) (room : Room A) (ps : List Piece) (q : ℕ) (r : Request) (k : m.Known) (n : ℕ) → AreWithin m x room ps → slice_get x.script.requests q ≡ Some r → IsOpen x q
-    → m.Fits (unwrap_or (first_taken q ps) (state_of x)) (request_of r) k → m.all k ≤ takings q ps + n → IsWithin m (state_of x) r k n (seat_at room q)
+    → m.Fits (unwrap_or (first_taken q ps) (state_of x)) (request_of r) k → m.all k ≤ takings q ps + n → IsTakenWithin m (state_of x) r k n (seat_at room q)
 within_before {A = A} m x room ps q r k n are asked is_open fits all = by_first (first_taken q ps) refl fits
   where
-    by_first : (o : Option State) → first_taken q ps ≡ o → m.Fits (unwrap_or o (state_of x)) (request_of r) k → IsWithin m (state_of x) r k n (seat_at room q)
-    by_first None is f = subst (λ (seat : Option (Seat A)). IsWithin m (state_of x) r k n seat) (sym (are.untaken q is)) (let none = untaken_none q ps is in omega arith)
+    by_first : (o : Option State) → first_taken q ps ≡ o → m.Fits (unwrap_or o (state_of x)) (request_of r) k → IsTakenWithin m (state_of x) r k n (seat_at room q)
+    by_first None is f = subst (λ (seat : Option (Seat A)). IsTakenWithin m (state_of x) r k n seat) (sym (are.untaken q is)) (let none = untaken_none q ps is in omega arith)
     by_first (Some s) is f = are.within q r k s n asked is_open is f all
 
 -- before the first choice
@@ -85,7 +85,7 @@ are_within : {A : Type 0} (told : Option Content) (m : Measure A) (old new : Sho
     → ((q : ℕ) → IsOpen new q → IsOpen old q)
     → ((q : ℕ) → is_of q (taken_by (schedule_of old.script) (state_of old) choice) ≡ false → seat_at now q ≡ seat_at was q)
     → ((q : ℕ) (r : Request) (k : m.Known) (n : ℕ) → is_of q (taken_by (schedule_of old.script) (state_of old) choice) ≡ true
-    → slice_get old.script.requests q ≡ Some r → IsOpen new q → m.Fits (state_of old) (request_of r) k → IsWithin m (state_of old) r k (suc n) (seat_at was q) → IsWithin m (state_of new) r k n (seat_at now q))
+    → slice_get old.script.requests q ≡ Some r → IsOpen new q → m.Fits (state_of old) (request_of r) k → IsTakenWithin m (state_of old) r k (suc n) (seat_at was q) → IsTakenWithin m (state_of new) r k n (seat_at now q))
     → AreWithin m new now (ps ++ piece (schedule_of old.script) (state_of old) choice made rounds ∷ [])
 are_within {A = A} told m old new was now ps choice made rounds law goes seated are opens others this = record {
   untaken = λ q none. let before = untaken_before q ps p none in others q before.1 ∙ are.untaken q before.0;
@@ -96,7 +96,7 @@ are_within {A = A} told m old new was now ps choice made rounds law goes seated 
       elim (bool_cases (is_of q p.taken)) [
         | inl is ↦ this q r k n is of is_open (fits_now m old was ps q (request_of r) k are before)
             (within_before m old was ps q r k (suc n) are of (opens q is_open) before (let more = takings_this q ps p is in omega arith))
-        | inr apart ↦ subst (λ (seat : Option (Seat A)). IsWithin m (state_of new) r k n seat) (sym (others q apart))
+        | inr apart ↦ subst (λ (seat : Option (Seat A)). IsTakenWithin m (state_of new) r k n seat) (sym (others q apart))
             (within_later told m old new q r k n (seat_at was q) law goes (λ s at. seated q s r at of)
             (within_before m old was ps q r k n are of (opens q is_open) before (let same = takings_other q ps p apart in omega arith)))
       ];
@@ -111,7 +111,7 @@ are_within {A = A} told m old new was now ps choice made rounds law goes seated 
 -- ---- a choice
 
 -- where nobody waits
-pub keeps_none : {A : Type 0} (told : Option Content) (m : Measure A) (x : Shown) (room : Room A) (choice : ℕ) → IsMeasure told m → AllSeated told x room → taken_by (schedule_of x.script) (state_of x) choice ≡ None → Keeps m x x room room choice
+pub keeps_none : {A : Type 0} (told : Option Content) (m : Measure A) (x : Shown) (room : Room A) (choice : ℕ) → IsMeasure told m → AllSeated told x room → taken_by (schedule_of x.script) (state_of x) choice ≡ None → ChoiceKeeps m x x room room choice
 keeps_none told m x room choice law seated nobody = λ ps are. (
   λ q r k taken asked fits all. absurd (some_none (taken_by (schedule_of x.script) (state_of x) choice) q taken nobody),
   λ made rounds. are_within told m x x room room ps choice made rounds law (goes_on_none x) seated are (λ q is_open. is_open) (λ q apart. refl)
@@ -120,20 +120,20 @@ keeps_none told m x room choice law seated nobody = λ ps are. (
 
 -- a request was taken: it went on, or was answered
 pub keeps_turned : {A : Type 0} (told : Option Content) (m : Measure A) (old new : Shown) (room done : Room A) (choice q left : ℕ) (after : Option (Seat A)) → IsMeasure told m → IsKept told old → AllSeated told old room → IsOpen old q → taken_by (schedule_of old.script) (state_of old) choice ≡ Some q
-    → MatchOption after (HasPosted told old new q) (WaitsAgain told old new q left) → HasMoved room done q after → ComesNearer m old new q (seat_at room q) after → Keeps m old new room done choice
+    → MatchOption after (HasPosted told old new q) (WaitsAgain told old new q left) → HasMoved room done q after → ComesNearer m old new q (seat_at room q) after → ChoiceKeeps m old new room done choice
 keeps_turned {A = A} told m old new room done choice q left after law kept seated here whom did moved nearer = λ ps are. (
-  λ p r k taken. subst (λ (i : ℕ). slice_get (schedule_of old.script) i ≡ Some r → m.Fits (unwrap_or (first_taken i ps) (state_of old)) r.request k → m.all k ≤ takings i ps + 1 → Posts m old new i k)
+  λ p r k taken. subst (λ (i : ℕ). slice_get (schedule_of old.script) i ≡ Some r → m.Fits (unwrap_or (first_taken i ps) (state_of old)) r.request k → m.all k ≤ takings i ps + 1 → PostsAnswerOf m old new i k)
       (sym (some_same p q (sym taken ∙ whom))) (in_time ps r k are),
   λ made rounds. are_within told m old new room done ps choice made rounds law (goes_turned told old new q left after kept did) seated are (opens_turned told old new q left after did)
       (λ p apart. moved.others p (of_other p q (taken_by (schedule_of old.script) (state_of old) choice) whom apart))
-      (λ p r k n is. subst (λ (i : ℕ). slice_get old.script.requests i ≡ Some r → IsOpen new i → m.Fits (state_of old) (request_of r) k → IsWithin m (state_of old) r k (suc n) (seat_at room i) → IsWithin m (state_of new) r k n (seat_at done i))
+      (λ p r k n is. subst (λ (i : ℕ). slice_get old.script.requests i ≡ Some r → IsOpen new i → m.Fits (state_of old) (request_of r) k → IsTakenWithin m (state_of old) r k (suc n) (seat_at room i) → IsTakenWithin m (state_of new) r k n (seat_at done i))
       (sym (some_same p q (sym (this_of p (taken_by (schedule_of old.script) (state_of old) choice) is) ∙ whom)))
-      (λ asked is_open fits at. subst (λ (seat : Option (Seat A)). IsWithin m (state_of new) r k n seat) (sym moved.here)
+      (λ asked is_open fits at. subst (λ (seat : Option (Seat A)). IsTakenWithin m (state_of new) r k n seat) (sym moved.here)
       (within_now told m old new q left r k n after did is_open (nearer r k n asked fits at)))),
 )
   where
     in_time : (ps : List Piece) (r : Scheduled) (k : m.Known) → AreWithin m old room ps
-        → slice_get (schedule_of old.script) q ≡ Some r → m.Fits (unwrap_or (first_taken q ps) (state_of old)) r.request k → m.all k ≤ takings q ps + 1 → Posts m old new q k
+        → slice_get (schedule_of old.script) q ≡ Some r → m.Fits (unwrap_or (first_taken q ps) (state_of old)) r.request k → m.all k ≤ takings q ps + 1 → PostsAnswerOf m old new q k
     in_time ps r k are of fits all =
         let j = asked_turned told old new q left after did in
         let e = scheduled_at old.script.requests old.script.rounds_of q j.0 kept.trusted.script.each j.1 in
@@ -143,7 +143,7 @@ keeps_turned {A = A} told m old new room done choice q left after law kept seate
         (nearer j.0 k 0 j.1 (fits_now m old room ps q (request_of j.0) k are fit) (within_before m old room ps q j.0 k 1 are j.1 here fit all))
 
 -- the rounds behind it
-pub keeps_rounds : {A : Type 0} (told : Option Content) (m : Measure A) (old mid new : Shown) (was room done : Room A) (choice : ℕ) → IsMeasure told m → AllSeated told mid room → RoundsPassed mid new → ((q : ℕ) → seat_at done q ≡ seat_at room q) → Keeps m old mid was room choice → Keeps m old new was done choice
+pub keeps_rounds : {A : Type 0} (told : Option Content) (m : Measure A) (old mid new : Shown) (was room done : Room A) (choice : ℕ) → IsMeasure told m → AllSeated told mid room → RoundsPassed mid new → ((q : ℕ) → seat_at done q ≡ seat_at room q) → ChoiceKeeps m old mid was room choice → ChoiceKeeps m old new was done choice
 keeps_rounds {A = A} told m old mid new was room done choice law seated passed same keeps = λ ps are. (
   λ q r k taken asked fits all. let post = (keeps ps are).0 q r k taken asked fits all in (
     post.0,
@@ -163,7 +163,7 @@ keeps_rounds {A = A} told m old mid new was room done choice law seated passed s
       fits = λ q r k s first fits. law.fits mid new r k goes (are.fits q r k s first fits);
       within = λ q r k s n asked is_open first fits all.
           let of : slice_get mid.script.requests q ≡ Some r = ap (λ (y : Scripted). slice_get y.requests q) (sym passed.script) ∙ asked in
-          subst (λ (seat : Option (Seat A)). IsWithin m (state_of new) r k n seat) (sym (same q))
+          subst (λ (seat : Option (Seat A)). IsTakenWithin m (state_of new) r k n seat) (sym (same q))
           (within_later told m mid new q r k n (seat_at room q) law goes (λ t at. seated q t r at of)
           (are.within q r k s n of (ap (λ (xs : List (Option rust.Answer)). slice_get xs q) (sym passed.answers) ∙ is_open) first fits all));
     }

@@ -15,7 +15,7 @@ use Rattle.cl_model.specs.Views.{need_of}
 use Rattle.cl_registry.specs.Imposing.{IsPreparedBy}
 use Rattle.cl_registry.specs.References.{Cited, IsSettledIn, cited_by}
 use Rattle.cl_registry.specs.Tables.{Shown, records_of, state_of}
-use Rattle.cl_tasks.specs.Follows.{IsSettledOf, Tells, TellsOf}
+use Rattle.cl_tasks.specs.Follows.{IsSettledOf, Tells, ReplyTells}
 use Rattle.cl_tasks.specs.Tasks.{Tasked}
 use Rattle.cl_tasks.specs.Waits.{Waits, Looking, Defining, Initiating, Tracing, LookingReference, Settling, Imposing, LookingPrepared, Marking}
 use Rattle.cl_tasks.specs.declared.turn.Reply.{Reply}
@@ -57,7 +57,7 @@ marked_later old new (OfPreparation l given) h so = prepared_later old new l.own
 
 -- ---- each reply to each call
 
-told_later : {A : Type 0} (told : Option Content) (old new : Shown) (w : Waits) (given : Reply A) → IsAfter told old new → IsCitedFor old w given → TellsOf old w given → TellsOf new w given
+told_later : {A : Type 0} (told : Option Content) (old new : Shown) (w : Waits) (given : Reply A) → IsAfter told old new → IsCitedFor old w given → ReplyTells old w given → ReplyTells new w given
 told_later told old new (Looking l n) (reply.Looked (Some row)) h cited so = recorded_as_later old new l n row.value h.goes so
 told_later told old new (Defining d) (reply.Defined row) h cited so = recorded_as_later old new d.class.loader d.class.name row.value h.goes so
 told_later told old new (Initiating j) (reply.Initiated row) h cited so = recorded_as_later old new j.asked j.name row.value h.goes so

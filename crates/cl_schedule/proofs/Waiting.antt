@@ -354,7 +354,7 @@ may_gather_first config script empty new is p =
     }
 
 -- where nobody waits, and no further round may begin, nothing is left
-pub none_left : (told : Option Content) (x : Shown) (next : ℕ) → IsKept told x → HasGathered x [] next → (tables.MayGoOn x → ⊥) → IsUnfinished x → ⊥
+pub none_left : (told : Option Content) (x : Shown) (next : ℕ) → IsKept told x → HasGathered x [] next → (tables.RoundMayBegin x → ⊥) → IsUnfinished x → ⊥
 none_left told x next k h over (inr later) = over (record { answered = all_answered x h.waits; later = later })
 none_left told x next k h over (inl one) =
     let q = one.0 in

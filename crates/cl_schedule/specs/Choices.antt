@@ -10,7 +10,7 @@ use Rattle.cl_registry.specs.declared.report.Report.{Report}
 use Rattle.cl_registry.specs.Tables.{Shown, steps, machine}
 use Rattle.cl_schedule.specs.Blames.{EachBlames}
 use Rattle.cl_schedule.specs.Headline.{IsServed}
-use Rattle.cl_schedule.specs.Known.{Has, SaysOrLacks}
+use Rattle.cl_schedule.specs.Known.{HasVerdict, SaysOrLacks}
 use Rattle.cl_schedule.specs.Serving.{reported}
 
 -- ---- who waits
@@ -99,7 +99,7 @@ first_taken q (p ∷ ps) = if is_of q p.taken then Some p.state else first_taken
 abbrev pub IsPrompt : List Scheduled → List Piece → Piece → Type 0
 IsPrompt script before p =
     (q : ℕ) (r : Scheduled) (s : State) (v : Verdict)
-    → p.taken ≡ Some q → 2 ≤ takings q before → slice_get script q ≡ Some r → first_taken q before ≡ Some s → Has s r.request v
+    → p.taken ≡ Some q → 2 ≤ takings q before → slice_get script q ≡ Some r → first_taken q before ≡ Some s → HasVerdict s r.request v
     → (a : Answer) × SaysOrLacks v a × (p.made ≡ Post q a ∷ [])
 
 -- so it is with each piece: a request whose verdict the tables have when it is taken first has its answer by its third taking

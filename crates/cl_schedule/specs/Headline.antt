@@ -24,7 +24,7 @@ abbrev pub EachSpelt : Option Content → Shown → Type 0
 EachSpelt told x = (c : Class) → IsRecorded (state_of x) c → (f : Structure) × IsSpelt told c f
 
 -- the request of this number asks this, and was answered so
-pub record Says (x : Shown) (q : ℕ) (r : requests.Request) (v : Verdict) : Type 0 where
+pub record AnswersSo (x : Shown) (q : ℕ) (r : requests.Request) (v : Verdict) : Type 0 where
   pub asked : slice_get x.script.requests q ≡ Some r
   pub answered : answer_at (answers_of x.answers) q ≡ Some (Said v)
 
@@ -32,13 +32,13 @@ pub record Says (x : Shown) (q : ℕ) (r : requests.Request) (v : Verdict) : Typ
 abbrev pub Alike : Option Content → Shown → Type 0
 Alike None x = Unit {0}
 Alike (Some content) x =
-    (p q : ℕ) (r : requests.Request) (v u : Verdict) → Says x p r v → Says x q r u → v ≡ u
+    (p q : ℕ) (r : requests.Request) (v u : Verdict) → AnswersSo x p r v → AnswersSo x q r u → v ≡ u
 
 -- this reference of a class was asked for, of a loader that records the class, and was answered so (5.4.3)
 pub record SaysOf (x : Shown) (q : ℕ) (d : Class) (i : ℕ) (v : Verdict) : Type 0 where
   pub loader : ℕ
   pub name : List ℕ
-  pub says : Says x q (requests.TheVariants.Resolve loader name i) v
+  pub says : AnswersSo x q (requests.TheVariants.Resolve loader name i) v
   pub kept : Records (state_of x) loader name d
 
 -- equal references are answered alike, through whatever loaders they were asked for, failures apart (5.4.3)
@@ -57,7 +57,7 @@ pub record CircleAnswer (w : World) (loader : ℕ) (name : List ℕ) (v : Verdic
 abbrev pub CirclesExact : Option Content → Shown → Type 0
 CirclesExact None x = Unit {0}
 CirclesExact (Some content) x =
-    (q loader : ℕ) (name : List ℕ) (v : Verdict) → Says x q (requests.TheVariants.Load loader name) v
+    (q loader : ℕ) (name : List ℕ) (v : Verdict) → AnswersSo x q (requests.TheVariants.Load loader name) v
     → CircleAnswer (machine x content).world loader name v
 
 -- the report of a script that was served in some order, or by threads, under a configuration. Where a content is told, the history is a run of the

@@ -19,8 +19,8 @@ HasOf s (Resolve loader name i) c v = settled_to s.settled c i ≡ Some v
 HasOf s (Link loader name) c v = Contains s.prepared c × (v ≡ IsLinked c)
 
 -- the tables have a request's verdict, its class with it (5.3, 5.4.2, 5.4.3)
-abbrev pub Has : State → Request → Verdict → Type 0
-Has s r v = (c : Class) × Records s (loaded_by r).loader (loaded_by r).name c × HasOf s r c v
+abbrev pub HasVerdict : State → Request → Verdict → Type 0
+HasVerdict s r v = (c : Class) × Records s (loaded_by r).loader (loaded_by r).name c × HasOf s r c v
 
 -- this verdict, or out of memory
 abbrev pub SaysOrLacks : Verdict → Answer → Type 0
@@ -36,7 +36,7 @@ pub record IsToldAtOnce {S : Type 0} (old new : Shown) (q : ℕ) (v : Verdict) (
 -- where the tables have a request's verdict it is answered so at once (5.3, 5.4.2, 5.4.3)
 abbrev pub TellsKnown : {S : Type 0} → Shown → Shown → ℕ → requests.Request → S → S → Type 0
 TellsKnown old new q r source later =
-    (v : Verdict) → Has (state_of old) (request_of r) v → IsToldAtOnce old new q v source later
+    (v : Verdict) → HasVerdict (state_of old) (request_of r) v → IsToldAtOnce old new q v source later
 
 -- where the tables have a request's verdict when another one is posted, the request is answered so after that, or want of
 -- memory, under any source (5.3, 5.4.2, 5.4.3)
@@ -44,4 +44,4 @@ abbrev pub KnownStays : Shown → Type 0
 KnownStays x =
     (before between behind : List Step) (p q : ℕ) (b a : Answer) (r : Scheduled) (v : Verdict)
     → steps x ≡ before ++ Post p b ∷ (between ++ Post q a ∷ behind) → slice_get (schedule_of x.script) q ≡ Some r
-    → Has (state_after start before) r.request v → SaysOrLacks v a
+    → HasVerdict (state_after start before) r.request v → SaysOrLacks v a

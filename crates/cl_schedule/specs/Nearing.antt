@@ -12,7 +12,7 @@ use Rattle.cl_tasks.specs.declared.turn.Reply.{Reply}
 use Rattle.cl_tasks.specs.declared.turn.Reply.TheVariants as reply
 use Rattle.cl_tasks.specs.declared.turn.Turn.{Turn}
 use Rattle.cl_tasks.specs.declared.turn.Turn.TheVariants as turn
-use Rattle.cl_schedule.specs.Known.{Has, HasOf, SaysOrLacks}
+use Rattle.cl_schedule.specs.Known.{HasVerdict, HasOf, SaysOrLacks}
 use Rattle.cl_schedule.specs.Takings.{Measure}
 
 -- ---- the way to a verdict that the tables have
@@ -59,4 +59,4 @@ pub record IsNear {A : Type 0} (s : State) (r : Request) (v : Verdict) (n : ℕ)
 
 -- a request whose verdict the tables have is taken three times at most, and then answered so, or out of memory (5.3, 5.4.2, 5.4.3)
 abbrev pub by_verdict : {A : Type 0} → Measure A
-by_verdict = record { Known = Verdict; Fits = Has; all = λ v. 3; Within = λ s r v n seat. IsNear s r v n seat.task seat.call; Says = SaysOrLacks }
+by_verdict = record { Known = Verdict; Fits = HasVerdict; all = λ v. 3; Within = λ s r v n seat. IsNear s r v n seat.task seat.call; Says = SaysOrLacks }

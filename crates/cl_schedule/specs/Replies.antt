@@ -15,7 +15,7 @@ use Rattle.cl_registry.specs.Settling.{IsToSettle}
 use Rattle.cl_registry.specs.Tables.{Shown, IsKept, records_of, state_of, LacksRecord}
 use Rattle.cl_tasks.specs.Waits.{Waits, Looking, LookingReference, LookingPrepared}
 use Rattle.cl_tasks.specs.Turns.{IsReplyTo, call_of}
-use Rattle.cl_tasks.specs.Follows.{TellsOf}
+use Rattle.cl_tasks.specs.Follows.{ReplyTells}
 use Rattle.cl_tasks.specs.declared.turn.Reply.{Reply}
 use Rattle.cl_tasks.specs.declared.turn.Reply.TheVariants as reply
 use Rattle.cl_tasks.specs.declared.turn.Turn.{Turn}
@@ -30,9 +30,9 @@ IsCall (turn.Post f) = ⊥
 IsCall other = Unit {0}
 
 -- a turn that asks for a read (5.3.2)
-abbrev pub IsRead : {A : Type 0} → Turn A → Type 0
-IsRead (turn.Read l n) = Unit {0}
-IsRead other = ⊥
+abbrev pub AsksForRead : {A : Type 0} → Turn A → Type 0
+AsksForRead (turn.Read l n) = Unit {0}
+AsksForRead other = ⊥
 
 -- a turn that asks for a call of the tables, and neither for a read nor for the post (5.3 to 5.4.3)
 abbrev pub IsOfTables : {A : Type 0} → Turn A → Type 0
@@ -54,7 +54,7 @@ Shows x waits other = Unit {0}
 -- a call was answered: the reply is one to it, and tells what the tables hold (5.3 to 5.4.3)
 pub record IsReplied {A : Type 0} (x : Shown) (waits : Waits) (r : Reply A) : Type 0 where
   pub fits : IsReplyTo x.config waits r
-  pub tells : TellsOf x waits r
+  pub tells : ReplyTells x waits r
   pub shows : Shows x waits r
 
 -- there is a reply to a call, and none just where the tables do not bear it (5.3 to 5.4.3)
@@ -75,8 +75,8 @@ abbrev pub ImposesBy : Listed → ℕ → Step → Type 0
 ImposesBy l k e = (n : Equality) × (slice_get l.needs k ≡ Some n) × (e ≡ step_for (equal_need n))
 
 -- a class is recorded by this step (5.3.5, step 5)
-abbrev pub DefinesBy : Drafted → Step → Type 0
-DefinesBy d e = e ≡ Define d.class
+abbrev pub DefinesByStep : Drafted → Step → Type 0
+DefinesByStep d e = e ≡ Define d.class
 
 -- a loader that was asked is recorded by this step (5.3)
 abbrev pub InitiatesBy : Located → Step → Type 0
@@ -84,7 +84,7 @@ InitiatesBy h e = e ≡ Initiate h.name h.place h.asked
 
 -- the step that a call may add (5.3 to 5.4.3)
 abbrev pub IsStepOf : {A : Type 0} → Shown → Turn A → Step → Type 0
-IsStepOf x (turn.Define d) e = DefinesBy d e
+IsStepOf x (turn.Define d) e = DefinesByStep d e
 IsStepOf x (turn.Initiate h) e = InitiatesBy h.value e
 IsStepOf x (turn.Settle f) e = SettlesBy x f e
 IsStepOf x (turn.Impose l k) e = ImposesBy l.value k e
@@ -108,4 +108,4 @@ pub record CallSays {A S : Type 0} (told : Option Content) (x new : Shown) (u : 
   pub did : Did x new (IsStepOf x u)
   pub kept : IsKept told new
   pub faults : Grows (told_faults given) count later
-  pub unread : (IsRead u → ⊥) → source ≡ since
+  pub unread : (AsksForRead u → ⊥) → source ≡ since

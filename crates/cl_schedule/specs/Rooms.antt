@@ -6,8 +6,8 @@ use Rattle.cl_model.specs.declared.request.Request.{Request}
 use Rattle.cl_model.specs.Content.{Content}
 use Rattle.cl_model.specs.Machine.{Step, state_after}
 use Rattle.cl_model.specs.Service.{PassesRounds}
-use Rattle.cl_registry.specs.Tables.{Shown, IsKept, IsOpen, MayGoOn, state_of, steps, machine}
-use Rattle.cl_registry.specs.Posting.{MayPost}
+use Rattle.cl_registry.specs.Tables.{Shown, IsKept, IsOpen, RoundMayBegin, state_of, steps, machine}
+use Rattle.cl_registry.specs.Posting.{MayPostUnder}
 use Rattle.cl_tasks.specs.Measures.{all_left}
 use Rattle.cl_schedule.specs.declared.choices.Room.{Room}
 use Rattle.cl_schedule.specs.declared.seats.Seat.{Seat}
@@ -20,7 +20,7 @@ use Rattle.cl_schedule.specs.Nearing.{by_verdict}
 use Rattle.cl_schedule.specs.Paying.{by_plan}
 use Rattle.cl_schedule.specs.Places.{seat_at}
 use Rattle.cl_schedule.specs.Seats.{HasAdvanced, HasGathered, HasPosted, IsSeated, IsSeatedAt}
-use Rattle.cl_schedule.specs.Takings.{ComesNearer, Keeps}
+use Rattle.cl_schedule.specs.Takings.{ComesNearer, ChoiceKeeps}
 
 -- ---- the room
 
@@ -52,7 +52,7 @@ NoneSeated room = (q : ℕ) → seat_at room q ≡ None
 
 -- the request of this number may be taken: its answer may be posted
 abbrev pub MayBeTaken : Shown → ℕ → Type 0
-MayBeTaken x q = (r : Request) × MayPost x q r
+MayBeTaken x q = (r : Request) × MayPostUnder x q r
 
 -- memory ran out, or a stray was met, which no source that tells a content brings
 abbrev pub IsStrayUntold : Option Content → ServeFault → Type 0
@@ -89,13 +89,13 @@ left_of None = all_left + 1
 left_of (Some s) = s.task.left
 
 -- those of the request of this number
-abbrev pub left_at : {A : Type 0} → Room A → ℕ → ℕ
-left_at room q = left_of (seat_at room q)
+abbrev pub left_of_request : {A : Type 0} → Room A → ℕ → ℕ
+left_of_request room q = left_of (seat_at room q)
 
 -- those of the first request that waits
 abbrev pub first_left : {A : Type 0} → Room A → List ℕ → ℕ
 first_left room [] = 0
-first_left room (q ∷ ws) = left_at room q
+first_left room (q ∷ ws) = left_of_request room q
 
 -- how many requests have no answer yet
 abbrev pub room_sum : {A : Type 0} → Room A → ℕ
@@ -143,22 +143,22 @@ pub record ServesOn {A : Type 0} (told : Option Content) (config : Configured) (
   pub faults : CountGrows (debt old was) (debt new now) before after
 
 -- no choice was made yet
-pub record IsOpened {A : Type 0} (told : Option Content) (x : Shown) (room : Room A) : Type 0 where
+pub record RoomIsOpened {A : Type 0} (told : Option Content) (x : Shown) (room : Room A) : Type 0 where
   -- the history is the rounds that begin at first
   pub begun : PlayedTo told x []
   -- and no other round may
-  pub over : MayGoOn x → ⊥
+  pub over : RoundMayBegin x → ⊥
   -- nobody was begun
   pub fresh : NoneSeated room
   -- no fault of the source is owed
   pub none_owed : debt x room ≡ 0
 
 -- each request has its answer
-pub record IsOver {A : Type 0} (x : Shown) (room : Room A) : Type 0 where
+pub record RoomIsOver {A : Type 0} (x : Shown) (room : Room A) : Type 0 where
   -- nobody waits
   pub none : room.waiting.items ≡ []
   -- and no round may begin
-  pub over : MayGoOn x → ⊥
+  pub over : RoundMayBegin x → ⊥
 
 -- ---- what a choice does with the request that it takes
 
@@ -183,6 +183,6 @@ pub record HasTurned {A : Type 0} (told : Option Content) (old new : Shown) (q :
 -- behind any pieces a choice keeps how often each request is taken at most
 pub record KeepsTakings {A : Type 0} (told : Option Content) (old new : Shown) (was now : Room A) (choice : ℕ) : Type 0 where
   -- where the tables have its verdict
-  pub known : Keeps by_verdict old new was now choice
+  pub known : ChoiceKeeps by_verdict old new was now choice
   -- by its plan
-  pub paid : Keeps (by_plan told old.config) old new was now choice
+  pub paid : ChoiceKeeps (by_plan told old.config) old new was now choice

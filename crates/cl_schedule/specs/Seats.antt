@@ -12,7 +12,7 @@ use Rattle.cl_model.specs.Machine.{Step}
 use Rattle.cl_model.specs.Service.{IsNextStep, MayEnd}
 use Rattle.cl_model.specs.Views.{answer_of, request_of}
 use Rattle.cl_model.specs.Steps.{IsOfService}
-use Rattle.cl_registry.specs.Posting.{IsBacked, MayPost}
+use Rattle.cl_registry.specs.Posting.{IsBacked, MayPostUnder}
 use Rattle.cl_registry.specs.References.{Cited, cited_by}
 use Rattle.cl_registry.specs.Tables.{Shown, IsKept, IsLater, IsOpen, state_of, steps, with_post, machine}
 use Rattle.cl_tasks.specs.Blames.{AnswerBlames, TurnBlames}
@@ -28,7 +28,7 @@ use Rattle.cl_tasks.specs.declared.turn.Turn.{Turn}
 use Rattle.cl_tasks.specs.declared.turn.Turn.TheVariants as turn
 use Rattle.cl_schedule.specs.Blames.{IsAskedFor}
 use Rattle.cl_schedule.specs.Choices.{waiting}
-use Rattle.cl_schedule.specs.Replies.{Did, IsCall, IsRead}
+use Rattle.cl_schedule.specs.Replies.{Did, IsCall, AsksForRead}
 
 -- ---- a registry later on
 
@@ -51,10 +51,10 @@ pub record IsAfter (told : Option Content) (old new : Shown) : Type 0 where
 -- ---- seats
 
 -- a call is one for a request, and so is what is posted
-abbrev pub IsFor : {A : Type 0} → Tasked → Turn A → Request → Type 0
-IsFor t (turn.Post f) r = f.request ≡ r
-IsFor t (turn.Settle f) r = (f.request ≡ r) × (t.request ≡ Some r)
-IsFor t other r = t.request ≡ Some r
+abbrev pub TurnIsFor : {A : Type 0} → Tasked → Turn A → Request → Type 0
+TurnIsFor t (turn.Post f) r = f.request ≡ r
+TurnIsFor t (turn.Settle f) r = (f.request ≡ r) × (t.request ≡ Some r)
+TurnIsFor t other r = t.request ≡ Some r
 
 -- a turn follows the plan in a registry, where a content is told (5.3 to 5.4.3)
 abbrev pub FollowsIn : {A : Type 0} → Option Content → Shown → Request → Turn A → Type 0
@@ -62,7 +62,7 @@ FollowsIn told y r u = (content : Content) → told ≡ Some content → Follows
 
 -- where a content is told the tables bear the answer, if it may be posted (5.3 to 5.4.3)
 abbrev pub PostsIn : {A : Type 0} → Option Content → Shown → ℕ → Request → Turn A → Type 0
-PostsIn told y q r (turn.Post f) = (content : Content) → told ≡ Some content → MayPost y q r → IsBacked y f
+PostsIn told y q r (turn.Post f) = (content : Content) → told ≡ Some content → MayPostUnder y q r → IsBacked y f
 PostsIn told y q r other = Unit {0}
 
 -- a request was begun and waits with this call, which is no read: wherever the registry goes on to, what its task was told holds, the call
@@ -70,9 +70,9 @@ PostsIn told y q r other = Unit {0}
 pub record IsSeated {A : Type 0} (told : Option Content) (x : Shown) (t : Tasked) (u : Turn A) (q : ℕ) (r : Request) : Type 0 where
   pub config : t.config ≡ x.config
   pub asks : Asks t u
-  pub for_request : IsFor t u r
+  pub for_request : TurnIsFor t u r
   pub few : t.left ≤ all_left
-  pub unread : IsRead u → ⊥
+  pub unread : AsksForRead u → ⊥
   pub more : AreLeft t.calls
   pub holds : (y : Shown) → IsAfter told x y → Holds y t
   pub backed : (y : Shown) → IsAfter told x y → IsCall u → Backed y u
@@ -82,7 +82,7 @@ pub record IsSeated {A : Type 0} (told : Option Content) (x : Shown) (t : Tasked
 
 -- so it does in a registry in which its answer may be posted
 abbrev pub IsSeatedAt : {A : Type 0} → Option Content → Shown → Tasked → Turn A → ℕ → Type 0
-IsSeatedAt told x t u q = (r : Request) × MayPost x q r × IsSeated told x t u q r
+IsSeatedAt told x t u q = (r : Request) × MayPostUnder x q r × IsSeated told x t u q r
 
 -- ---- what a choice does
 
@@ -116,7 +116,7 @@ IsCitedFor x (Settling r) (reply.Settled s) = (e : Cited) × (cited_by x r ≡ S
 IsCitedFor x waits other = Unit {0}
 
 -- what a task was told before a turn holds, and the turn is one for this request (5.3 to 5.4.3)
-pub record IsReady {A : Type 0} (told : Option Content) (x : Shown) (t : Tasked) (given : Reply A) (r : Request) : Type 0 where
+pub record TaskIsReady {A : Type 0} (told : Option Content) (x : Shown) (t : Tasked) (given : Reply A) (r : Request) : Type 0 where
   pub kept : IsKept told x
   pub config : t.config ≡ x.config
   pub request : t.request ≡ Some r
@@ -127,7 +127,7 @@ pub record IsReady {A : Type 0} (told : Option Content) (x : Shown) (t : Tasked)
 -- ---- who waits
 
 -- the requests below a number are of no later round, and none from it on has an answer
-pub record IsFront (x : Shown) (next : ℕ) : Type 0 where
+pub record IsRoundFront (x : Shown) (next : ℕ) : Type 0 where
   pub within : next ≤ length x.script.requests
   pub begun : (p : ℕ) → p < next → IsLater x p → ⊥
   pub open_later : (p : ℕ) → next ≤ p → p < length x.script.requests → IsOpen x p
@@ -135,12 +135,12 @@ pub record IsFront (x : Shown) (next : ℕ) : Type 0 where
 -- these are the numbers of those that wait; the requests from another number on are of later rounds
 pub record HasGathered (x : Shown) (ws : List ℕ) (next : ℕ) : Type 0 where
   pub waits : ws ≡ waiting (schedule_of x.script) (state_of x)
-  pub front : IsFront x next
+  pub front : IsRoundFront x next
   pub later : (p : ℕ) → next ≤ p → p < length x.script.requests → IsLater x p
 
 -- the requests below a number are answered, and no other is
 pub record MayGather (x : Shown) (next : ℕ) : Type 0 where
-  pub front : IsFront x next
+  pub front : IsRoundFront x next
   pub answered : (p : ℕ) → p < next → IsOpen x p → ⊥
 
 -- these are the numbers of all requests of one round that stand from one number on; the next one is of another round

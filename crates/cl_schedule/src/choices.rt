@@ -2,11 +2,11 @@
 
 ghost use Rattle.std.specs.Prelude.{◌≡◌, ◌+◌, [], IfOk, IfErr, MatchOption, Some, None, length, replicate, slice_get, slice_set};
 ghost use Rattle.cl_config.specs.Scripts.{HasLoaders};
-ghost use Rattle.cl_registry.specs.Tables.{IsKept, MayGoOn};
+ghost use Rattle.cl_registry.specs.Tables.{IsKept, RoundMayBegin};
 ghost use Rattle.cl_schedule.specs.Choices.{IsSimulated};
 ghost use Rattle.cl_schedule.specs.Counting.{CountGrows, CountsFaults, faults, owed_at, owed_of};
 ghost use Rattle.cl_schedule.specs.Places.{seat_at};
-ghost use Rattle.cl_schedule.specs.Rooms.{ChoosesIn, FirstFalls, HasTaken, HasTurned, IsOpened, IsOver, IsServing, IsStrayUntold, MayBeTaken, KeepsTakings, PlayedPast, PlaysIn, ServesOn, TakesFirst};
+ghost use Rattle.cl_schedule.specs.Rooms.{ChoosesIn, FirstFalls, HasTaken, HasTurned, RoomIsOpened, RoomIsOver, IsServing, IsStrayUntold, MayBeTaken, KeepsTakings, PlayedPast, PlaysIn, ServesOn, TakesFirst};
 
 use crate::gather::{count, gather, number_at, take_out};
 use crate::seats::{Seat, advance, begin};
@@ -205,7 +205,7 @@ fn choose<T: Told, S: Source<T>>(
 ) -> Result<(), ServeFault>
     requires serves { IsServing T.told config.now.value script.now registry.old room.old }
     ensures played { IfOk result (λ _. PlaysIn T.told registry.old registry.new choice) }
-    ensures over { IfOk result (λ _. MayGoOn registry.new → ⊥) }
+    ensures over { IfOk result (λ _. RoundMayBegin registry.new → ⊥) }
     ensures serves { IfOk result (λ _. ServesOn T.told config.now.value script.now
         registry.old registry.new room.old room.new (S.refused source.old) (S.refused source.new)) }
     ensures keeps { IfOk result (λ _. KeepsTakings T.told registry.old registry.new
@@ -232,9 +232,9 @@ fn play_all<T: Told, S: Source<T>>(
     schedule: &[u32],
 ) -> Result<(), ServeFault>
     requires serves { IsServing T.told config.now.value script.now registry.old room.old }
-    requires opened { IsOpened T.told registry.old room.old }
+    requires opened { RoomIsOpened T.told registry.old room.old }
     ensures played { IfOk result (λ _. PlayedPast T.told registry.new schedule.now) }
-    ensures over { IfOk result (λ _. IsOver registry.new room.new) }
+    ensures over { IfOk result (λ _. RoomIsOver registry.new room.new) }
     ensures serves { IfOk result (λ _. ServesOn T.told config.now.value script.now
         registry.old registry.new room.old room.new (S.refused source.old) (S.refused source.new)) }
     ensures refused { IfErr result (λ e. IsStrayUntold T.told e × IsKept T.told registry.new) }
@@ -265,7 +265,7 @@ fn open<T: Told>(
     requires loaders { HasLoaders (length config.now.value.loaders) script.now.value.requests }
     ensures serves { IfOk result (λ r.
         IsServing T.told config.now.value script.now.value r.0 r.1) }
-    ensures opened { IfOk result (λ r. IsOpened T.told r.0 r.1) }
+    ensures opened { IfOk result (λ r. RoomIsOpened T.told r.0 r.1) }
     ensures memory { IfErr result (λ e. e ≡ ServeFault.Memory) }
 {
     let mut room = Room::new(alloc, script.requests().len())?;

@@ -2,13 +2,13 @@
 ghost use Rattle.std.specs.Prelude.{◌≡◌, IfSome, Some};
 ghost use Rattle.cl_model.specs.States.{IsRecorded};
 ghost use Rattle.cl_registry.specs.Imposing.{MayImpose, MayMark};
-ghost use Rattle.cl_registry.specs.Settling.{MaySettle};
+ghost use Rattle.cl_registry.specs.Settling.{FindingSettles};
 ghost use Rattle.cl_registry.specs.Tables.{Shown, IsKept, MayEnter, MayJoin, state_of};
 ghost use Rattle.cl_tasks.specs.Follows.{Backed};
 ghost use Rattle.cl_tasks.specs.Turns.{call_of};
 ghost use Rattle.cl_tasks.specs.Waits.{Looking, Reading, Defining, Initiating, Tracing, LookingReference, Settling, Imposing, LookingPrepared, Marking};
 ghost use Rattle.cl_schedule.specs.Counting.{Grows, told_faults};
-ghost use Rattle.cl_schedule.specs.Replies.{CallSays, IsCall, DefinesBy, Did, ImposesBy, InitiatesBy, IsOfTables, IsReplied, IsStepOf, PreparesBy, RepliesWhere, SettlesBy, reply_of};
+ghost use Rattle.cl_schedule.specs.Replies.{CallSays, IsCall, DefinesByStep, Did, ImposesBy, InitiatesBy, IsOfTables, IsReplied, IsStepOf, PreparesBy, RepliesWhere, SettlesBy, reply_of};
 
 use cl_delegation::Home;
 use cl_findings::Finding;
@@ -72,7 +72,7 @@ fn reply_of<T: Told>(fault: RegistryFault) -> Option<Reply<T>>
 fn define<T: Told>(alloc: Global, registry: &mut Registry<T>, draft: Draft<T>) -> Option<Reply<T>>
     ensures replied { RepliesWhere (MayEnter registry.old draft) registry.new
         (Defining draft) result }
-    ensures did { Did registry.old registry.new (DefinesBy draft) }
+    ensures did { Did registry.old registry.new (DefinesByStep draft) }
     ensures untold { result ≡ Some Reply.Memory → registry.new ≡ registry.old }
     ensures kept { IsKept T.told registry.new }
 {
@@ -118,7 +118,7 @@ fn settle<T: Told>(
     registry: &mut Registry<T>,
     finding: Finding<T>,
 ) -> Option<Reply<T>>
-    ensures replied { RepliesWhere (MaySettle registry.old finding) registry.new
+    ensures replied { RepliesWhere (FindingSettles registry.old finding) registry.new
         (Settling finding.request) result }
     ensures did { Did registry.old registry.new (SettlesBy registry.old finding) }
     ensures untold { result ≡ Some Reply.Memory → registry.new ≡ registry.old }

@@ -11,7 +11,7 @@ ghost use Rattle.cl_schedule.specs.Counting.{CountGrows, faults, owed, owed_of, 
 ghost use Rattle.cl_schedule.specs.Nearing.{AtHand, IsNear, calls_after};
 ghost use Rattle.cl_schedule.specs.Paying.{PaysFor, StartsWithin};
 ghost use Rattle.cl_schedule.specs.Rooms.{HasTurned};
-ghost use Rattle.cl_schedule.specs.Seats.{IsReady, IsSeated, IsSeatedAt};
+ghost use Rattle.cl_schedule.specs.Seats.{TaskIsReady, IsSeated, IsSeatedAt};
 
 use crate::replies::{ask_source, reply_to};
 use crate::serve::ServeFault;
@@ -39,7 +39,7 @@ pub(crate) fn read_on<T: Told, S: Source<T>>(
     mut reply: Reply<T>,
 ) -> Seat<T>
     requires expects { Expects task reply }
-    ensures seated { (x : Shown) (q : ℕ) (r : requests.Request) → IsReady T.told x task reply r
+    ensures seated { (x : Shown) (q : ℕ) (r : requests.Request) → TaskIsReady T.told x task reply r
         → IsSeated T.told x result.task result.call q r }
     ensures less { result.task.left < task.left }
     ensures faults { CountGrows (told_faults reply) (owed result.call)
@@ -47,7 +47,7 @@ pub(crate) fn read_on<T: Told, S: Source<T>>(
     ensures known { (x : Shown) (r : requests.Request) (v : Verdict)
         → AtHand (state_of x) r v task reply → task.request ≡ Some r
         → IsNear (state_of x) r v (calls_after reply + 1) result.task result.call }
-    ensures paid { (x : Shown) (r : requests.Request) → IsReady T.told x task reply r
+    ensures paid { (x : Shown) (r : requests.Request) → TaskIsReady T.told x task reply r
         → PaysFor T.told x r task result.task }
 {
     loop {

@@ -1,7 +1,7 @@
 ghost use Rattle.std.specs.Prelude.{◌≡◌, ◌<◌, IfOk, IfErr, length, slice_get};
 ghost use Rattle.cl_config.specs.Scripts.{HasLoaders};
 ghost use Rattle.cl_findings.specs.Findings.{loader_of};
-ghost use Rattle.cl_registry.specs.Posting.{IsBacked, MayPost};
+ghost use Rattle.cl_registry.specs.Posting.{IsBacked, MayPostUnder};
 ghost use Rattle.cl_registry.specs.Tables.{IsKept, with_post};
 ghost use Rattle.cl_tasks.specs.declared.turn.Turn.TheVariants as turns;
 ghost use Rattle.cl_schedule.specs.Counting.{CountGrows, CountsFaults, faults};
@@ -59,7 +59,7 @@ impl From<AllocError> for ServeFault {
 
 /// Posts an answer that the tables bear.
 pub(crate) fn post<T: Told>(registry: &mut Registry<T>, q: u32, finding: Finding<T>)
-    requires may { MayPost registry.old q finding.request }
+    requires may { MayPostUnder registry.old q finding.request }
     requires backed { IsBacked registry.old finding }
     ensures posted { registry.new ≡ with_post registry.old q finding.answer }
     ensures kept { IsKept T.told registry.new }
@@ -105,7 +105,7 @@ fn serve_request<T: Told, S: Source<T>>(
 )
     requires config { registry.old.config ≡ config.value }
     requires loader { loader_of request < length config.value.loaders }
-    requires may { MayPost registry.old q request }
+    requires may { MayPostUnder registry.old q request }
     requires kept { IsKept T.told registry.old }
     ensures done { IsDone T.told registry.old registry.new q request }
     ensures known { TellsKnown registry.old registry.new q request source.old source.new }

@@ -10,7 +10,7 @@ use Rattle.std.proofs.lemmas.Str.{encode_ascii}
 use Rattle.cl_names.specs.Kind.{code_points, IsAllowed, IsUnqualified, IsClass, IsNameOf}
 use Rattle.cl_names.specs.Plain.{is_plain_point, utf8_of, points_of, plain_of}
 use Rattle.cl_names.proofs.Units.{units_all}
-use Rattle.cl_source.specs.Directories.{within, path_of, IsEntry, StaysWithin}
+use Rattle.cl_source.specs.Directories.{within, path_of, IsEntryName, StaysWithin}
 
 -- ---- characters
 
@@ -92,7 +92,7 @@ no_slash : (xs : List ℕ) → AllByRecursion IsClear xs → AllByRecursion (λ 
 no_slash [] h = tt
 no_slash (x ∷ xs) h = (ne_eqb x 47 h.0.1, no_slash xs h.1)
 
-entry : (part : List ℕ) → 0 < length part → AllByRecursion IsClear part → IsEntry part
+entry : (part : List ℕ) → 0 < length part → AllByRecursion IsClear part → IsEntryName part
 entry part some each =
     (λ e. omega (arith, some, ap length e), λ e. (subst (AllByRecursion IsClear) e each).0.0 refl, λ e. (subst (AllByRecursion IsClear) e each).0.0 refl)
 
@@ -101,21 +101,21 @@ last_slash : (xs : List ℕ) → AllByRecursion IsClear xs → AllByRecursion (�
 last_slash [] h = (refl, (refl, (refl, (refl, (refl, (refl, tt))))))
 last_slash (x ∷ xs) h = (ne_eqb x 47 h.0.1, last_slash xs h.1)
 
-last_entry : (part : List ℕ) → IsEntry (part ++ codes ".class")
+last_entry : (part : List ℕ) → IsEntryName (part ++ codes ".class")
 last_entry part =
     let long : length (part ++ codes ".class") ≡ length part + 6 = length-append part (codes ".class") in
     (λ e. omega (arith, long, ap length e), λ e. omega (arith, long, ap length e), λ e. omega (arith, long, ap length e))
 
 abbrev AreEntries : List ℕ → Type 0
-AreEntries text = AllByRecursion IsEntry (slice_split is_slash text)
+AreEntries text = AllByRecursion IsEntryName (slice_split is_slash text)
 
 last_stays : (part : List ℕ) → AllByRecursion IsClear part → AreEntries (part ++ codes ".class")
 last_stays part h =
-    subst (AllByRecursion IsEntry) (sym (slice_split_none is_slash (part ++ codes ".class") (All-from_recursion (λ b. is_slash b ≡ false) _ (last_slash part h)))) (last_entry part, tt)
+    subst (AllByRecursion IsEntryName) (sym (slice_split_none is_slash (part ++ codes ".class") (All-from_recursion (λ b. is_slash b ≡ false) _ (last_slash part h)))) (last_entry part, tt)
 
 part_stays : (part rest : List ℕ) → 0 < length part → AllByRecursion IsClear part → AreEntries rest → AreEntries (part ++ 47 ∷ rest)
 part_stays part rest some h k =
-    subst (AllByRecursion IsEntry) (sym (slice_split_at is_slash part 47 rest (All-from_recursion (λ b. is_slash b ≡ false) part (no_slash part h)) refl)) (entry part some h, k)
+    subst (AllByRecursion IsEntryName) (sym (slice_split_at is_slash part 47 rest (All-from_recursion (λ b. is_slash b ≡ false) part (no_slash part h)) refl)) (entry part some h, k)
 
 nothing_more : (t : List ℕ) → utf8_of [] ≡ Some t → t ≡ []
 nothing_more t e = cc

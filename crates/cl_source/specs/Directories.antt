@@ -26,7 +26,7 @@ use Rattle.cl_source.specs.declared.source.SourceFault.{SourceFault}
 use Rattle.cl_source.specs.declared.source.SourceFault.TheVariants.{Memory, Device, TooLarge, Twice}
 use Rattle.cl_source.specs.Outcomes.{bytes_of}
 use Rattle.cl_source.specs.Views.{Found as Probed}
-use Rattle.cl_source.specs.Seen.{Seen, Missing, Refused, IsWithin, IsTooLarge}
+use Rattle.cl_source.specs.Seen.{Seen, Missing, Refused, GivesAtMost, IsTooLarge}
 use Rattle.cl_source.specs.declared.size.TheConstants.{MOST_CLASS_BYTES}
 
 -- what a directory's paths begin with; the empty one is the working directory
@@ -39,15 +39,15 @@ abbrev pub path_of : List ℕ → List ℕ → Option (List ℕ)
 path_of dir name = option_map (λ text. within dir ++ text ++ codes ".class") (plain_of name)
 
 -- the name of what stands in a folder: not the folder itself, nor the one above it
-abbrev pub IsEntry : List ℕ → Type 0
-IsEntry part = (part ≢ []) × (part ≢ codes ".") × (part ≢ codes "..")
+abbrev pub IsEntryName : List ℕ → Type 0
+IsEntryName part = (part ≢ []) × (part ≢ codes ".") × (part ≢ codes "..")
 
 -- a path that leads nowhere out of its directory: behind the directory's own path, each part between
 -- two / is the name of what stands in the folder before it
 pub record StaysWithin (dir path : List ℕ) : Type 0 where
   pub rest : List ℕ
   pub joined : path ≡ within dir ++ rest
-  pub parts : AllByRecursion IsEntry (slice_split (λ b. b == 0x2f) rest)
+  pub parts : AllByRecursion IsEntryName (slice_split (λ b. b == 0x2f) rest)
 
 -- the path of a name is looked at, and P holds of it
 pub record At (P : List ℕ → Type 0) (path : Option (List ℕ)) : Type 0 where
@@ -62,7 +62,7 @@ IsAbsent gives (Some path) = gives path Missing
 
 -- bytes that stand there, or nothing
 abbrev pub FoundAs : (List ℕ → Seen → Type 0) → Option (List ℕ) → Option (List ℕ) → Type 0
-FoundAs gives path (Some bytes) = At (λ p. IsWithin (gives p) MOST_CLASS_BYTES bytes) path
+FoundAs gives path (Some bytes) = At (λ p. GivesAtMost (gives p) MOST_CLASS_BYTES bytes) path
 FoundAs gives path None = IsAbsent gives path
 
 -- what a directory answers for a path, or for a name that has none: only what is missing is absent

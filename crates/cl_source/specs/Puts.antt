@@ -20,15 +20,17 @@ use Rattle.cl_source.specs.declared.source.SourceFault.TheVariants.{Memory, Devi
 use Rattle.cl_source.specs.declared.size.TheConstants.{MOST_CLASS_BYTES}
 
 -- the bytes are not too many for a class file
-abbrev pub Fits : List ℕ → Type 0
-Fits bytes = length bytes ≤ MOST_CLASS_BYTES
+abbrev pub BytesFit : List ℕ → Type 0
+BytesFit bytes = length bytes ≤ MOST_CLASS_BYTES
 
 -- why nothing could be put: too large comes before twice, and twice before out of memory
-abbrev pub Refuses : Content → ℕ → List ℕ → List ℕ → SourceFault → Type 0
-Refuses content loader name bytes TooLarge = MOST_CLASS_BYTES < length bytes
-Refuses content loader name bytes Twice = Fits bytes × IsSome (content_at content loader name)
-Refuses content loader name bytes Memory = Fits bytes × (content_at content loader name ≡ None)
-Refuses content loader name bytes Device = ⊥
+abbrev pub RefusesPut : Content → ℕ → List ℕ → List ℕ → SourceFault → Type 0
+RefusesPut content loader name bytes TooLarge = MOST_CLASS_BYTES < length bytes
+RefusesPut content loader name bytes Twice =
+    BytesFit bytes × IsSome (content_at content loader name)
+RefusesPut content loader name bytes Memory =
+    BytesFit bytes × (content_at content loader name ≡ None)
+RefusesPut content loader name bytes Device = ⊥
 
 -- the new content has these bytes for this loader and name, and for any other what the old one has
 abbrev pub TellsMore : Content → Content → ℕ → List ℕ → List ℕ → Type 0

@@ -34,13 +34,13 @@ pub record IsTooLarge (gives : Seen → Type 0) (most : ℕ) : Type 0 where
   pub large : most < length bytes
 
 -- bytes that stand there, not more than are wanted
-pub record IsWithin (gives : Seen → Type 0) (most : ℕ) (bytes : List ℕ) : Type 0 where
+pub record GivesAtMost (gives : Seen → Type 0) (most : ℕ) (bytes : List ℕ) : Type 0 where
   pub given : gives (Bytes bytes)
   pub small : length bytes ≤ most
 
 -- what reading a file may answer
 abbrev pub FileOf : (Seen → Type 0) → ℕ → Result (Option (List ℕ)) InputFault → Type 0
-FileOf gives most (Ok (Some bytes)) = IsWithin gives most bytes
+FileOf gives most (Ok (Some bytes)) = GivesAtMost gives most bytes
 FileOf gives most (Ok None) = gives Missing
 FileOf gives most (Err TooLarge) = IsTooLarge gives most
 FileOf gives most (Err Unread) = gives Refused

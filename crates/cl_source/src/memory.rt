@@ -1,9 +1,9 @@
 ghost use Rattle.std.specs.Prelude.{◌≡◌, ◌+◌, ◌<◌, ◌≤◌, ◌^◌, [], None, is_some, length, OnOk, OnErr, IfOk, IfErr, IsErrOf, IsOkUnless};
 ghost use Rattle.std.specs.Option.{option_map};
-ghost use Rattle.cl_model.specs.Content.{Content, content_at, Tells};
+ghost use Rattle.cl_model.specs.Content.{Content, content_at, TellsContent};
 ghost use Rattle.cl_source.specs.Counts.{Counts};
 ghost use Rattle.cl_source.specs.Told.{GivesContent};
-ghost use Rattle.cl_source.specs.Puts.{Fits, Refuses, TellsMore};
+ghost use Rattle.cl_source.specs.Puts.{BytesFit, RefusesPut, TellsMore};
 ghost use Rattle.cl_source.specs.Shelves.{content_from, Inserts};
 
 use crate::shelf::{NotPut, Shelf};
@@ -75,7 +75,7 @@ impl MemorySource {
         name: Name,
         bytes: Vec<u8>,
     ) -> Result<(), PutRefused>
-        ensures fits { OnOk result (Fits bytes.items) }
+        ensures fits { OnOk result (BytesFit bytes.items) }
         ensures absent { OnOk result (content_at self.old loader name ≡ None) }
         ensures one_more { OnOk result (Inserts self.old self.new (record {
           loader = loader;
@@ -83,7 +83,7 @@ impl MemorySource {
           bytes = bytes.items;
         })) }
         ensures told { OnOk result (TellsMore self.old self.new loader name bytes.items) }
-        ensures refused { IfErr result (λ e. Refuses self.old loader name bytes.items e.fault) }
+        ensures refused { IfErr result (λ e. RefusesPut self.old loader name bytes.items e.fault) }
         ensures unchanged { OnErr result (self.new ≡ self.old) }
         ensures name_returned { IfErr result (λ e. e.name ≡ name) }
         ensures bytes_returned { IfErr result (λ e. e.bytes.items ≡ bytes.items) }
@@ -116,7 +116,7 @@ impl MemorySource {
 
     /// The source of what was put, where that is what `T` tells, or it tells nothing.
     pub fn tell<T: Told>(self) -> Telling<T>
-        requires { Tells T.told self }
+        requires { TellsContent T.told self }
         ensures { result ≡ self }
     {
         let MemorySource { seed: _, shelves } = self;
@@ -140,14 +140,14 @@ impl<T: Told> Drop for Telling<T> {
 }
 
 impl<T: Told> Model for Telling<T> {
-    ghost use Rattle.cl_model.specs.Content.{Content, Tells};
+    ghost use Rattle.cl_model.specs.Content.{Content, TellsContent};
     ghost use Rattle.cl_source.specs.Shelves.{content_from};
 
     ghost Value = { Content };
 
     ghost view = { λ m. content_from 0 m.shelves.items };
 
-    ghost invariant = { λ m. Tells T.told (content_from 0 m.shelves.items) };
+    ghost invariant = { λ m. TellsContent T.told (content_from 0 m.shelves.items) };
 }
 
 impl<T: Told> Source<T> for Telling<T> {

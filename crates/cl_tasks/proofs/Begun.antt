@@ -18,7 +18,7 @@ use Rattle.cl_findings.specs.Loads.{IsFor}
 use Rattle.cl_registry.specs.Tables.{Shown}
 use Rattle.cl_tasks.specs.Ends.{IsOwnTarget}
 use Rattle.cl_tasks.specs.Facts.{AllHave, AreSo, Holds}
-use Rattle.cl_tasks.specs.Stages.{IsFirst, IsHoming, loading_at, target_facts, task_at}
+use Rattle.cl_tasks.specs.Stages.{JobBegins, IsHoming, loading_at, target_facts, task_at}
 use Rattle.cl_tasks.specs.Steps.{HoldsOn, LooksBy}
 use Rattle.cl_tasks.specs.Tasks.{Fact, Tasked}
 use Rattle.cl_tasks.specs.Turns.{AnswersOwn, Asks, GoesOnWith}
@@ -53,7 +53,7 @@ looks_at e = (cc, cc)
 
 -- ---- the first turn
 
-pub begins_own : {A : Type 0} (c : Configured) (j : Job A) (s : Stage A) (t : Turn A) → IsFirst j → IsFor j.request j.target j.path → LooksBy j s t → Asks (task_at c s) t → AnswersOwn (loading_at c (loads.Fresh j)) (task_at c s) reply.Start t
+pub begins_own : {A : Type 0} (c : Configured) (j : Job A) (s : Stage A) (t : Turn A) → JobBegins j → IsFor j.request j.target j.path → LooksBy j s t → Asks (task_at c s) t → AnswersOwn (loading_at c (loads.Fresh j)) (task_at c s) reply.Start t
 begins_own {A} c j s (turn.Look l n) first for looks asks =
     let own = own_looked j.request j.target j.path first.own first.alone for in
     let at = looks_at (sym (subst (λ (u : Stage _). (task_at c u).waits ≡ waits.Looking l n) looks asks)) in

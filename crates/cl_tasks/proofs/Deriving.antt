@@ -10,7 +10,7 @@ use Rattle.cl_hierarchy.specs.Frames.{Framed, frame_of, with_place}
 use Rattle.cl_hierarchy.specs.Paths.{Accepts, Completes, Pathed, at_loader, at_name, fresh, frames_of, sought_class, with_frame}
 use Rattle.cl_findings.specs.Findings.{Answered}
 use Rattle.cl_findings.specs.Loads.{IsSought}
-use Rattle.cl_tasks.specs.Deriving.{Derives, IsAtHome, IsNone, IsPast, IsSoughtHere, IsUnfound}
+use Rattle.cl_tasks.specs.Deriving.{Derives, IsHomeClass, IsNone, IsPast, IsSoughtHere, IsUnfound}
 use Rattle.cl_tasks.specs.Ends.{ConcludesBy}
 use Rattle.cl_tasks.specs.Stages.{task_at}
 use Rattle.cl_tasks.specs.Steps.{DefinesBy}
@@ -127,16 +127,16 @@ completes_derives j old place x n step (inr is) =
     (subst (λ (fs : List Frame). IsDerived fs c) (sym (map_last step.before x)) (subst (λ (q : Pathed). IsDerived (frames_of q ++ frame_of x ∷ []) c) step.now k)))))
 
 -- the class of a home is derived
-pub home_derives : {A : Type 0} (p : Pathed) (h : Located) (c : Class) (s : Stage A) → c ≡ class h.name h.place → Derives (λ k. k ≡ c) (frames_of p) s → Derives (IsAtHome h) (frames_of p) s
-home_derives p h c s is k = derives_more (λ k. k ≡ c) (IsAtHome h) (frames_of p) s (λ d e. e ∙ is) k
+pub home_derives : {A : Type 0} (p : Pathed) (h : Located) (c : Class) (s : Stage A) → c ≡ class h.name h.place → Derives (λ k. k ≡ c) (frames_of p) s → Derives (IsHomeClass h) (frames_of p) s
+home_derives p h c s is k = derives_more (λ k. k ≡ c) (IsHomeClass h) (frames_of p) s (λ d e. e ∙ is) k
 
 -- and the loader that is asked is its home
-pub sought_derives : {A : Type 0} (p : Pathed) (h : Located) (s : Stage A) → IsSought p h → h.place ≡ at_loader p → Derives (IsAtHome h) (frames_of p) s → Derives (IsSoughtHere p) (frames_of p) s
+pub sought_derives : {A : Type 0} (p : Pathed) (h : Located) (s : Stage A) → IsSought p h → h.place ≡ at_loader p → Derives (IsHomeClass h) (frames_of p) s → Derives (IsSoughtHere p) (frames_of p) s
 sought_derives p h s sought same k =
-    derives_more (IsAtHome h) (IsSoughtHere p) (frames_of p) s (λ d e. e ∙ ap (λ (n : List ℕ). class n h.place) sought.name ∙ ap (λ (l : ℕ). class (at_name p) l) same) k
+    derives_more (IsHomeClass h) (IsSoughtHere p) (frames_of p) s (λ d e. e ∙ ap (λ (n : List ℕ). class n h.place) sought.name ∙ ap (λ (l : ℕ). class (at_name p) l) same) k
 
 -- nothing was found there
-pub unfound_derives : {A B : Type 0} (p : Pathed) (h : Located) (o : Option B) (s : Stage A) → o ≡ None → Derives (IsAtHome h) (frames_of p) s → Derives (IsUnfound h o) (frames_of p) s
+pub unfound_derives : {A B : Type 0} (p : Pathed) (h : Located) (o : Option B) (s : Stage A) → o ≡ None → Derives (IsHomeClass h) (frames_of p) s → Derives (IsUnfound h o) (frames_of p) s
 unfound_derives p h o s is k = subst (λ (o : Option _). Derives (IsUnfound h o) (frames_of p) s) (sym is) k
 
 -- or something was

@@ -1,7 +1,7 @@
 -- What entries ask for, by the texts that they name (JVMS SE 8, 4.4.1, 4.4.2, 5.4.3).
 use Rattle.std.proofs.Common.{◌≡◌, ℕ, Bool, true, false, List, Option, Some, None, Result, Ok, Err, inl, inr, refl, sym, ap, subst, ◌∙◌}
 use Rattle.std.specs.Prelude.{option_map, IfOk, IfSome, if◌then◌else◌}
-use Rattle.cl_descriptors.specs.Answers.{Gives, IsArrayDescriptor}
+use Rattle.cl_descriptors.specs.Answers.{GivesReading, IsArrayDescriptor}
 use Rattle.cl_descriptors.specs.Reading.{whole_field, whole_method, within_field}
 use Rattle.cl_descriptors.specs.Types.{SpellsField, is_shallow}
 use Rattle.cl_descriptors.specs.declared.types.DescriptorFault.{DescriptorFault}
@@ -14,7 +14,7 @@ use Rattle.cl_classfile.specs.References.{IsFieldSymbol, IsMethodSymbol}
 use Rattle.cl_classfile.proofs.Classes.{class_begins}
 use Rattle.cl_classfile.proofs.Judging.{differ}
 use Rattle.cl_model.specs.Plans.{member_target}
-use Rattle.cl_tasks.specs.Cited.{AsksMember, AsksTarget, IsKind, TellsEntry, TellsReference, made_by}
+use Rattle.cl_tasks.specs.Cited.{AsksMember, AsksTarget, IsKind, TellsEntry, TellsReference, reference_of_kind}
 use Rattle.cl_tasks.specs.declared.cited.Asked.{Asked}
 use Rattle.cl_tasks.specs.declared.cited.Asked.TheVariants as asked
 use Rattle.cl_tasks.specs.declared.cited.Kind.{Kind}
@@ -27,14 +27,14 @@ array_of text (inl h) e = absurd (differ (is_array_name text) e (class_begins te
 array_of text (inr h) e = h
 
 -- the name of an array is read, unless memory ran out
-shallow_read : (t : FieldType) (fault : DescriptorFault) (b : Bool) → b ≡ true → Gives (Err fault) (if b then Ok t else Err TooManyDimensions) → (fault ≡ Memory → ⊥) → ⊥
+shallow_read : (t : FieldType) (fault : DescriptorFault) (b : Bool) → b ≡ true → GivesReading (Err fault) (if b then Ok t else Err TooManyDimensions) → (fault ≡ Memory → ⊥) → ⊥
 shallow_read t fault false e gives other = absurd cc
 shallow_read t Memory true e gives other = other refl
 shallow_read t Malformed true e gives other = absurd cc
 shallow_read t TooManyDimensions true e gives other = absurd cc
 shallow_read t TooManyUnits true e gives other = absurd cc
 
-pub array_read : (text : List ℕ) (fault : DescriptorFault) → NamesType text → is_array_name text ≡ true → ((t : FieldType) → SpellsField text t → Gives (Err fault) (within_field (Some t))) → (fault ≡ Memory → ⊥) → ⊥
+pub array_read : (text : List ℕ) (fault : DescriptorFault) → NamesType text → is_array_name text ≡ true → ((t : FieldType) → SpellsField text t → GivesReading (Err fault) (within_field (Some t))) → (fault ≡ Memory → ⊥) → ⊥
 array_read text fault names is only other =
     let a = array_of text names is in
     shallow_read a.0 fault (is_shallow a.0) a.2.0.shallow (only a.0 a.1) other
@@ -57,7 +57,7 @@ field_keyed s h = some_map _ (whole_field s.descriptor) h.descriptor.0 (whole_fi
 pub method_keyed : (s : Symbol) → IsMethodSymbol s → (k : Key) × (method_key s ≡ Some k)
 method_keyed s h = some_map _ (whole_method s.descriptor) h.descriptor.0 (whole_method_again s.descriptor h.descriptor.0 h.descriptor.1)
 
-asks_kind : (kind : Kind) (t : FieldType) (k : Key) (a : Asked) → AsksTarget (member_target t) a → TellsReference (made_by kind t k) a
+asks_kind : (kind : Kind) (t : FieldType) (k : Key) (a : Asked) → AsksTarget (member_target t) a → TellsReference (reference_of_kind kind t k) a
 asks_kind kinds.Field t k asked.ArrayMember asks = (asks, refl)
 asks_kind kinds.Field t k (asked.PrimitiveArray dims p) asks = absurd asks
 asks_kind kinds.Method t k asked.ArrayMember asks = (asks, refl)
@@ -69,7 +69,7 @@ asks_kind other t k another asks = asks
 -- what an entry of this kind is, by its symbol
 pub record IsTyped (kind : Kind) (text : Name) (o : Option Reference) : Type 0 where
   pub key : Key
-  pub is : o ≡ typed_by (made_by kind) (named_type text) (Some key)
+  pub is : o ≡ typed_by (reference_of_kind kind) (named_type text) (Some key)
 
 pub typed_field : (s : Symbol) (o : Option Reference) → IsFieldSymbol s → typed (CitesField s) ≡ o → IsTyped kinds.Field s.class o
 typed_field s o h e = let k = field_keyed s h in record { key = k.0; is = sym e ∙ ap (typed_by ToField (named_type s.class)) k.1 }
@@ -83,7 +83,7 @@ typed_interface s o h e = let k = method_keyed s h in record { key = k.0; is = s
 member_tells : (kind : Kind) (text : Name) (o : Option Reference) (a : Asked) → IsTyped kind text o → AsksMember text a → TellsEntry o a
 member_tells kind text o a typed asks =
     subst (λ (r : Option Reference). TellsEntry r a) (sym typed.is)
-    (subst (λ (t : Option FieldType). TellsEntry (typed_by (made_by kind) t (Some typed.key)) a) (sym asks.named) (asks_kind kind asks.target typed.key a asks.asks))
+    (subst (λ (t : Option FieldType). TellsEntry (typed_by (reference_of_kind kind) t (Some typed.key)) a) (sym asks.named) (asks_kind kind asks.target typed.key a asks.asks))
 
 pub member_tells_ok : {E : Type 0} (kind : Kind) (text : Name) (o : Option Reference) (r : Result Asked E) → IsTyped kind text o → IfOk r (AsksMember text) → IfOk r (TellsEntry o)
 member_tells_ok kind text o (Ok a) typed asks = member_tells kind text o a typed asks
@@ -95,7 +95,7 @@ member_kind kind k text name o typed same targets =
     (record {
       target = targets.target;
       key = typed.key;
-      refers = typed.is ∙ ap (λ (t : Option FieldType). typed_by (made_by kind) t (Some typed.key)) targets.named;
+      refers = typed.is ∙ ap (λ (t : Option FieldType). typed_by (reference_of_kind kind) t (Some typed.key)) targets.named;
       named = targets.asks;
     })
 

@@ -11,7 +11,7 @@ use Rattle.cl_model.specs.States.{State, recorded}
 use Rattle.cl_model.specs.Works.{Ask}
 use Rattle.cl_model.proofs.Asks.{same_asked}
 use Rattle.cl_hierarchy.specs.Paths.{Pathed, at_loader}
-use Rattle.cl_tasks.specs.Calls.{ask_for, ask_of, away_calls, hand_calls, in_hand, is_open, is_unrecorded}
+use Rattle.cl_tasks.specs.Calls.{ask_for, ask_of, away_calls, hand_calls, in_hand, is_to_record, is_unrecorded}
 use Rattle.cl_tasks.specs.Rooms.{away_hand}
 use Rattle.cl_tasks.specs.Stages.{sought_ask}
 
@@ -51,7 +51,7 @@ other_loader a b h = at (same_ask a b) refl
 
 -- ---- what is open
 
-pub open_parts : (s : State) (absent hand : List Ask) (a : Ask) → is_open s absent hand a ≡ true → ((list_any (same_ask a) absent || is_unrecorded s a) ≡ true) × IsNone a hand
+pub open_parts : (s : State) (absent hand : List Ask) (a : Ask) → is_to_record s absent hand a ≡ true → ((list_any (same_ask a) absent || is_unrecorded s a) ≡ true) × IsNone a hand
 open_parts s absent hand a h = at (list_any (same_ask a) absent || is_unrecorded s a) (list_any (same_ask a) hand) h
   where
     at : (x y : Bool) → (x && not y) ≡ true → (x ≡ true) × (y ≡ false)
@@ -59,11 +59,11 @@ open_parts s absent hand a h = at (list_any (same_ask a) absent || is_unrecorded
     at true false h = (refl, refl)
     at false y h = absurd cc
 
-pub open_of : (s : State) (absent hand : List Ask) (a : Ask) → (list_any (same_ask a) absent || is_unrecorded s a) ≡ true → IsNone a hand → is_open s absent hand a ≡ true
+pub open_of : (s : State) (absent hand : List Ask) (a : Ask) → (list_any (same_ask a) absent || is_unrecorded s a) ≡ true → IsNone a hand → is_to_record s absent hand a ≡ true
 open_of s absent hand a h k = rw h (rw k refl)
 
 -- what is in hand is not open
-pub hand_closed : (s : State) (absent hand : List Ask) (a : Ask) → list_any (same_ask a) hand ≡ true → is_open s absent hand a ≡ false
+pub hand_closed : (s : State) (absent hand : List Ask) (a : Ask) → list_any (same_ask a) hand ≡ true → is_to_record s absent hand a ≡ false
 hand_closed s absent hand a h = at (list_any (same_ask a) absent || is_unrecorded s a) (list_any (same_ask a) hand) h
   where
     at : (x y : Bool) → y ≡ true → (x && not y) ≡ false

@@ -12,7 +12,7 @@ use Rattle.cl_config.specs.Views.{Configured}
 use Rattle.cl_hierarchy.specs.Rows.{FitsAs, Rowed}
 use Rattle.cl_hierarchy.specs.Drafts.{Drafted}
 use Rattle.cl_hierarchy.specs.Frames.{Framed, accepted_of, frame_of, with_place}
-use Rattle.cl_hierarchy.specs.Paths.{Pathed, frames_of, fresh, name_of, sought, at_loader, at_name, Stands, AllStand, IsPath, with_frame, misfit_in, misfit_under, Accepts, Completes}
+use Rattle.cl_hierarchy.specs.Paths.{Pathed, frames_of, fresh, name_of, sought, at_loader, at_name, FrameStands, AllStand, IsPath, with_frame, misfit_in, misfit_under, Accepts, Completes}
 use Rattle.cl_model.proofs.Stacks.{complete_is_kept}
 use Rattle.cl_model.proofs.Ancestors.{class_at}
 use Rattle.cl_hierarchy.proofs.Frames.{accepts_one}
@@ -65,7 +65,7 @@ pub sought_last : (name : Name) (xs : List Framed) (x : Framed) → sought name 
 sought_last name [] x = refl
 sought_last name (y ∷ ys) x = sought_last (name_of (wanted (frame_of y))) ys x
 
-pub stands_last : (c : Configured) (loader : ℕ) (name : Name) (xs : List Framed) (x : Framed) → AllStand c loader name (xs ++ x ∷ []) → Stands c (asking loader (map frame_of xs)) (sought name xs) x
+pub stands_last : (c : Configured) (loader : ℕ) (name : Name) (xs : List Framed) (x : Framed) → AllStand c loader name (xs ++ x ∷ []) → FrameStands c (asking loader (map frame_of xs)) (sought name xs) x
 stands_last c loader name [] x h = h.0
 stands_last c loader name (y ∷ ys) x h = stands_last c y.draft.class.loader (name_of (wanted (frame_of y))) ys x h.1
 
@@ -77,7 +77,7 @@ pub record Top (p : Pathed) (before : List Framed) (last : Framed) : Type 0 wher
   pub name : at_name p ≡ above.name
   pub judged : (t : Class) (f : File) → misfit_under p.frames t f ≡ misfit last.draft.class above.role t f
   pub frames : frames_of p ≡ map frame_of before ++ frame_of last ∷ []
-  pub stands : Stands p.config (asking p.loader (map frame_of before)) (sought p.name before) last
+  pub stands : FrameStands p.config (asking p.loader (map frame_of before)) (sought p.name before) last
 
 pub some_of : (o : Option Above) → IsSome o → (a : Above) × (o ≡ Some a)
 some_of None h = absurd cc

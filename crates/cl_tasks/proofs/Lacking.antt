@@ -12,7 +12,7 @@ use Rattle.cl_source.specs.declared.source.SourceFault.{SourceFault}
 use Rattle.cl_source.specs.declared.source.SourceFault.TheVariants as faults
 use Rattle.cl_findings.specs.Findings.{Answered}
 use Rattle.cl_tasks.specs.Ends.{ConcludesBy}
-use Rattle.cl_tasks.specs.Follows.{IsResolution, Posts, fault_answer}
+use Rattle.cl_tasks.specs.Follows.{ResolvesReference, Posts, fault_answer}
 use Rattle.cl_tasks.specs.Turns.{PostsOr}
 use Rattle.cl_tasks.specs.Waits.{Reading}
 use Rattle.cl_tasks.specs.declared.ends.Aftermath.{Aftermath}
@@ -55,5 +55,5 @@ concludes_lacks q f v aftermaths.Answer n said by h = said_memory v (sym said �
 concludes_lacks q f v (aftermaths.Check r loader name) n said by h = subst (λ (m : Next _). Posts answers.Memory m.turn) by h
 concludes_lacks q f v (aftermaths.Settle e) n said by h = subst (λ (m : Next _). Posts answers.Memory m.turn) by h
 
-pub resolution_is : (r : Request) (l : ℕ) (n : List ℕ) (i : ℕ) → r ≡ requests.Resolve l n i → IsResolution r
-resolution_is r l n i is = subst IsResolution (sym is) tt
+pub resolution_is : (r : Request) (l : ℕ) (n : List ℕ) (i : ℕ) → r ≡ requests.Resolve l n i → ResolvesReference r
+resolution_is r l n i is = subst ResolvesReference (sym is) tt

@@ -12,16 +12,16 @@ use Rattle.cl_model.proofs.Derived.{all_both}
 use Rattle.cl_hierarchy.specs.Frames.{accepted_of}
 use Rattle.cl_hierarchy.specs.Lineages.{IsInOrder, Lined, rows_in}
 use Rattle.cl_hierarchy.specs.Rows.{Rowed}
-use Rattle.cl_hierarchy.specs.Trees.{AllKnown, IsAfter, SupersBefore, interfaces_in, kin_named, kin_under, kins_after, superclass_in}
+use Rattle.cl_hierarchy.specs.Trees.{AllKnown, MayComeAfter, SupersBefore, interfaces_in, kin_named, kin_under, kins_after, superclass_in}
 use Rattle.cl_hierarchy.proofs.RowTables.{before_push}
 use Rattle.cl_registry.specs.Imposing.{IsPreparedAbove}
 use Rattle.cl_registry.specs.Tables.{ArePlaced, IsPlaced, Shown, records_of, state_of}
 
 -- ---- a row stands after its supertypes
 
-after_at : (known : List Kin) (rows : List Rowed) (k : ℕ) (r : Rowed) → SupersBefore known rows → slice_get rows k ≡ Some r → IsAfter (kins_after known (take k rows)) r
+after_at : (known : List Kin) (rows : List Rowed) (k : ℕ) (r : Rowed) → SupersBefore known rows → slice_get rows k ≡ Some r → MayComeAfter (kins_after known (take k rows)) r
 after_at known [] k r h e = absurd cc
-after_at known (x ∷ rows) zero r h e = subst (λ (y : Rowed). IsAfter known y) (some_same x r e) h.0
+after_at known (x ∷ rows) zero r h e = subst (λ (y : Rowed). MayComeAfter known y) (some_same x r e) h.0
 after_at known (x ∷ rows) (suc k) r h e = after_at (kin_under known x ∷ known) rows k r h.1 e
 
 -- ---- what is known has the property

@@ -8,7 +8,7 @@ use Rattle.cl_model.specs.declared.event.Event.{Event}
 use Rattle.cl_model.specs.declared.need.Need as rust
 use Rattle.cl_model.specs.declared.need.Need.TheVariants as needs
 use Rattle.cl_model.specs.declared.event.Event.TheVariants as events
-use Rattle.cl_model.specs.States.{State, Record, Equality, start, Answer, recorded, IsPath, Refused, Entry, Equal, Clashes}
+use Rattle.cl_model.specs.States.{State, Record, Equality, start, Answer, recorded, IsPathBetween, Refused, Entry, Equal, Clashes}
 use Rattle.cl_model.specs.Machine.{after, state_after}
 use Rattle.cl_model.specs.Texts.{EventNames, NeedNames}
 use Rattle.cl_model.specs.Views.{answers_of, answer_at, need_of, post_of, step_of, steps_of}
@@ -70,7 +70,7 @@ shown_named x names =
 
 -- ---- what is refused
 
-path_named : (count : ℕ) (s : State) (name : Name) (a b : ℕ) (path : List ℕ) → AreNamed count s → IsPath s.equalities name a path b → b < count → a < count
+path_named : (count : ℕ) (s : State) (name : Name) (a b : ℕ) (path : List ℕ) → AreNamed count s → IsPathBetween s.equalities name a path b → b < count → a < count
 path_named count s name a b [] named along below = subst (λ (l : ℕ). l < count) (sym along) below
 path_named count s name a b (c ∷ cs) named along below =
     let e = named.equalities along.0.equality along.0.imposed in

@@ -13,7 +13,7 @@ use Rattle.cl_model.specs.States.{State, Need, IsLinked, AllMet, IsNext, IsRecor
 use Rattle.cl_model.specs.Plans.{Link, Plan}
 use Rattle.cl_model.specs.Machine.{Setting, HasLineage, IsPlan, IsSound, Prepare, step_for}
 use Rattle.cl_model.specs.Service.{IsLinkedIn, IsNextNeed, IsNextStep}
-use Rattle.cl_model.specs.References.{GoesOn}
+use Rattle.cl_model.specs.References.{PlanGoesOn}
 use Rattle.cl_model.specs.Views.{request_of}
 use Rattle.cl_model.proofs.Derivations.{all_map}
 use Rattle.cl_model.proofs.Gone.{gone_on_next, link_goes_on}
@@ -105,7 +105,7 @@ chain_within g s r l p sound is kept lin plan =
     links_within w (loader_of r) l.own.class.name p l.own.class (kin_of l) of reached has
 
 module _ (g : Setting) (s : State) (r : request.Request) (l at : Lined) (place : ℕ) (sound : IsSound g s) (is : r ≡ requests.Link (loader_of r) l.own.class.name) (here : IsThere g s (loader_of r) l at place) where
-  goes : GoesOn g.world s (Link (loader_of r) l.own.class.name) l.own.class (flat_map constraints_of (lineage (kin_of l))) (IsLinked l.own.class)
+  goes : PlanGoesOn g.world s (Link (loader_of r) l.own.class.name) l.own.class (flat_map constraints_of (lineage (kin_of l))) (IsLinked l.own.class)
   goes = link_goes_on g.world s (loader_of r) l.own.class.loader l.own.class.name (kin_of l) sound.closed here.kept here.has
 
   -- an equality of the class comes next, where those before it are met

@@ -28,12 +28,12 @@ use Rattle.cl_tasks.specs.Ends.{IsOwnTarget, RefusedOn}
 use Rattle.cl_tasks.specs.Facts.{IsRecordedAs}
 use Rattle.cl_tasks.specs.Calls.{ask_for, away_calls}
 use Rattle.cl_tasks.specs.Deriving.{Derives, IsNone, IsPast, IsSoughtHere, IsUnfound}
-use Rattle.cl_tasks.specs.Follows.{EndsAsRefused, IsResolution, Posts, PostsNoFault, Tells, TellsNow, fault_answer}
+use Rattle.cl_tasks.specs.Follows.{EndsAsRefused, ResolvesReference, Posts, PostsNoFault, Tells, TellsNow, fault_answer}
 use Rattle.cl_tasks.specs.Measures.{left_at}
 use Rattle.cl_tasks.specs.Measures as phases
 use Rattle.cl_tasks.specs.Rooms.{Room, calls_at, calls_found, last_room, past_room, room_at}
-use Rattle.cl_tasks.specs.Stages.{IsFirst, IsHoming, IsJob, IsSearch, job_calls, loading_at, next_place, past_left, probes_left, sought_ask, task_at}
-use Rattle.cl_tasks.specs.Steps.{FindsBy, FindsHome, Finds, HoldsOn, IsPlain, Leads, LeadsAt, LeadsFrom, LeadsHome, LeadsOn, LooksBy, ReadsAt, ReadsOn, Steps, task_room, way_on}
+use Rattle.cl_tasks.specs.Stages.{JobBegins, IsHoming, IsJob, IsSearch, job_calls, loading_at, next_place, past_left, probes_left, sought_ask, task_at}
+use Rattle.cl_tasks.specs.Steps.{FindsBy, FindsHome, FindsRow, HoldsOn, IsPlain, Leads, LeadsAt, LeadsFrom, LeadsHome, LeadsOn, LooksBy, ReadsAt, ReadsOn, Steps, task_room, way_on}
 use Rattle.cl_tasks.specs.Tasks.{Tasked}
 use Rattle.cl_tasks.specs.Turns.{GoesOnWith, IsBehind, IsReadNext, ReadsUnrecorded, WasAbsent, way_of}
 use Rattle.cl_tasks.specs.Waits as waits
@@ -67,7 +67,7 @@ posts_reads t r a u h = (of_reads u).0 t r (λ l n e. absurd (subst (λ (v : Tur
 
 -- ---- the first turn
 
-pub steps_begun : {A : Type 0} (told : Option Content) (j : Job A) (n : Next A) → IsFirst j → IsFor j.request j.target j.path → LeadsAt told phases.Fresh j (HoldsOn j) n → LooksBy j n.stage n.turn → IsPlain n.turn → Derives IsNone (frames_of j.path) n.stage
+pub steps_begun : {A : Type 0} (told : Option Content) (j : Job A) (n : Next A) → JobBegins j → IsFor j.request j.target j.path → LeadsAt told phases.Fresh j (HoldsOn j) n → LooksBy j n.stage n.turn → IsPlain n.turn → Derives IsNone (frames_of j.path) n.stage
     → Steps told (loading_at j.path.config (loads.Fresh j)) reply.Start n
 steps_begun told j n first for l looks plain derives =
     plain_steps (loading_at j.path.config (loads.Fresh j)) reply.Start n refl refl refl l (omega arith) (fewer_holds told j _ [] [] 0 1 1 (omega arith))
@@ -91,7 +91,7 @@ steps_unrecorded {A = A} told c j n e job path l no_fault derives reads = record
   own = tt;
 }
 
-pub steps_looked : {A : Type 0} (told : Option Content) (c : Configured) (j : Job A) (row : Arc (ClassRow A) Global) (n : Next A) → j.path.config ≡ c → IsPath told j.path → LeadsAt told phases.Initiating j (Finds j row.value) n → IsPlain n.turn
+pub steps_looked : {A : Type 0} (told : Option Content) (c : Configured) (j : Job A) (row : Arc (ClassRow A) Global) (n : Next A) → j.path.config ≡ c → IsPath told j.path → LeadsAt told phases.Initiating j (FindsRow j row.value) n → IsPlain n.turn
     → (IsOwnTarget j.target → j.path.frames ≡ [] → GoesOnWith j.request row.value.class (task_at c n.stage) n.turn) → Derives IsNone (frames_of j.path) n.stage → Steps told (loading_at c (loads.Looking j)) (reply.Looked (Some row)) n
 steps_looked told c j row n e path l plain goes derives =
     let k : room_at phases.Initiating j 0 < room_at phases.Looking j 0 = less_room (past_left j.target) (left_at phases.Initiating (frames_of j.path) 0) (left_at phases.Looking (frames_of j.path) 0) (joins_less told j.path phases.Looking 0 0 path tt) in
@@ -181,7 +181,7 @@ define_refused x c j w need is t = record {
 }
 
 pub steps_define_refused : {A : Type 0} (told : Option Content) (c : Configured) (j : Job A) (w : Framed) (need : needs.Need) (n : Next A) → j.path.config ≡ c → need_of need ≡ next_need {A = A} (nexts.Define w) → Leads told j (past_room j) (RefusedOn {A = A} {B = A} j (nexts.Define w)) n
-    → IsPlain n.turn → EndsAsRefused j.request need n.turn → IsPast n.stage → (Posts answers.Memory n.turn → IsResolution j.request) → Steps told (loading_at c (loads.Defining j w)) (reply.Refused need) n
+    → IsPlain n.turn → EndsAsRefused j.request need n.turn → IsPast n.stage → (Posts answers.Memory n.turn → ResolvesReference j.request) → Steps told (loading_at c (loads.Defining j w)) (reply.Refused need) n
 steps_define_refused {A} told c j w need n e is l plain ends past lacks =
     plain_steps (loading_at c (loads.Defining j w)) (reply.Refused need) n e refl refl l (omega arith)
     (past_made told j _ [] (sought_ask j.path ∷ ask_for w.draft.class ∷ []) (1 + away_calls (at_loader j.path) w.draft.class.loader) (omega arith))
@@ -189,13 +189,13 @@ steps_define_refused {A} told c j w need n e is l plain ends past lacks =
 
 -- ---- a record of the loader that was asked
 
-initiated_finds : {A : Type 0} (x : Shown) (c : Configured) (j : Job A) (h : Arc (Home A) Global) (row : Arc (ClassRow A) Global) → IsSought j.path h.value → Tells {A = A} x (loading_at c (loads.Initiating j h)) (reply.Initiated row) → Finds j row.value x
+initiated_finds : {A : Type 0} (x : Shown) (c : Configured) (j : Job A) (h : Arc (Home A) Global) (row : Arc (ClassRow A) Global) → IsSought j.path h.value → Tells {A = A} x (loading_at c (loads.Initiating j h)) (reply.Initiated row) → FindsRow j row.value x
 initiated_finds x c j h row sought t = record {
   before = record { frames = t.before.frames; facts = t.before.facts.1 };
   now = subst (λ (l : ℕ). IsRecordedAs x l (at_name j.path) row.value) sought.asked (subst (λ (name : List ℕ). IsRecordedAs x h.value.asked name row.value) sought.name t.now);
 }
 
-pub steps_initiated : {A : Type 0} (told : Option Content) (c : Configured) (j : Job A) (h : Arc (Home A) Global) (row : Arc (ClassRow A) Global) (n : Next A) → j.path.config ≡ c → IsSought j.path h.value → LeadsAt told phases.Initiating j (Finds j row.value) n → IsPlain n.turn
+pub steps_initiated : {A : Type 0} (told : Option Content) (c : Configured) (j : Job A) (h : Arc (Home A) Global) (row : Arc (ClassRow A) Global) (n : Next A) → j.path.config ≡ c → IsSought j.path h.value → LeadsAt told phases.Initiating j (FindsRow j row.value) n → IsPlain n.turn
     → Derives IsNone (frames_of j.path) n.stage → (IsOwnTarget j.target → j.path.frames ≡ [] → GoesOnWith j.request row.value.class (task_at c n.stage) n.turn) → Steps told (loading_at c (loads.Initiating j h)) (reply.Initiated row) n
 steps_initiated told c j h row n e sought l plain derives goes =
     plain_steps (loading_at c (loads.Initiating j h)) (reply.Initiated row) n e refl refl l (omega arith)
@@ -210,7 +210,7 @@ initiate_refused x c j h need is t = record {
 }
 
 pub steps_initiate_refused : {A : Type 0} (told : Option Content) (c : Configured) (j : Job A) (h : Arc (Home A) Global) (need : needs.Need) (n : Next A) → j.path.config ≡ c → need_of need ≡ next_need {A = A} (nexts.Initiate h) → Leads told j (past_room j) (RefusedOn {A = A} {B = A} j (nexts.Initiate h)) n
-    → IsPlain n.turn → EndsAsRefused j.request need n.turn → IsPast n.stage → (Posts answers.Memory n.turn → IsResolution j.request) → Steps told (loading_at c (loads.Initiating j h)) (reply.Refused need) n
+    → IsPlain n.turn → EndsAsRefused j.request need n.turn → IsPast n.stage → (Posts answers.Memory n.turn → ResolvesReference j.request) → Steps told (loading_at c (loads.Initiating j h)) (reply.Refused need) n
 steps_initiate_refused {A} told c j h need n e is l plain ends past lacks =
     plain_steps (loading_at c (loads.Initiating j h)) (reply.Refused need) n e refl refl l (omega arith) (past_made told j _ [] (sought_ask j.path ∷ []) 1 (omega arith))
     (λ x t. initiate_refused {A = A} x c j h need is t) ends tt lacks (past_derives _ _ n.stage past) tt plain

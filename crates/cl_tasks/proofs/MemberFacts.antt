@@ -14,9 +14,9 @@ use Rattle.cl_delegation.proofs.Ways.{find_in}
 use Rattle.cl_hierarchy.specs.Imposed.{Listed, OfReference, equal_need, needs_of}
 use Rattle.cl_hierarchy.specs.Lineages.{IsRowIn, Lined, rows_in}
 use Rattle.cl_hierarchy.specs.Rows.{Rowed}
-use Rattle.cl_members.specs.Asking.{IsDeniedIn, IsLocated, Located, asked_key}
+use Rattle.cl_members.specs.Asking.{IsDeniedIn, IsLocated, LocatedMember, asked_key}
 use Rattle.cl_members.specs.Asking as asking
-use Rattle.cl_members.specs.Asking.{IsOf as IsFoundOf}
+use Rattle.cl_members.specs.Asking.{IsFoundOf}
 use Rattle.cl_members.specs.declared.fault.LookupFault.{LookupFault}
 use Rattle.cl_members.specs.declared.fault.LookupFault.TheVariants as faults
 use Rattle.cl_findings.specs.References.{GoesTo, IsOfFound, fault_verdict, reference_needs}
@@ -144,7 +144,7 @@ asked_owner (ToMethod t k) v owner key asks e = method_owner v owner key e
 asked_owner (ToInterfaceMethod t k) v owner key asks e = method_owner v owner key e
 
 -- what was found is settled
-pub found_owner : (f : Located) (v : verdict.Verdict) → IsLocated f → IsOfFound f (verdict_of v) → IsOfOwner v f.owner.class
+pub found_owner : (f : LocatedMember) (v : verdict.Verdict) → IsLocated f → IsOfFound f (verdict_of v) → IsOfOwner v f.owner.class
 found_owner f v is of = asked_owner is.cites.cited v f.owner.class f.key is.asks (of is.cites.cited is.cites.found)
 
 error_names : (kind : _) (c owner : Class) → owner ≡ c → IsOfOwner (verdicts.Error kind c) owner

@@ -37,7 +37,7 @@ use Rattle.cl_registry.proofs.Schedules.{some_at}
 use Rattle.cl_registry.specs.Settling.{IsSettledKind}
 use Rattle.cl_tasks.specs.Follows.{IsWanted, ServedIn}
 use Rattle.cl_tasks.specs.Measures.{imposing_left, most, tracing_named_left}
-use Rattle.cl_tasks.specs.Resolving.{EntryTold, ImposedTold, IsInaccessible, IsSame, OwnTold, RefusedTold, TracedTold}
+use Rattle.cl_tasks.specs.Resolving.{EntryTold, ImposedTold, IsInaccessible, IsSame, OwnTold, MemberRefusedTold, TracedTold}
 use Rattle.cl_tasks.specs.Rooms.{Room, imposing_room, settle_room, tracing_named_room, tracing_own_room}
 use Rattle.cl_tasks.specs.Stages.{IsEntry, IsMember}
 use Rattle.cl_tasks.specs.Steps.{LeadsBy}
@@ -198,11 +198,11 @@ module _ {A : Type 0} (told : Option Content) (c : Configured) (m : Member A) (m
 
   pub refused_leads : (i : ℕ) (kept : entries.Entry A) (f : Answered) (need : rust.Need) → IsSame m.entry kept
       → f ≡ grounded m.entry.request (verdicts.Linkage need) (asked_basis m.entry.request m.equalities.value i (Some (need_of need))) → Rests told f
-      → LeadsBy told c m.entry.q m.entry.request settle_room (RefusedTold m i (need_of need)) (record { stage = stages.Resolve (resolutions.Settling kept); turn = turn.Settle f })
+      → LeadsBy told c m.entry.q m.entry.request settle_room (MemberRefusedTold m i (need_of need)) (record { stage = stages.Resolve (resolutions.Settling kept); turn = turn.Settle f })
   refused_leads i kept f need same is rests =
       let b : Based = asked_basis m.entry.request m.equalities.value i (Some (need_of need)) in
       let v : verdict.Verdict = verdicts.Linkage need in
-      let stood : Stood told c m.entry.request v b (RefusedTold m i (need_of need)) = record {
+      let stood : Stood told c m.entry.request v b (MemberRefusedTold m i (need_of need)) = record {
         rests = subst (λ (a : Answered). Rests told a) is rests;
         config = config_is;
         unprepared = refl;
@@ -210,7 +210,7 @@ module _ {A : Type 0} (told : Option Content) (c : Configured) (m : Member A) (m
         refused = λ x h. h.now;
         within = λ x config loaders h. record { loader = within_same c x (loader_of m.entry.request) config member.entry.asked; answer = refused_named x need loaders h.now };
       } in
-      leads_settle {A = A} told c m.entry kept f v b settle_room (RefusedTold m i (need_of need)) member.entry same is stood (record { is_entry = λ h. cc; is_class_member = λ h. cc }) (λ x h. member_entry c x m i member h.before) (omega arith) (λ w p s. omega arith)
+      leads_settle {A = A} told c m.entry kept f v b settle_room (MemberRefusedTold m i (need_of need)) member.entry same is stood (record { is_entry = λ h. cc; is_class_member = λ h. cc }) (λ x h. member_entry c x m i member h.before) (omega arith) (λ w p s. omega arith)
 
 -- ---- the member
 

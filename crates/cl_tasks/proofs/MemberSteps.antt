@@ -23,9 +23,9 @@ use Rattle.cl_registry.proofs.Schedules.{some_at}
 use Rattle.cl_tasks.specs.Calls.{past_loads}
 use Rattle.cl_tasks.specs.Facts.{AreSo}
 use Rattle.cl_tasks.specs.Deriving.{IsPast}
-use Rattle.cl_tasks.specs.Follows.{EndsAsRefused, IsResolution, IsSettledOf, Tells}
+use Rattle.cl_tasks.specs.Follows.{EndsAsRefused, ResolvesReference, IsSettledOf, Tells}
 use Rattle.cl_tasks.specs.Measures.{imposing_left, settling_left, tracing_named_left, tracing_own_left}
-use Rattle.cl_tasks.specs.Resolving.{ImposedTold, OwnTold, RefusedTold, TracedTold}
+use Rattle.cl_tasks.specs.Resolving.{ImposedTold, OwnTold, MemberRefusedTold, TracedTold}
 use Rattle.cl_tasks.specs.Rooms.{imposing_room, room_of, settle_room, tracing_named_room, tracing_own_room}
 use Rattle.cl_tasks.specs.Stages.{IsEntry, named_facts, resolving_at}
 use Rattle.cl_tasks.specs.Steps.{IsPlain, LeadsBy, Steps}
@@ -85,7 +85,7 @@ two_less : (m p : ℕ) → p < m → 2 ≤ imposing_left (m - p)
 two_less m p lt = omega (arith, lt)
 
 pub refused_steps : {A : Type 0} (told : Option Content) (c : Configured) (m : Member A) (i : ℕ) (need : rust.Need) (n : Next A) → i < length m.equalities.value.needs
-    → LeadsBy told c m.entry.q m.entry.request settle_room (RefusedTold m i (need_of need)) n → IsPlain n.turn → IsPast n.stage → EndsAsRefused m.entry.request need n.turn → IsResolution m.entry.request → Steps told (resolving_at c (resolutions.Imposing m i)) (reply.Refused need) n
+    → LeadsBy told c m.entry.q m.entry.request settle_room (MemberRefusedTold m i (need_of need)) n → IsPlain n.turn → IsPast n.stage → EndsAsRefused m.entry.request need n.turn → ResolvesReference m.entry.request → Steps told (resolving_at c (resolutions.Imposing m i)) (reply.Refused need) n
 refused_steps told c m i need n lt l plain past ends resolves =
     plain_steps (resolving_at c (resolutions.Imposing m i)) (reply.Refused need) n refl refl refl l (two_less (length m.equalities.value.needs) i lt) (λ g x p served is h. omega arith)
     (λ x h. record { before = h.before.facts; now = h.now }) ends tt (λ h. resolves) (past_derives _ [] n.stage past) tt plain

@@ -23,7 +23,7 @@ use Rattle.cl_config.specs.Views.{Configured}
 use Rattle.cl_delegation.specs.Searches.{LeadsTo, Located}
 use Rattle.cl_delegation.specs.Worlds.{world_of}
 use Rattle.cl_findings.specs.Bases.{IsSpeltIn}
-use Rattle.cl_findings.specs.Loads.{IsSought, IsWhole, KeepsRules}
+use Rattle.cl_findings.specs.Loads.{IsSought, IsWhole, FrameKeepsRules}
 use Rattle.cl_findings.proofs.Loads.{under}
 use Rattle.cl_hierarchy.specs.Drafts.{Drafted}
 use Rattle.cl_hierarchy.specs.Frames.{Framed, frame_of, with_place}
@@ -328,7 +328,7 @@ frame_opens told j f job path named g x p served is holds frame =
 pub root_holds : {A : Type 0} (told : Option Content) (j : Job A) (x : Framed) → IsJob told j.path.config j → IsPath told j.path → IsWhole told j.path x
     → Holds told j (HoldsOn j) 0 (job_calls [] (sought_ask j.path ∷ ask_for x.draft.class ∷ []) (1 + away_calls (at_loader j.path) x.draft.class.loader) j) (calls_at phases.Homing j x.draft.class.loader)
 root_holds told j x job path whole = λ g y p served is holds.
-    let rules : KeepsRules (Some served.content) j.path x = subst (λ (o : Option Content). KeepsRules o j.path x) served.told_so whole.rules in
+    let rules : FrameKeepsRules (Some served.content) j.path x = subst (λ (o : Option Content). FrameKeepsRules o j.path x) served.told_so whole.rules in
     let frame : IsFrame g.world (path_of [] (frames_of j.path)) (at_loader j.path) (at_name j.path) (frame_of x) =
     subst (λ (v : World). IsFrame v (path_of [] (frames_of j.path)) (at_loader j.path) (at_name j.path) (frame_of x)) (sym (world_is served)) rules in
     let falls = frame_opens told j (frame_of x) job path whole.named g y p served is holds frame in

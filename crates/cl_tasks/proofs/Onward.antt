@@ -40,11 +40,11 @@ use Rattle.cl_registry.specs.Tables.{MayEnter, Shown, records_of, state_of}
 use Rattle.cl_tasks.specs.Facts.{IsRecordedAs}
 use Rattle.cl_tasks.specs.Calls.{Calls, ask_for, away_calls}
 use Rattle.cl_tasks.specs.Follows.{CallsWithin, IsWanted, ServedIn}
-use Rattle.cl_tasks.specs.Measures.{Phase, left_at, loading, most, turns}
+use Rattle.cl_tasks.specs.Measures.{Phase, left_at, left_while_loading, most, turns}
 use Rattle.cl_tasks.specs.Measures as phases
 use Rattle.cl_tasks.specs.Rooms.{Room, calls_at, room_at, room_of}
 use Rattle.cl_tasks.specs.Stages.{IsHoming, IsJob, job_calls, past_left, sought_ask}
-use Rattle.cl_tasks.specs.Steps.{DefinesBy, Finds, FindsAt, HoldsOn, Leads, LeadsAt, LeadsBy, LeadsFrom}
+use Rattle.cl_tasks.specs.Steps.{DefinesBy, FindsRow, FindsAt, HoldsOn, Leads, LeadsAt, LeadsBy, LeadsFrom}
 use Rattle.cl_tasks.specs.Waits as waits
 use Rattle.cl_tasks.specs.declared.stage.Job.{Job}
 use Rattle.cl_tasks.specs.declared.stage.Load.TheVariants as loads
@@ -68,7 +68,7 @@ less_room p a b h = omega arith
 
 -- a look takes no more than what is more than a look
 pub fresh_looks : (p : ℕ) (xs : List Frame) (b : ℕ) → left_at phases.Looking xs 0 < b → p + left_at phases.Fresh xs 0 ≤ p + b
-fresh_looks p xs b h = above p (turns * loading xs) most b h
+fresh_looks p xs b h = above p (turns * left_while_loading xs) most b h
   where
     above : (p a m b : ℕ) → a + (m + 7) < b → p + (a + (m + 8)) ≤ p + b
     above p a m b h = omega arith
@@ -211,14 +211,14 @@ leads_descent {A} told j d new n job path on is few waits l =
 -- ---- the next supertype
 
 pub leads_next : {A : Type 0} (told : Option Content) (j : Job A) (row : Rowed) (new : Pathed) (n : Next A) → IsPath told j.path → misfit_under j.path.frames row.class (file_of row.file) ≡ None → Accepts j.path new row.class.loader
-    → LeadsAt told phases.Fresh (on_path j new) (HoldsOn (on_path j new)) n → LeadsAt told phases.Initiating j (Finds j row) n
+    → LeadsAt told phases.Fresh (on_path j new) (HoldsOn (on_path j new)) n → LeadsAt told phases.Initiating j (FindsRow j row) n
 leads_next told j row new n path fits step l =
     let room = room_of (room_at phases.Initiating j 0) (calls_at phases.Initiating j 0) in
     let config : new.config ≡ j.path.config = ap (λ (p : Pathed). p.config) step.now in
-    leads_moved told j new.config room (Finds j row) n config
-    (leads_by room (Finds j row) l
+    leads_moved told j new.config room (FindsRow j row) n config
+    (leads_by room (FindsRow j row) l
     (fresh_looks (past_left j.target) (frames_of new) (left_at phases.Initiating (frames_of j.path) 0) (accepts_less told j.path new row.class.loader phases.Initiating 0 0 path tt step))
-    (subst (λ (c : Configured). CallsWithin told c (Finds j row) j.request 0 (calls_at phases.Fresh (on_path j new) 0) room.calls) (sym config) (accepts_left told j new row.class.loader (Finds j row) path step))
+    (subst (λ (c : Configured). CallsWithin told c (FindsRow j row) j.request 0 (calls_at phases.Fresh (on_path j new) 0) room.calls) (sym config) (accepts_left told j new row.class.loader (FindsRow j row) path step))
     (λ x h. record { frames = accepts_holds told x j.path new row path h.before.frames h.now fits step; facts = h.before.facts }))
 
 -- ---- a class that has all its supertypes
@@ -229,16 +229,16 @@ draft_whole told old new place x path step =
     (all_last (λ (f : Framed). IsDraft told f.draft) step.before step.last (subst (λ (xs : List Framed). AllByRecursion (λ (f : Framed). IsDraft told f.draft) xs) step.split path.drafts))
 
 pub leads_complete : {A : Type 0} (told : Option Content) (j : Job A) (row : Rowed) (new : Pathed) (x : Framed) (n : Next A) → IsJob told new.config (on_path j new) → IsPath told j.path → IsPath told new → IsSpelt told row.class row.file → row.class.name ≡ at_name j.path
-    → misfit_under j.path.frames row.class (file_of row.file) ≡ None → Completes j.path new row.class.loader x → DefinesBy (on_path j new) x n → LeadsAt told phases.Initiating j (Finds j row) n
+    → misfit_under j.path.frames row.class (file_of row.file) ≡ None → Completes j.path new row.class.loader x → DefinesBy (on_path j new) x n → LeadsAt told phases.Initiating j (FindsRow j row) n
 leads_complete told j row new x n onward path path_new spelt named fits step h =
     let place = row.class.loader in
     let room = room_of (room_at phases.Initiating j 0) (calls_at phases.Initiating j 0) in
     let config : new.config ≡ j.path.config = ap (λ (p : Pathed). p.config) step.now in
     let whole = completed_is_whole told j.path new place x row path step spelt refl named fits in
-    leads_moved told j new.config room (Finds j row) n config
-    (leads_define told (on_path j new) x room (Finds j row) n onward path_new whole (draft_whole told j.path new place x path step)
+    leads_moved told j new.config room (FindsRow j row) n config
+    (leads_define told (on_path j new) x room (FindsRow j row) n onward path_new whole (draft_whole told j.path new place x path step)
     (less_room (past_left j.target) (left_at phases.Defining (frames_of new) 0) (left_at phases.Initiating (frames_of j.path) 0) (completes_less told j.path new place x phases.Initiating 0 0 path tt step)) (phase_has phases.Initiating j 0)
-    (subst (λ (c : Configured). CallsWithin told c (Finds j row) j.request 0 (defining_calls (on_path j new) x) room.calls) (sym config) (completes_left told j new place x (Finds j row) path step whole))
+    (subst (λ (c : Configured). CallsWithin told c (FindsRow j row) j.request 0 (defining_calls (on_path j new) x) room.calls) (sym config) (completes_left told j new place x (FindsRow j row) path step whole))
     (λ y k. let both = completes_holds told y j.path new row x path k.before.frames k.now fits step in (record { frames = both.0; facts = k.before.facts }, both.1)) h)
 
 -- ---- what accepting answers

@@ -9,7 +9,7 @@ use Rattle.cl_model.specs.Plans.{Plan, edges_of, homes_of, nodes_of, same_ask}
 use Rattle.cl_model.specs.States.{State, recorded}
 use Rattle.cl_model.specs.Works.{Ask}
 use Rattle.cl_model.proofs.Marks.{In}
-use Rattle.cl_tasks.specs.Calls.{is_own_home, own_homes, record_calls, is_unrecorded, is_open, if_so, open_calls}
+use Rattle.cl_tasks.specs.Calls.{is_own_home, own_homes, record_calls, is_unrecorded, is_to_record, if_so, open_calls}
 
 -- ---- numbers that count where a test passes
 
@@ -53,26 +53,26 @@ sums_fall {A} calls p q (y ∷ xs) x h (inr i) a b =
 -- ---- what is open lessens
 
 -- what is open in the second way is open in the first: no more is left
-pub open_le : (w : World) (p : Plan) (s t : State) (absent less hand more : List Ask) → ((a : Ask) → is_open t less more a ≡ true → is_open s absent hand a ≡ true) → open_calls w p t less more ≤ open_calls w p s absent hand
+pub open_le : (w : World) (p : Plan) (s t : State) (absent less hand more : List Ask) → ((a : Ask) → is_to_record t less more a ≡ true → is_to_record s absent hand a ≡ true) → open_calls w p t less more ≤ open_calls w p s absent hand
 open_le w p s t absent less hand more h =
-    let nodes = sums_le (record_calls w) (is_open s absent hand) (is_open t less more) (nodes_of w p) h in
-    let homes = sums_le (edges_of w) (is_open s absent hand) (is_open t less more) (homes_of w p) h in
+    let nodes = sums_le (record_calls w) (is_to_record s absent hand) (is_to_record t less more) (nodes_of w p) h in
+    let homes = sums_le (edges_of w) (is_to_record s absent hand) (is_to_record t less more) (homes_of w p) h in
     omega arith
 
 -- and without one of the nodes, its records less
-pub node_falls : (w : World) (p : Plan) (s t : State) (absent less hand more : List Ask) → ((a : Ask) → is_open t less more a ≡ true → is_open s absent hand a ≡ true) → (a : Ask) → In a (nodes_of w p) → is_open s absent hand a ≡ true → is_open t less more a ≡ false
+pub node_falls : (w : World) (p : Plan) (s t : State) (absent less hand more : List Ask) → ((a : Ask) → is_to_record t less more a ≡ true → is_to_record s absent hand a ≡ true) → (a : Ask) → In a (nodes_of w p) → is_to_record s absent hand a ≡ true → is_to_record t less more a ≡ false
     → open_calls w p t less more + record_calls w a ≤ open_calls w p s absent hand
 node_falls w p s t absent less hand more h a i before after =
-    let nodes = sums_fall (record_calls w) (is_open s absent hand) (is_open t less more) (nodes_of w p) a h i before after in
-    let homes = sums_le (edges_of w) (is_open s absent hand) (is_open t less more) (homes_of w p) h in
+    let nodes = sums_fall (record_calls w) (is_to_record s absent hand) (is_to_record t less more) (nodes_of w p) a h i before after in
+    let homes = sums_le (edges_of w) (is_to_record s absent hand) (is_to_record t less more) (homes_of w p) h in
     omega arith
 
 -- and without one of the homes, the looks for its supertypes less too
-pub home_falls : (w : World) (p : Plan) (s t : State) (absent less hand more : List Ask) → ((a : Ask) → is_open t less more a ≡ true → is_open s absent hand a ≡ true) → (a : Ask) → In a (nodes_of w p) → In a (homes_of w p) → is_open s absent hand a ≡ true → is_open t less more a ≡ false
+pub home_falls : (w : World) (p : Plan) (s t : State) (absent less hand more : List Ask) → ((a : Ask) → is_to_record t less more a ≡ true → is_to_record s absent hand a ≡ true) → (a : Ask) → In a (nodes_of w p) → In a (homes_of w p) → is_to_record s absent hand a ≡ true → is_to_record t less more a ≡ false
     → open_calls w p t less more + (record_calls w a + edges_of w a) ≤ open_calls w p s absent hand
 home_falls w p s t absent less hand more h a i j before after =
-    let nodes = sums_fall (record_calls w) (is_open s absent hand) (is_open t less more) (nodes_of w p) a h i before after in
-    let homes = sums_fall (edges_of w) (is_open s absent hand) (is_open t less more) (homes_of w p) a h j before after in
+    let nodes = sums_fall (record_calls w) (is_to_record s absent hand) (is_to_record t less more) (nodes_of w p) a h i before after in
+    let homes = sums_fall (edges_of w) (is_to_record s absent hand) (is_to_record t less more) (homes_of w p) a h j before after in
     omega arith
 
 -- ---- what is recorded stays so
@@ -122,9 +122,9 @@ records_most w p (x ∷ xs) =
 -- at most two calls for each node, one less for a home, and the looks for all supertypes
 pub open_most : (w : World) (p : Plan) (s : State) (absent hand : List Ask) → open_calls w p s absent hand + own_homes w p ≤ 2 * length (nodes_of w p) + sum_by (edges_of w) (homes_of w p)
 open_most w p s absent hand =
-    let nodes = records_most w (is_open s absent hand) (nodes_of w p) in
-    let homes : Sum (edges_of w) (is_open s absent hand) (homes_of w p) ≤ sum_by (edges_of w) (homes_of w p) =
-    sum_by-le-sum_by (λ (a : Ask). if_so (is_open s absent hand a) (edges_of w a)) (edges_of w) (homes_of w p) (λ a. so_most (is_open s absent hand a) (edges_of w a)) in
+    let nodes = records_most w (is_to_record s absent hand) (nodes_of w p) in
+    let homes : Sum (edges_of w) (is_to_record s absent hand) (homes_of w p) ≤ sum_by (edges_of w) (homes_of w p) =
+    sum_by-le-sum_by (λ (a : Ask). if_so (is_to_record s absent hand a) (edges_of w a)) (edges_of w) (homes_of w p) (λ a. so_most (is_to_record s absent hand a) (edges_of w a)) in
     omega arith
 
 -- no more homes than nodes

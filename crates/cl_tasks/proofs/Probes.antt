@@ -3,16 +3,16 @@ use Rattle.std.proofs.Common.{◌≡◌, ◌≢◌, ◌<◌, ◌≤◌, ◌+◌,
 use Rattle.std.specs.Prelude.{◌==◌, nat_lt, flat_map, option_map, option_to_list, unwrap_or, if◌then◌else◌}
 use Rattle.std.specs.List.{AllByRecursion}
 use Rattle.cl_classfile.specs.Files.{Name}
-use Rattle.cl_model.specs.Homes.{is_java, decisive, Order, ParentFirst, ChildFirst, Loader}
+use Rattle.cl_model.specs.Homes.{is_java, decisive, Order, ParentFirst, ChildFirst, WorldLoader}
 use Rattle.cl_config.specs.Views as views
 use Rattle.cl_config.specs.Views.{Configured}
-use Rattle.cl_config.specs.Loaders.{loaders_of, loader_of, order_of}
+use Rattle.cl_config.specs.Loaders.{loaders_in, world_loader, world_order}
 use Rattle.cl_source.specs.Views.{Found}
 use Rattle.cl_delegation.specs.Searches.{Searched, begun, next_of, next_on, route_of, with_bytes, with_probe}
 use Rattle.cl_model.specs.Frames.{Frame}
 use Rattle.cl_model.proofs.Derivations.{all_map}
 use Rattle.cl_model.proofs.Derived.{all_both}
-use Rattle.cl_tasks.specs.Measures.{loading, most, turns, left_at}
+use Rattle.cl_tasks.specs.Measures.{left_while_loading, most, turns, left_at}
 use Rattle.cl_tasks.specs.Measures as phases
 use Rattle.cl_tasks.specs.Stages.{next_place, probes_left, Seeks}
 use Rattle.cl_tasks.specs.Steps.{IsPlain, ReadsAt, reads_on, reads_left, way_on}
@@ -53,41 +53,41 @@ above_short : (n : ℕ) (earlier : ℕ → List ℕ) (parent : Option ℕ) → (
 above_short n earlier None h = none_short n
 above_short n earlier (Some l) h = subst (λ (way : List ℕ). IsShort n way) (sym (append-nil (earlier l))) (h l)
 
-at_short : (n : ℕ) (name : Name) (earlier : ℕ → List ℕ) (l : views.Loader) → ((k : ℕ) → IsShort n (earlier k)) → IsShort (suc n) (route_at name earlier n (loader_of l))
-at_short n name earlier l h = step (decisive (loader_of l).imports name)
+at_short : (n : ℕ) (name : Name) (earlier : ℕ → List ℕ) (l : views.Loader) → ((k : ℕ) → IsShort n (earlier k)) → IsShort (suc n) (route_at name earlier n (world_loader l))
+at_short n name earlier l h = step (decisive (world_loader l).imports name)
   where
-    step : (o : Option ℕ) → IsShort (suc n) (elim o [ Some target ↦ earlier target | None ↦ in_turn (order_of l.order) (flat_map earlier (option_to_list l.parent)) (n ∷ []) ])
+    step : (o : Option ℕ) → IsShort (suc n) (elim o [ Some target ↦ earlier target | None ↦ in_turn (world_order l.order) (flat_map earlier (option_to_list l.parent)) (n ∷ []) ])
     step (Some target) = longer n (earlier target) (h target)
-    step None = plus_own n (order_of l.order) (flat_map earlier (option_to_list l.parent)) (above_short n earlier l.parent h)
+    step None = plus_own n (world_order l.order) (flat_map earlier (option_to_list l.parent)) (above_short n earlier l.parent h)
 
-taken : (n : ℕ) (name : Name) (earlier : ℕ → List ℕ) (o : Option views.Loader) → ((k : ℕ) → IsShort n (earlier k)) → IsShort (suc n) (unwrap_or (option_map (route_at name earlier n) (option_map loader_of o)) [])
+taken : (n : ℕ) (name : Name) (earlier : ℕ → List ℕ) (o : Option views.Loader) → ((k : ℕ) → IsShort n (earlier k)) → IsShort (suc n) (unwrap_or (option_map (route_at name earlier n) (option_map world_loader o)) [])
 taken n name earlier None h = none_short (suc n)
 taken n name earlier (Some l) h = at_short n name earlier l h
 
-one_more : (c : Configured) (name : Name) (n loader : ℕ) → ((k : ℕ) → IsShort n (route_below (loaders_of c) name n k)) → IsShort (suc n) (route_below (loaders_of c) name (suc n) loader)
+one_more : (c : Configured) (name : Name) (n loader : ℕ) → ((k : ℕ) → IsShort n (route_below (loaders_in c) name n k)) → IsShort (suc n) (route_below (loaders_in c) name (suc n) loader)
 one_more c name n loader h = step (loader == n)
   where
-    step : (b : Bool) → IsShort (suc n) (elim b [ true ↦ unwrap_or (option_map (route_at name (route_below (loaders_of c) name n) n) (slice_get (loaders_of c) n)) [] | false ↦ route_below (loaders_of c) name n loader ])
-    step true = subst (λ (o : Option Loader). IsShort (suc n) (unwrap_or (option_map (route_at name (route_below (loaders_of c) name n) n) o) [])) (sym (slice_get-map loader_of c.loaders n)) (taken n name (route_below (loaders_of c) name n) (slice_get c.loaders n) h)
-    step false = longer n (route_below (loaders_of c) name n loader) (h loader)
+    step : (b : Bool) → IsShort (suc n) (elim b [ true ↦ unwrap_or (option_map (route_at name (route_below (loaders_in c) name n) n) (slice_get (loaders_in c) n)) [] | false ↦ route_below (loaders_in c) name n loader ])
+    step true = subst (λ (o : Option WorldLoader). IsShort (suc n) (unwrap_or (option_map (route_at name (route_below (loaders_in c) name n) n) o) [])) (sym (slice_get-map world_loader c.loaders n)) (taken n name (route_below (loaders_in c) name n) (slice_get c.loaders n) h)
+    step false = longer n (route_below (loaders_in c) name n loader) (h loader)
 
-below_short : (c : Configured) (name : Name) (n loader : ℕ) → IsShort n (route_below (loaders_of c) name n loader)
+below_short : (c : Configured) (name : Name) (n loader : ℕ) → IsShort n (route_below (loaders_in c) name n loader)
 below_short c name zero loader = none_short 0
 below_short c name (suc n) loader = one_more c name n loader (λ k. below_short c name n k)
 
-route_is_short : (c : Configured) (loader : ℕ) (name : Name) → IsShort (suc loader) (route (loaders_of c) loader name)
+route_is_short : (c : Configured) (loader : ℕ) (name : Name) → IsShort (suc loader) (route (loaders_in c) loader name)
 route_is_short c loader name = step (is_java name)
   where
     first : (b : Bool) → IsShort (suc loader) (if b then 0 ∷ [] else [])
     first true = record { short = omega arith; below = (omega arith, tt) }
     first false = none_short (suc loader)
 
-    step : (b : Bool) → IsShort (suc loader) (elim b [ true ↦ if nat_lt loader (length (loaders_of c)) then 0 ∷ [] else [] | false ↦ route_from (loaders_of c) name loader ])
-    step true = first (nat_lt loader (length (loaders_of c)))
+    step : (b : Bool) → IsShort (suc loader) (elim b [ true ↦ if nat_lt loader (length (loaders_in c)) then 0 ∷ [] else [] | false ↦ route_from (loaders_in c) name loader ])
+    step true = first (nat_lt loader (length (loaders_in c)))
     step false = below_short c name (suc loader) loader
 
 -- no more loaders are asked than those up to the first
-pub route_short : (c : Configured) (loader : ℕ) (name : Name) → length (route (loaders_of c) loader name) ≤ suc loader
+pub route_short : (c : Configured) (loader : ℕ) (name : Name) → length (route (loaders_in c) loader name) ≤ suc loader
 route_short c loader name = (route_is_short c loader name).short
 
 at_within : (n : ℕ) (way : List ℕ) (i l : ℕ) → AllByRecursion (λ k. k < n) way → slice_get way i ≡ Some l → l < n
@@ -96,8 +96,8 @@ at_within n (k ∷ ks) zero l h e = let same : l ≡ k = cc in omega (arith, h.0
 at_within n (k ∷ ks) (suc i) l h e = at_within n ks i l h.1 e
 
 -- each is one up to the first
-pub route_within : (c : Configured) (loader : ℕ) (name : Name) (i l : ℕ) → slice_get (route (loaders_of c) loader name) i ≡ Some l → l < suc loader
-route_within c loader name i l e = at_within (suc loader) (route (loaders_of c) loader name) i l (route_is_short c loader name).below e
+pub route_within : (c : Configured) (loader : ℕ) (name : Name) (i l : ℕ) → slice_get (route (loaders_in c) loader name) i ≡ Some l → l < suc loader
+route_within c loader name i l e = at_within (suc loader) (route (loaders_in c) loader name) i l (route_is_short c loader name).below e
 
 on_way : (way : List ℕ) (i : ℕ) (found : Option Found) (l : ℕ) → next_on way i found ≡ Some l → slice_get way i ≡ Some l
 on_way way i None l e = e
@@ -120,7 +120,7 @@ pub begins_less : (xs : List Frame) (c : Configured) (loader : ℕ) (name : Name
 begins_less xs c loader name s is h few =
     let short = route_short c loader name in
     let n : probes_left (begun c loader name) ≤ most = few_probes (probes_left (begun c loader name)) (omega (arith, short)) in
-    subst (λ (u : Searched). left_at phases.Reading xs (reads_left u) ≤ left_at phases.Looking xs 0) (sym is) (above (turns * loading xs) most (probes_left (begun c loader name)) n)
+    subst (λ (u : Searched). left_at phases.Reading xs (reads_left u) ≤ left_at phases.Looking xs 0) (sym is) (above (turns * left_while_loading xs) most (probes_left (begun c loader name)) n)
   where
     above : (a m p : ℕ) → p ≤ m → a + ((p + 1) + 5) ≤ a + (m + 7)
     above a m p h = omega arith
@@ -131,7 +131,7 @@ on_found way i (Some p) l probes e = absurd cc
 
 -- a search that reads on has one read less
 pub reads_more : (xs : List Frame) (s : Searched) (l : ℕ) → next_of s ≡ Some l → left_at phases.Reading xs (probes_left s) < left_at phases.Reading xs (reads_left s)
-reads_more xs s l e = let k : reads_left s ≡ probes_left s + 1 = on_found (route_of s) (length s.absent) s.found l (probes_left s) e in above (turns * loading xs) (probes_left s) (reads_left s) k
+reads_more xs s l e = let k : reads_left s ≡ probes_left s + 1 = on_found (route_of s) (length s.absent) s.found l (probes_left s) e in above (turns * left_while_loading xs) (probes_left s) (reads_left s) k
   where
     above : (a p r : ℕ) → r ≡ p + 1 → a + (p + 5) < a + (r + 5)
     above a p r h = omega arith
@@ -154,7 +154,7 @@ takes_less s p l e = step p.bytes
         omega (arith, h, k, n)
 
 pub reads_fewer : (xs : List Frame) (s new : Searched) (p : Found) (l : ℕ) → next_of s ≡ Some l → new ≡ with_probe s p → left_at phases.Reading xs (reads_left new) ≤ left_at phases.Reading xs (probes_left s)
-reads_fewer xs s new p l e is = subst (λ (u : Searched). left_at phases.Reading xs (reads_left u) ≤ left_at phases.Reading xs (probes_left s)) (sym is) (above (turns * loading xs) (reads_left (with_probe s p)) (probes_left s) (takes_less s p l e))
+reads_fewer xs s new p l e is = subst (λ (u : Searched). left_at phases.Reading xs (reads_left u) ≤ left_at phases.Reading xs (probes_left s)) (sym is) (above (turns * left_while_loading xs) (reads_left (with_probe s p)) (probes_left s) (takes_less s p l e))
   where
     above : (a p q : ℕ) → p ≤ q → a + (p + 5) ≤ a + (q + 5)
     above a p q h = omega arith
@@ -192,9 +192,9 @@ behind s p l before e = step p.bytes refl e
 
 pub way_is : (p : Pathed) (s : Searched) → s.config ≡ p.config → s.loader ≡ at_loader p → s.name ≡ at_name p → route_of s ≡ way_on p
 way_is p s config loader name =
-    ap (λ (c : Configured). route (loaders_of c) s.loader s.name) config
-    ∙ ap (λ (l : ℕ). route (loaders_of p.config) l s.name) loader
-    ∙ ap (λ (n : Name). route (loaders_of p.config) (at_loader p) n) name
+    ap (λ (c : Configured). route (loaders_in c) s.loader s.name) config
+    ∙ ap (λ (l : ℕ). route (loaders_in p.config) l s.name) loader
+    ∙ ap (λ (n : Name). route (loaders_in p.config) (at_loader p) n) name
 
 -- what a search asks next stands on its route
 pub reads_place : (s : Searched) → next_of s ≢ None → (i : ℕ) × (slice_get (route_of s) i ≡ Some (next_place s))

@@ -35,7 +35,7 @@ use Rattle.cl_tasks.specs.Rooms.{Room, calls_at, named_room, room_at, room_of}
 use Rattle.cl_tasks.specs.Stages.{IsJob, job_calls, named_facts, past_calls, past_left, target_facts}
 use Rattle.cl_tasks.specs.declared.stage.Entry as entries
 use Rattle.cl_tasks.specs.declared.stage.Job.{Job}
-use Rattle.cl_tasks.specs.Steps.{Finds, LeadsAt, LeadsBy}
+use Rattle.cl_tasks.specs.Steps.{FindsRow, LeadsAt, LeadsBy}
 use Rattle.cl_tasks.specs.declared.stage.Next.{Next}
 use Rattle.cl_tasks.proofs.Lead.{HasPost, job_past, leads_by, leads_out, leads_post}
 
@@ -167,18 +167,18 @@ more_room a p k r le e = omega arith
 abbrev OwnPath : (A : Type 0) → Job A → Type 0
 OwnPath A j = IsFor {A = A} j.request targets.Own j.path
 
-own_found : (A : Type 0) (j : Job A) (row : Rowed) (x : Shown) → OwnPath A j → j.path.frames ≡ [] → Finds j row x → RowFor j.request row x
+own_found : (A : Type 0) (j : Job A) (row : Rowed) (x : Shown) → OwnPath A j → j.path.frames ≡ [] → FindsRow j row x → RowFor j.request row x
 own_found A j row x own root h =
     subst (λ (l : ℕ). IsRecordedAs x l (name_of j.request) row) (root_loader j.path root ∙ sym own.loader)
     (subst (λ (n : List ℕ). IsRecordedAs x (at_loader j.path) n row) (root_name j.path root ∙ sym own.name) h.now)
 
 pub reaches_own : (A : Type 0) (told : Option Content) (c : Configured) (j : Job A) (row : Arc (ClassRow A) Global) (n : Next A) → IsJob told c j → j.target ≡ targets.Own → j.path.frames ≡ [] → row.value.class.name ≡ at_name j.path → ReachesBy j.q j.request row n
-    → LeadsAt told Initiating j (Finds j row.value) n
+    → LeadsAt told Initiating j (FindsRow j row.value) n
 reaches_own A told c j row n job target root name by =
     let own : OwnPath A j = subst (λ (t : Target A). IsFor j.request t j.path) target job.for_request in
     let room = room_of (room_at Initiating j 0) (calls_at Initiating j 0) in
-    subst (λ (k : Configured). LeadsBy told k j.q j.request room (Finds j row.value) n) (sym job.config)
-    (leads_by room (Finds j row.value)
+    subst (λ (k : Configured). LeadsBy told k j.q j.request room (FindsRow j row.value) n) (sym job.config)
+    (leads_by room (FindsRow j row.value)
     (reaches A told c j.q j.request row n job.asked (name ∙ root_name j.path root ∙ sym own.name) by)
     (more_room own_left (past_left j.target) (left_at Initiating (frames_of j.path) 0) (reached_left j.request) (own_room j.request) (ap (λ (t : Target A). past_left t) target))
     (λ g x p served is h. same_calls (job_calls [] [] 0 j) (reached_calls j.request) g.world p (state_of x) (own_job_calls A j target root))
@@ -188,7 +188,7 @@ reaches_own A told c j row n job target root name by =
 abbrev entry_for : (A : Type 0) → Job A → Arc (ClassRow A) Global → ℕ → ℕ → List ℕ → entries.Entry A
 entry_for A j d i l n = record { q = j.q; request = requests.Resolve l n i; index = i; d = d }
 
-named_found : (A : Type 0) (j : Job A) (d : Arc (ClassRow A) Global) (l i : ℕ) (n : List ℕ) (row : Rowed) (x : Shown) → IsReferred j.request d.value j.path → j.target ≡ targets.Reference d → j.path.frames ≡ [] → j.request ≡ requests.Resolve l n i → Finds j row x → NamedTold (entry_for A j d i l n) row x
+named_found : (A : Type 0) (j : Job A) (d : Arc (ClassRow A) Global) (l i : ℕ) (n : List ℕ) (row : Rowed) (x : Shown) → IsReferred j.request d.value j.path → j.target ≡ targets.Reference d → j.path.frames ≡ [] → j.request ≡ requests.Resolve l n i → FindsRow j row x → NamedTold (entry_for A j d i l n) row x
 named_found A j d l i n row x referred target root is h =
     let facts : AreSo x (target_facts {A = A} j.request (targets.Reference d)) = subst (λ (t : Target A). AreSo x (target_facts j.request t)) target h.before.facts in
     let here : IsRecordedAs x d.value.class.loader (at_name j.path) row = subst (λ (l : ℕ). IsRecordedAs x l (at_name j.path) row) (root_loader j.path root ∙ referred.loader) h.now in
@@ -203,12 +203,12 @@ named_within A j d w p s target =
     none a b h = omega arith
 
 pub reaches_named : (A : Type 0) (told : Option Content) (c : Configured) (j : Job A) (d : Arc (ClassRow A) Global) (l i : ℕ) (n : List ℕ) (row : Rowed) (next : Next A) → IsJob told c j → j.target ≡ targets.Reference d → j.path.frames ≡ [] → j.request ≡ requests.Resolve l n i
-    → LeadsBy told c j.q (requests.Resolve l n i) named_room (NamedTold (entry_for A j d i l n) row) next → LeadsAt told Initiating j (Finds j row) next
+    → LeadsBy told c j.q (requests.Resolve l n i) named_room (NamedTold (entry_for A j d i l n) row) next → LeadsAt told Initiating j (FindsRow j row) next
 reaches_named A told c j d l i n row next job target root is leads =
     let referred : IsReferred j.request d.value j.path = subst (λ (t : Target A). IsFor j.request t j.path) target job.for_request in
     let room = room_of (room_at Initiating j 0) (calls_at Initiating j 0) in
-    subst (λ (k : Configured). LeadsBy told k j.q j.request room (Finds j row) next) (sym job.config)
-    (leads_by room (Finds j row)
+    subst (λ (k : Configured). LeadsBy told k j.q j.request room (FindsRow j row) next) (sym job.config)
+    (leads_by room (FindsRow j row)
     (subst (λ (r : Request). LeadsBy told c j.q r named_room (NamedTold (entry_for A j d i l n) row) next) (sym is) leads)
     (more_room named_left (past_left j.target) (left_at Initiating (frames_of j.path) 0) named_left (omega arith) (ap (λ (t : Target A). past_left t) target))
     (λ g x p served is h. named_within A j d g.world p (state_of x) target)

@@ -18,9 +18,9 @@ use Rattle.cl_tasks.specs.Calls.{Calls}
 use Rattle.cl_tasks.specs.Deriving.{Derives, IsNone}
 use Rattle.cl_tasks.specs.Facts.{AllHave, HasAccepted, HaveAccepted}
 use Rattle.cl_tasks.specs.Follows.{CallsWithin}
-use Rattle.cl_tasks.specs.Measures.{left_at, loading}
+use Rattle.cl_tasks.specs.Measures.{left_at, left_while_loading}
 use Rattle.cl_tasks.specs.Measures as phases
-use Rattle.cl_tasks.specs.Repeating.{Again, ComesTo, EndsAgain, GoesOn, Here}
+use Rattle.cl_tasks.specs.Repeating.{Again, PathComesTo, EndsAgain, PathGoesOn, Here}
 use Rattle.cl_tasks.specs.Rooms.{calls_at, room_at, room_of}
 use Rattle.cl_tasks.specs.Stages.{IsJob, past_left}
 use Rattle.cl_tasks.specs.Steps.{DefinesBy, HoldsOn, LeadsAt}
@@ -114,7 +114,7 @@ record IsOfSame (old new : Pathed) : Type 0 where
   loader : new.loader ≡ old.loader
   name : new.name ≡ old.name
 
-on_same : (told : Option Content) (old : Pathed) {new : Pathed} → GoesOn told old new → IsOfSame old new
+on_same : (told : Option Content) (old : Pathed) {new : Pathed} → PathGoesOn told old new → IsOfSame old new
 on_same told old Here = record { config = refl; loader = refl; name = refl }
 on_same told old (Again mid next goes path again) =
     let same = on_same told old goes in
@@ -136,21 +136,21 @@ end_same told old new x ends =
 same_job : {A : Type 0} (told : Option Content) (j : Job A) (new : Pathed) → IsJob told j.path.config j → IsPath told new → IsOfSame j.path new → IsJob {A = A} told new.config (on_path j new)
 same_job told j new job path same = job_on told j new job path job.root same.config same.loader same.name
 
-pub job_goes : {A : Type 0} (told : Option Content) (j : Job A) (new : Pathed) → IsJob told j.path.config j → IsPath told new → GoesOn told j.path new → IsJob {A = A} told new.config (on_path j new)
+pub job_goes : {A : Type 0} (told : Option Content) (j : Job A) (new : Pathed) → IsJob told j.path.config j → IsPath told new → PathGoesOn told j.path new → IsJob {A = A} told new.config (on_path j new)
 job_goes told j new job path goes = same_job told j new job path (on_same told j.path goes)
 
-leads_from : {A : Type 0} (told : Option Content) (j : Job A) (old : Pathed) {new : Pathed} (n : Next A) → GoesOn told old new → LeadsAt told phases.Fresh (on_path j new) (HoldsOn (on_path j new)) n → LeadsAt told phases.Fresh (on_path j old) (HoldsOn (on_path j old)) n
+leads_from : {A : Type 0} (told : Option Content) (j : Job A) (old : Pathed) {new : Pathed} (n : Next A) → PathGoesOn told old new → LeadsAt told phases.Fresh (on_path j new) (HoldsOn (on_path j new)) n → LeadsAt told phases.Fresh (on_path j old) (HoldsOn (on_path j old)) n
 leads_from told j old n Here l = l
 leads_from told j old n (Again mid next goes path again) l = leads_from told j old n goes (leads_again told (on_path j mid) next n path again l)
 
-pub leads_goes : {A : Type 0} (told : Option Content) (j : Job A) (new : Pathed) (n : Next A) → GoesOn told j.path new → LeadsAt told phases.Fresh (on_path j new) (HoldsOn (on_path j new)) n → LeadsAt told phases.Fresh j (HoldsOn j) n
+pub leads_goes : {A : Type 0} (told : Option Content) (j : Job A) (new : Pathed) (n : Next A) → PathGoesOn told j.path new → LeadsAt told phases.Fresh (on_path j new) (HoldsOn (on_path j new)) n → LeadsAt told phases.Fresh j (HoldsOn j) n
 leads_goes told j new n goes l = leads_from told j j.path n goes l
 
 pub leads_ends : {A : Type 0} (told : Option Content) (j : Job A) (new : Pathed) (x : Framed) (n : Next A) → IsJob told j.path.config j → IsPath told new → EndsAgain told j.path new x → DefinesBy (on_path j new) x n → LeadsAt told phases.Fresh j (HoldsOn j) n
 leads_ends told j new x n job path ends h =
     leads_goes told j ends.mid n ends.goes (leads_last told (on_path j ends.mid) new x n (same_job told j new job path (end_same told j.path new x ends)) ends.path path ends.last h)
 
-pub goes_derives : {A : Type 0} (told : Option Content) (old : Pathed) {new : Pathed} (s : Stage A) → GoesOn told old new → Derives IsNone (frames_of new) s → Derives IsNone (frames_of old) s
+pub goes_derives : {A : Type 0} (told : Option Content) (old : Pathed) {new : Pathed} (s : Stage A) → PathGoesOn told old new → Derives IsNone (frames_of new) s → Derives IsNone (frames_of old) s
 goes_derives told old s Here h = h
 goes_derives told old s (Again mid next goes path again) h = goes_derives told old s goes (accepts_derives mid next again.place s again.step h)
 
@@ -159,19 +159,19 @@ ends_derives told j new x n ends h = goes_derives told j.path n.stage ends.goes 
 
 -- ---- one more
 
-pub goes_more : {A : Type 0} (told : Option Content) (old mid new : Pathed) (a : again.Again A) → a ≡ agains.Waits → GoesOn told old mid → IsPath told mid → Goes mid new a → GoesOn told old new
+pub goes_more : {A : Type 0} (told : Option Content) (old mid new : Pathed) (a : again.Again A) → a ≡ agains.Waits → PathGoesOn told old mid → IsPath told mid → Goes mid new a → PathGoesOn told old new
 goes_more told old mid new a e goes path h = Again mid new goes path (subst (λ (k : again.Again _). Goes mid new k) e h)
 
 -- ---- what comes next
 
-pub comes_on : (told : Option Content) (old new : Pathed) (o : Option Framed) → o ≡ None → ComesTo told old new o → GoesOn told old new
-comes_on told old new o e h = subst (λ (k : Option Framed). ComesTo told old new k) e h
+pub comes_on : (told : Option Content) (old new : Pathed) (o : Option Framed) → o ≡ None → PathComesTo told old new o → PathGoesOn told old new
+comes_on told old new o e h = subst (λ (k : Option Framed). PathComesTo told old new k) e h
 
-pub comes_last : (told : Option Content) (old new : Pathed) (o : Option Framed) (x : Framed) → o ≡ Some x → ComesTo told old new o → EndsAgain told old new x
-comes_last told old new o x e h = subst (λ (k : Option Framed). ComesTo told old new k) e h
+pub comes_last : (told : Option Content) (old new : Pathed) (o : Option Framed) (x : Framed) → o ≡ Some x → PathComesTo told old new o → EndsAgain told old new x
+comes_last told old new o x e h = subst (λ (k : Option Framed). PathComesTo told old new k) e h
 
 -- less is left to load
-pub again_less : {A : Type 0} (told : Option Content) (old new : Pathed) (a : again.Again A) → a ≡ agains.Waits → IsPath told old → Goes old new a → loading (frames_of new) < loading (frames_of old)
+pub again_less : {A : Type 0} (told : Option Content) (old new : Pathed) (a : again.Again A) → a ≡ agains.Waits → IsPath told old → Goes old new a → left_while_loading (frames_of new) < left_while_loading (frames_of old)
 again_less told old new a e path h =
     let step : AcceptsAgain old new = subst (λ (k : again.Again _). Goes old new k) e h in
     let one = accept_less told old new step.place path step.step in

@@ -110,7 +110,7 @@ cited_so x r d i l is kept =
 
 -- it may be settled in the tables
 pub may_settle : (told : Option Content) (c : Configured) (r : Request) (d : Class) (i : ℕ) (v : verdict.Verdict) (b : Based) (holds : Shown → Type 0) → Stood told c r v b holds → Settling r d i v holds → (x : Shown) → x.config ≡ c → NamesLoaders x → holds x
-    → settling.MaySettle x (grounded r v b)
+    → settling.FindingSettles x (grounded r v b)
 may_settle told c r d i v b holds stood may x config named h = (
   record { class = d; index = i; verdict = v },
   record {

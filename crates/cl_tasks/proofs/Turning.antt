@@ -10,7 +10,7 @@ use Rattle.cl_tasks.specs.Facts.{Holds}
 use Rattle.cl_tasks.specs.Follows.{AreLeft, BackedWhere, CallsWithin, EndsRefused, FollowsWhere, LacksOnly, Refuses, Tells, TellsNow, made_by, refusal}
 use Rattle.cl_tasks.specs.Stages.{IsStage, linking_at, loading_at, resolving_at, task_at}
 use Rattle.cl_tasks.specs.Steps.{LeadsOn, Steps, task_room}
-use Rattle.cl_tasks.specs.Tasks.{Tasked, begun}
+use Rattle.cl_tasks.specs.Tasks.{Tasked, begun_task}
 use Rattle.cl_tasks.specs.Turns.{AnswersOwn, Asks, DerivesUnrecorded, Expects, IsReplyTo, KeepsRequest, ReadsUnrecorded}
 use Rattle.cl_tasks.specs.Waits as waits
 use Rattle.cl_tasks.specs.declared.stage.Link.{Link}
@@ -110,7 +110,7 @@ config_is c (stages.Done q) = refl
 -- ---- the turn
 
 -- a request that is served, whatever else is known of its task
-serves_so : {A : Type 0} (c : Configured) (q : ℕ) (r : Request) (t new : Tasked) (n : Turn A) → t.request ≡ Some r → KeepsRequest (begun c q r) new n → KeepsRequest t new n
+serves_so : {A : Type 0} (c : Configured) (q : ℕ) (r : Request) (t new : Tasked) (n : Turn A) → t.request ≡ Some r → KeepsRequest (begun_task c q r) new n → KeepsRequest t new n
 serves_so c q r t new (turn.Settle f) is h = subst (λ (o : Option Request). (o ≡ Some f.request) × (new.request ≡ o)) (sym is) h
 serves_so c q r t new (turn.Post f) is h = subst (λ (o : Option Request). o ≡ Some f.request) (sym is) h
 serves_so c q r t new other is h = subst (λ (o : Option Request). new.request ≡ o) (sym is) h

@@ -14,7 +14,7 @@ use Rattle.cl_model.specs.Lineages.{Forest, Bare, Tree, Kin, StandsFor, IsLineag
 use Rattle.cl_model.specs.Machine.{HasLineage, IsPlan}
 use Rattle.cl_model.specs.Plans.{Request, Link, Plan, asked_at_home, cost, is_equal, nodes_of}
 use Rattle.cl_model.specs.Preparation.{constraints_of}
-use Rattle.cl_model.specs.References.{GoesOn}
+use Rattle.cl_model.specs.References.{PlanGoesOn}
 use Rattle.cl_model.specs.States.{State, Need, Entry, Equal, Verdict}
 use Rattle.cl_model.proofs.Ancestors.{lineage_once}
 use Rattle.cl_model.proofs.Asks.{AskedFor, reached_asked, distinct_has, lineage_within}
@@ -51,7 +51,7 @@ count_both : (xs ys : List Need) → count_by is_equal (xs ++ ys) ≡ count_by i
 count_both xs ys = sum_by-append (λ (n : Need). cond (is_equal n) 1 0) xs ys
 
 -- what a plan still needs past a load has no more equalities than the whole plan
-pub gone_on_counts : (w : World) (s : State) (r : Request) (c : Class) (needs : List Need) (v : Verdict) (p : Plan) → GoesOn w s r c needs v → IsPlan w r p → count_by is_equal needs ≤ equalities_in p
+pub gone_on_counts : (w : World) (s : State) (r : Request) (c : Class) (needs : List Need) (v : Verdict) (p : Plan) → PlanGoesOn w s r c needs v → IsPlan w r p → count_by is_equal needs ≤ equalities_in p
 gone_on_counts w s r c needs v p goes is =
     subst (λ (q : Plan). count_by is_equal needs ≤ equalities_in q) (one_plan w r goes.plan p goes.planned is)
     (let whole = count_both goes.plan.own goes.plan.more in

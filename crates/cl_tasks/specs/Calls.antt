@@ -50,8 +50,8 @@ is_unrecorded s a = elim (recorded s.records a.loader a.name) [
 ]
 
 -- what is still to be recorded, other than what is in hand; these were told to be unrecorded, and count so whatever was recorded since (5.3)
-abbrev pub is_open : State → List Ask → List Ask → Ask → Bool
-is_open s absent hand a = (list_any (same_ask a) absent || is_unrecorded s a) && not (list_any (same_ask a) hand)
+abbrev pub is_to_record : State → List Ask → List Ask → Ask → Bool
+is_to_record s absent hand a = (list_any (same_ask a) absent || is_unrecorded s a) && not (list_any (same_ask a) hand)
 
 -- a number, if this is so
 abbrev pub if_so : Bool → ℕ → ℕ
@@ -60,8 +60,8 @@ if_so b n = if b then n else 0
 -- the calls of what is still to be recorded: its records, and a look for each supertype of its classes (5.3, 5.3.5)
 abbrev pub open_calls : World → Plan → State → List Ask → List Ask → ℕ
 open_calls w p s absent hand =
-    sum_by (λ a. if_so (is_open s absent hand a) (record_calls w a)) (nodes_of w p)
-    + sum_by (λ a. if_so (is_open s absent hand a) (edges_of w a)) (homes_of w p)
+    sum_by (λ a. if_so (is_to_record s absent hand a) (record_calls w a)) (nodes_of w p)
+    + sum_by (λ a. if_so (is_to_record s absent hand a) (edges_of w a)) (homes_of w p)
 
 -- ---- what is in hand
 

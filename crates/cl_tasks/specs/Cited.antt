@@ -54,11 +54,11 @@ TellsItself (Some (ToClass t)) None = ⊥
 TellsItself other None = Unit {0}
 
 -- a reference to a member of this kind (4.4.2)
-abbrev pub made_by : Kind → FieldType → Key → Reference
-made_by kinds.Field t key = ToField t key
-made_by kinds.Method t key = ToMethod t key
-made_by kinds.InterfaceMethod t key = ToInterfaceMethod t key
+abbrev pub reference_of_kind : Kind → FieldType → Key → Reference
+reference_of_kind kinds.Field t key = ToField t key
+reference_of_kind kinds.Method t key = ToMethod t key
+reference_of_kind kinds.InterfaceMethod t key = ToInterfaceMethod t key
 
 -- an entry asks for a member of this kind of the class of a name (5.4.3.2 to 5.4.3.4)
 abbrev pub IsKind : Option Reference → Name → Kind → Type 0
-IsKind o name k = IsMemberOf (made_by k) o name
+IsKind o name k = IsMemberOf (reference_of_kind k) o name

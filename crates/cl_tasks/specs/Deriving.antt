@@ -40,10 +40,10 @@ abbrev pub IsSoughtHere : Pathed → Class → Type 0
 IsSoughtHere p c = c ≡ sought_class p
 
 -- the class of a home (5.3.2)
-abbrev pub IsAtHome : Located → Class → Type 0
-IsAtHome h c = c ≡ home_class h
+abbrev pub IsHomeClass : Located → Class → Type 0
+IsHomeClass h c = c ≡ home_class h
 
 -- the same where a look found nothing there (5.3)
 abbrev pub IsUnfound : {B : Type 0} → Located → Option B → Class → Type 0
-IsUnfound h None c = IsAtHome h c
+IsUnfound h None c = IsHomeClass h c
 IsUnfound h (Some row) c = ⊥

@@ -29,7 +29,7 @@ use Rattle.cl_tasks.specs.declared.stage.Next.{Next}
 use Rattle.cl_tasks.specs.declared.stage.Resolution.TheVariants as resolutions
 use Rattle.cl_tasks.specs.declared.stage.Stage.TheVariants as stages
 use Rattle.cl_tasks.specs.declared.turn.Turn.TheVariants as turn
-use Rattle.cl_tasks.specs.Follows.{IsResolution}
+use Rattle.cl_tasks.specs.Follows.{ResolvesReference}
 
 -- what is loaded is the request's own class (5.3)
 abbrev pub IsOwnTarget : {A : Type 0} → Target A → Type 0
@@ -38,7 +38,7 @@ IsOwnTarget (targets.Reference d) = ⊥
 
 -- the request is none to resolve (5.4.3)
 abbrev pub IsNoResolution : Request → Type 0
-IsNoResolution r = IsResolution r → ⊥
+IsNoResolution r = ResolvesReference r → ⊥
 
 -- the request's class is looked for once more
 pub record IsCheck {A : Type 0} (j : Job A) (r : Request) (loader : ℕ) (name : List ℕ) : Type 0 where

@@ -28,7 +28,7 @@ use Rattle.cl_registry.specs.Tables.{Shown, state_of, NamesLoaders, MayEnter, Ma
 use Rattle.cl_registry.specs.Imposing.{IsNextOf, IsPreparedBy, MayImpose, MayMark}
 use Rattle.cl_registry.specs.Traced.{IsTraced}
 use Rattle.cl_registry.specs.References.{IsSettledIn}
-use Rattle.cl_registry.specs.Settling.{MaySettle}
+use Rattle.cl_registry.specs.Settling.{FindingSettles}
 use Rattle.cl_registry.specs.Posting.{IsBacked}
 use Rattle.cl_tasks.specs.Calls.{Calls, calls_in}
 use Rattle.cl_tasks.specs.Tasks.{Tasked}
@@ -49,23 +49,23 @@ IsSettledOf x r s = (d : Class) → Records (state_of x) (loader_of r) (name_of 
 
 -- what a call was answered holds: a class is recorded, a lineage is of the tables, a reference is settled, an equality is imposed,
 -- a class is prepared, or what was to stand is refused (5.3 to 5.4.3)
-abbrev pub TellsOf : {A : Type 0} → Shown → Waits → Reply A → Type 0
-TellsOf x (Looking l n) (reply.Looked (Some row)) = IsRecordedAs x l n row.value
-TellsOf x (Defining d) (reply.Defined row) = IsRecordedAs x d.class.loader d.class.name row.value
-TellsOf x (Initiating h) (reply.Initiated row) = IsRecordedAs x h.asked h.name row.value
-TellsOf x (Tracing c) (reply.Lineage l) = IsTraced x c l
-TellsOf x (LookingReference c i) (reply.LookedReference (Some s)) = IsSettledIn x c i s.value
-TellsOf x (Settling r) (reply.Settled s) = IsSettledOf x r s.value
-TellsOf x (Imposing e k) reply.Imposed = IsNextOf e k (Met (state_of x))
-TellsOf x (LookingPrepared c) (reply.LookedPrepared true) = Contains (state_of x).prepared c
-TellsOf x (Marking e) reply.Marked = IsPreparedBy x e.origin
-TellsOf x waits (reply.Refused n) = Refused (state_of x) (need_of n)
-TellsOf x waits other = Unit {0}
+abbrev pub ReplyTells : {A : Type 0} → Shown → Waits → Reply A → Type 0
+ReplyTells x (Looking l n) (reply.Looked (Some row)) = IsRecordedAs x l n row.value
+ReplyTells x (Defining d) (reply.Defined row) = IsRecordedAs x d.class.loader d.class.name row.value
+ReplyTells x (Initiating h) (reply.Initiated row) = IsRecordedAs x h.asked h.name row.value
+ReplyTells x (Tracing c) (reply.Lineage l) = IsTraced x c l
+ReplyTells x (LookingReference c i) (reply.LookedReference (Some s)) = IsSettledIn x c i s.value
+ReplyTells x (Settling r) (reply.Settled s) = IsSettledOf x r s.value
+ReplyTells x (Imposing e k) reply.Imposed = IsNextOf e k (Met (state_of x))
+ReplyTells x (LookingPrepared c) (reply.LookedPrepared true) = Contains (state_of x).prepared c
+ReplyTells x (Marking e) reply.Marked = IsPreparedBy x e.origin
+ReplyTells x waits (reply.Refused n) = Refused (state_of x) (need_of n)
+ReplyTells x waits other = Unit {0}
 
 -- what a task was told before this reply, and by it (5.3 to 5.4.3)
 pub record Tells {A : Type 0} (x : Shown) (t : Tasked) (r : Reply A) : Type 0 where
   pub before : Holds x t
-  pub now : TellsOf x t.waits r
+  pub now : ReplyTells x t.waits r
 
 -- what a look found, or that it found nothing: true of the tables that were looked at, until that is recorded (5.3)
 abbrev pub Unrecorded : {A : Type 0} → Shown → Waits → Reply A → Type 0
@@ -85,7 +85,7 @@ abbrev pub Backed : {A : Type 0} → Shown → Turn A → Type 0
 Backed x (turn.Define d) = MayEnter x d
 Backed x (turn.Initiate h) = MayJoin x h.value
 Backed x (turn.Lineage c) = IsRecorded (state_of x) c
-Backed x (turn.Settle f) = MaySettle x f
+Backed x (turn.Settle f) = FindingSettles x f
 Backed x (turn.Impose e k) = MayImpose x e.value k
 Backed x (turn.Mark e) = MayMark x e.value
 Backed x (turn.Post f) = IsBacked x f
@@ -202,17 +202,17 @@ Posts a (turn.Post f) = f.answer ≡ a
 Posts a other = ⊥
 
 -- a request resolves a reference (5.4.3)
-abbrev pub IsResolution : Request → Type 0
-IsResolution (requests.Load loader name) = ⊥
-IsResolution (requests.Resolve loader name i) = Unit {0}
-IsResolution (requests.Link loader name) = ⊥
+abbrev pub ResolvesReference : Request → Type 0
+ResolvesReference (requests.Load loader name) = ⊥
+ResolvesReference (requests.Resolve loader name i) = Unit {0}
+ResolvesReference (requests.Link loader name) = ⊥
 
 -- on this reply a turn may run out of memory: not where it posts what is settled, a fault of the source, or a refused need of
 -- a load or a link
 abbrev pub MayLack : {A : Type 0} → Option Request → Reply A → Type 0
 MayLack r (reply.LookedReference (Some s)) = ⊥
 MayLack r (reply.Settled s) = ⊥
-MayLack r (reply.Refused n) = IfSome r IsResolution
+MayLack r (reply.Refused n) = IfSome r ResolvesReference
 MayLack r (reply.SourceFault fault) = fault ≡ faults.Memory
 MayLack r other = Unit {0}
 

@@ -12,12 +12,12 @@ unfoldable pub turns : ℕ
 turns = 18446744073709551632
 
 -- how much is left of loads under these frames, while one is still to be made
-abbrev pub loading : List Frame → ℕ
-loading xs = left_loading most most xs
+abbrev pub left_while_loading : List Frame → ℕ
+left_while_loading xs = left_loading most most xs
 
 -- and once it has ended
-abbrev pub ended : List Frame → ℕ
-ended xs = left_ended most most xs
+abbrev pub left_once_ended : List Frame → ℕ
+left_once_ended xs = left_ended most most xs
 
 -- what a load is at (5.3, 5.3.5)
 pub data Phase : Type 0 where
@@ -30,12 +30,12 @@ pub data Phase : Type 0 where
 
 -- no more than this many turns are left of a load, with these frames and so many probes
 abbrev pub left_at : Phase → List Frame → ℕ → ℕ
-left_at Fresh xs probes = turns * loading xs + (most + 8)
-left_at Looking xs probes = turns * loading xs + (most + 7)
-left_at Reading xs probes = turns * loading xs + (probes + 5)
-left_at Homing xs probes = turns * loading xs + 4
-left_at Defining xs probes = turns * ended xs + 3
-left_at Initiating xs probes = turns * ended xs + 2
+left_at Fresh xs probes = turns * left_while_loading xs + (most + 8)
+left_at Looking xs probes = turns * left_while_loading xs + (most + 7)
+left_at Reading xs probes = turns * left_while_loading xs + (probes + 5)
+left_at Homing xs probes = turns * left_while_loading xs + 4
+left_at Defining xs probes = turns * left_once_ended xs + 3
+left_at Initiating xs probes = turns * left_once_ended xs + 2
 
 -- ---- past the load of the request's class
 

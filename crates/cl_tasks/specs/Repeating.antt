@@ -6,18 +6,18 @@ use Rattle.cl_hierarchy.specs.Paths.{IsPath, Pathed}
 use Rattle.cl_hierarchy.specs.Repeats.{AcceptsAgain, CompletesAgain}
 
 -- the last class of a path accepted again what it had accepted before, as often as it came next, and wants another (5.3.5, steps 3 and 4)
-pub data GoesOn (told : Option Content) (old : Pathed) : Pathed → Type 0 where
-  Here : GoesOn told old old
-  Again : (mid new : Pathed) → GoesOn told old mid → IsPath told mid → AcceptsAgain mid new → GoesOn told old new
+pub data PathGoesOn (told : Option Content) (old : Pathed) : Pathed → Type 0 where
+  Here : PathGoesOn told old old
+  Again : (mid new : Pathed) → PathGoesOn told old mid → IsPath told mid → AcceptsAgain mid new → PathGoesOn told old new
 
 -- and so up to the last of its supertypes: its whole frame (5.3.5, step 5)
 pub record EndsAgain (told : Option Content) (old new : Pathed) (whole : Framed) : Type 0 where
   pub mid : Pathed
-  pub goes : GoesOn told old mid
+  pub goes : PathGoesOn told old mid
   pub path : IsPath told mid
   pub last : CompletesAgain mid new whole
 
 -- it wants another, or is whole (5.3.5, steps 3 to 5)
-abbrev pub ComesTo : Option Content → Pathed → Pathed → Option Framed → Type 0
-ComesTo told old new None = GoesOn told old new
-ComesTo told old new (Some whole) = EndsAgain told old new whole
+abbrev pub PathComesTo : Option Content → Pathed → Pathed → Option Framed → Type 0
+PathComesTo told old new None = PathGoesOn told old new
+PathComesTo told old new (Some whole) = EndsAgain told old new whole

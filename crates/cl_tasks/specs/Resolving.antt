@@ -57,7 +57,7 @@ abbrev pub ImposedTold : {A : Type 0} → Member A → ℕ → Shown → Type 0
 ImposedTold m place x = AreSo x (member_facts m ++ imposed_facts m.equalities.value place)
 
 -- and the next one is refused (5.3.4)
-pub record RefusedTold {A : Type 0} (m : Member A) (place : ℕ) (need : Need) (x : Shown) : Type 0 where
+pub record MemberRefusedTold {A : Type 0} (m : Member A) (place : ℕ) (need : Need) (x : Shown) : Type 0 where
   pub before : ImposedTold m place x
   pub now : Refused (state_of x) need
 

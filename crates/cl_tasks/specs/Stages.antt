@@ -250,13 +250,13 @@ abbrev pub InitiatesNext : {A : Type 0} → Option Content → Job A → Arc (Ho
 InitiatesNext {A} told j h = ComesNext {A = A} told j.path (nexts.Initiate h)
 
 -- a job at its beginning: the request's own class is loaded, and nothing is derived yet (5.3)
-pub record IsFirst {A : Type 0} (j : Job A) : Type 0 where
+pub record JobBegins {A : Type 0} (j : Job A) : Type 0 where
   pub own : target_facts j.request j.target ≡ []
   pub alone : j.path.frames ≡ []
 
 -- what a load keeps (5.3, 5.3.5)
 abbrev pub IsLoading : {A : Type 0} → Option Content → Configured → Load A → Type 0
-IsLoading told c (loads.Fresh j) = IsJob told c j × IsFirst j
+IsLoading told c (loads.Fresh j) = IsJob told c j × JobBegins j
 IsLoading told c (loads.Looking j) = IsJob told c j
 IsLoading told c (loads.Searching j s) = IsJob told c j × IsSearch j s
 IsLoading told c (loads.Homing j h) = IsJob told c j × IsHoming j h

@@ -20,7 +20,7 @@ use Rattle.cl_tasks.specs.Deriving.{Derives}
 use Rattle.cl_tasks.specs.Measures.{Phase, Homing, Reading}
 use Rattle.cl_tasks.specs.Rooms.{Room, calls_at, calls_found, room_at, room_of}
 use Rattle.cl_tasks.specs.Stages.{IsStage, probes_left, task_at, loading_at}
-use Rattle.cl_tasks.specs.Tasks.{Tasked, begun}
+use Rattle.cl_tasks.specs.Tasks.{Tasked, begun_task}
 use Rattle.cl_tasks.specs.Turns.{AnswersOwn, Asks, KeepsRequest, ReadsUnrecorded, WasAbsent, way_of}
 use Rattle.cl_tasks.specs.declared.stage.Job.{Job}
 use Rattle.cl_tasks.specs.declared.stage.Load.TheVariants as loads
@@ -37,7 +37,7 @@ pub record LeadsOn {A : Type 0} (told : Option Content) (c : Configured) (q : �
   pub kept : IsStage told c n.stage
   pub number : (task_at c n.stage).q ≡ q
   pub asks : Asks (task_at c n.stage) n.turn
-  pub serves : KeepsRequest (begun c q r) (task_at c n.stage) n.turn
+  pub serves : KeepsRequest (begun_task c q r) (task_at c n.stage) n.turn
   pub left : (task_at c n.stage).left < room.turns
   pub calls : CallsWithin told c now r room.made (task_at c n.stage).calls room.calls
   pub keeps : (x : Shown) → holds x → Holds x (task_at c n.stage)
@@ -86,8 +86,8 @@ pub record FindsAt {A : Type 0} (j : Job A) (loader : ℕ) (row : Rowed) (x : Sh
   pub now : IsRecordedAs x loader (at_name j.path) row
 
 -- and so at the loader that was asked (5.3)
-abbrev pub Finds : {A : Type 0} → Job A → Rowed → Shown → Type 0
-Finds j row x = FindsAt j (at_loader j.path) row x
+abbrev pub FindsRow : {A : Type 0} → Job A → Rowed → Shown → Type 0
+FindsRow j row x = FindsAt j (at_loader j.path) row x
 
 -- and so at this home (5.3)
 abbrev pub FindsBy : {A : Type 0} → Job A → Located → Rowed → Shown → Type 0

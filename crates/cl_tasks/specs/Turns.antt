@@ -9,7 +9,7 @@ use Rattle.cl_model.specs.declared.verdict.Verdict.TheVariants as verdicts
 use Rattle.cl_model.specs.Frames.{Frame}
 use Rattle.cl_model.specs.States.{Need}
 use Rattle.cl_model.specs.Views.{need_of}
-use Rattle.cl_config.specs.Loaders.{loaders_of}
+use Rattle.cl_config.specs.Loaders.{loaders_in}
 use Rattle.cl_config.specs.Views.{Configured}
 use Rattle.cl_source.specs.Views.{Found}
 use Rattle.cl_model.specs.Probes.{route}
@@ -120,7 +120,7 @@ pub record DerivesUnrecorded {A : Type 0} (old new : Tasked) (r : Reply A) (t : 
 
 -- the loaders on the way of a class: those that are asked for its name where its own loader is asked for it (5.3.2)
 abbrev pub way_of : Configured → Class → List ℕ
-way_of config c = route (loaders_of config) c.loader c.name
+way_of config c = route (loaders_in config) c.loader c.name
 
 -- a loader stands on a way directly behind that of a probe, which found nothing (5.3.2)
 pub record IsBehind (way : List ℕ) (p : Found) (loader : ℕ) : Type 0 where

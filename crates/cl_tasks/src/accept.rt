@@ -8,12 +8,12 @@ ghost use Rattle.cl_hierarchy.specs.Frames.{frame_of};
 ghost use Rattle.cl_hierarchy.specs.Paths.{at_loader, at_name, frames_of, fresh, is_on, misfit_under};
 ghost use Rattle.cl_model.specs.Classes.{supers};
 ghost use Rattle.cl_model.specs.Frames.{wanted};
-ghost use Rattle.cl_tasks.specs.Deriving.{Derives, IsAtHome, IsNone, IsPast};
+ghost use Rattle.cl_tasks.specs.Deriving.{Derives, IsHomeClass, IsNone, IsPast};
 ghost use Rattle.cl_tasks.specs.Ends.{IsOwnTarget};
 ghost use Rattle.cl_tasks.specs.Measures.{Fresh, Homing, Defining, Initiating, most};
-ghost use Rattle.cl_tasks.specs.Repeating.{ComesTo};
+ghost use Rattle.cl_tasks.specs.Repeating.{PathComesTo};
 ghost use Rattle.cl_tasks.specs.Stages.{IsJob, task_at, InitiatesNext};
-ghost use Rattle.cl_tasks.specs.Steps.{DefinesBy, Finds, FindsBy, HoldsOn, IsPlain, LeadsAt, LeadsFrom, LooksBy};
+ghost use Rattle.cl_tasks.specs.Steps.{DefinesBy, FindsRow, FindsBy, HoldsOn, IsPlain, LeadsAt, LeadsFrom, LooksBy};
 ghost use Rattle.cl_tasks.specs.Turns.{GoesOnWith};
 
 use crate::ends::obstacle;
@@ -56,7 +56,7 @@ pub(crate) fn derive<T: Told>(alloc: Global, job: Job<T>, home: Home<T>) -> Next
     requires off { is_on job.path (home_class home) ≡ false }
     ensures leads { LeadsFrom T.told Homing job home.place (HoldsOn job) result }
     ensures plain { IsPlain result.turn }
-    ensures derives { Derives (IsAtHome home) (frames_of job.path) result.stage }
+    ensures derives { Derives (IsHomeClass home) (frames_of job.path) result.stage }
 {
     // brings what a home keeps
     let _ = home.config();
@@ -202,7 +202,7 @@ pub(crate) fn go_on<T: Told>(
     row: Arc<ClassRow<T>>,
 ) -> Next<T>
     requires job { IsJob T.told config.now.value job }
-    ensures leads { LeadsAt T.told Initiating job (Finds job row.value) result }
+    ensures leads { LeadsAt T.told Initiating job (FindsRow job row.value) result }
     ensures own { IsOwnTarget job.target → job.path.frames ≡ []
         → GoesOnWith job.request row.value.class (task_at config.now.value result.stage)
         result.turn }
@@ -227,7 +227,7 @@ fn reject<T: Told>(alloc: Global, job: Job<T>, row: Arc<ClassRow<T>>, kind: Erro
     requires job { IsJob T.told job.path.config job }
     requires name { row.value.class.name ≡ at_name job.path }
     requires misfit { IsMisfit job.path row.value kind }
-    ensures leads { LeadsAt T.told Initiating job (Finds job row.value) result }
+    ensures leads { LeadsAt T.told Initiating job (FindsRow job row.value) result }
     ensures plain { IsPlain result.turn }
     ensures past { IsPast result.stage }
 {
@@ -243,7 +243,7 @@ fn accept<T: Told>(alloc: Global, job: Job<T>, row: &ClassRow<T>) -> Next<T>
     requires waits { job.path.frames ≢ [] }
     requires name { row.now.class.name ≡ at_name job.path }
     requires fits { misfit_under job.path.frames row.now.class (file_of row.now.file) ≡ None }
-    ensures leads { LeadsAt T.told Initiating job (Finds job row.now) result }
+    ensures leads { LeadsAt T.told Initiating job (FindsRow job row.now) result }
     ensures plain { IsPlain result.turn }
     ensures derives { Derives IsNone (frames_of job.path) result.stage }
 {
@@ -307,7 +307,7 @@ fn look_on<T: Told>(alloc: Global, job: Job<T>) -> Next<T>
 
 /// The last class accepts what is looked for as long as it accepted that before: its whole frame, where nothing is left.
 fn accept_repeated<T: Told>(path: &mut Path<T>) -> Result<Option<Frame<T>>, AllocError>
-    ensures { IfOk result (ComesTo T.told path.old path.new) }
+    ensures { IfOk result (PathComesTo T.told path.old path.new) }
 {
     loop {
         match path.accept_again()? {

@@ -7,7 +7,7 @@ ghost use Rattle.cl_model.specs.Views.{need_of};
 ghost use Rattle.cl_findings.specs.Loads.{ComesNext, Stops, next_need};
 ghost use Rattle.cl_model.specs.declared.answer.Answer.TheVariants as answers;
 ghost use Rattle.cl_tasks.specs.Deriving.{IsPast};
-ghost use Rattle.cl_tasks.specs.Follows.{EndsAsRefused, IsResolution, Posts, fault_answer};
+ghost use Rattle.cl_tasks.specs.Follows.{EndsAsRefused, ResolvesReference, Posts, fault_answer};
 ghost use Rattle.cl_tasks.specs.Ends.{ConcludesBy, EndRests, IsAftermath, NextRests, NextWithin, RefusedOn};
 ghost use Rattle.cl_tasks.specs.Rooms.{last_room, past_room};
 ghost use Rattle.cl_tasks.specs.Stages.{IsJob, IsSearch, loading_at};
@@ -41,7 +41,7 @@ pub(crate) enum Aftermath<T: Told> {
 fn what_follows<T: Told>(alloc: Global, job: &Job<T>) -> Result<Aftermath<T>, AllocError>
     requires { IsJob T.told job.now.path.config job.now }
     ensures follows { IfOk result (IsAftermath job.now) }
-    ensures lacks { IfErr result (λ e. IsResolution job.now.request) }
+    ensures lacks { IfErr result (λ e. ResolvesReference job.now.request) }
 {
     match (&job.target, &job.request) {
         (Target::Own, Request::Resolve(loader, name, _)) => {
@@ -161,7 +161,7 @@ pub(crate) fn refuse<T: Told>(
     ensures leads { Leads T.told job (past_room job) (RefusedOn job next) result }
     ensures plain { IsPlain result.turn }
     ensures past { IsPast result.stage }
-    ensures lacks { Posts answers.Memory result.turn → IsResolution job.request }
+    ensures lacks { Posts answers.Memory result.turn → ResolvesReference job.request }
     ensures ends { EndsAsRefused job.request need result.turn }
 {
     let Ok(aftermath) = what_follows(alloc, &job) else {

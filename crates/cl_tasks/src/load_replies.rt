@@ -1,7 +1,7 @@
 //! What a load makes of a reply.
 
 ghost use Rattle.cl_findings.specs.Loads.{IsWhole};
-ghost use Rattle.cl_tasks.specs.Stages.{IsFirst, IsHoming, IsJob, IsSearch, loading_at, InitiatesNext};
+ghost use Rattle.cl_tasks.specs.Stages.{JobBegins, IsHoming, IsJob, IsSearch, loading_at, InitiatesNext};
 ghost use Rattle.cl_tasks.specs.Steps.{Steps};
 ghost use Rattle.cl_tasks.specs.Turns.{Expects};
 
@@ -22,7 +22,7 @@ use std::sync::Arc;
 /// The first turn.
 pub(crate) fn begin<T: Told>(alloc: Global, job: Job<T>, reply: Reply<T>) -> Next<T>
     requires job { IsJob T.told job.path.config job }
-    requires first { IsFirst job }
+    requires first { JobBegins job }
     requires expects { Expects (loading_at job.path.config (Load.Fresh job)) reply }
     ensures { Steps T.told (loading_at job.path.config (Load.Fresh job)) reply result }
 {

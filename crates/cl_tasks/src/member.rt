@@ -12,7 +12,7 @@ ghost use Rattle.cl_tasks.specs.Cited.{IsKind};
 ghost use Rattle.cl_tasks.specs.Deriving.{IsPast};
 ghost use Rattle.cl_tasks.specs.Follows.{EndsAsRefused};
 ghost use Rattle.cl_tasks.specs.Rooms.{imposing_room, settle_room, tracing_named_room, tracing_own_room};
-ghost use Rattle.cl_tasks.specs.Resolving.{Cites, ImposedTold, IsInaccessible, IsRefusedAccess, OwnTold, RefusedTold, TracedTold};
+ghost use Rattle.cl_tasks.specs.Resolving.{Cites, ImposedTold, IsInaccessible, IsRefusedAccess, OwnTold, MemberRefusedTold, TracedTold};
 ghost use Rattle.cl_tasks.specs.Stages.{IsEntry, IsMember};
 ghost use Rattle.cl_tasks.specs.Steps.{IsPlain, LeadsBy, memory_ends};
 ghost use Rattle.cl_tasks.specs.Turns.{equality_at, IsOf};
@@ -354,7 +354,7 @@ pub(crate) fn refuse_member<T: Told>(
     requires member { IsMember config.now.value member }
     requires need { equality_at member.equalities.value place ≡ Some (need_of need) }
     ensures leads { LeadsBy T.told config.now.value member.entry.q member.entry.request settle_room
-        (RefusedTold member place (need_of need)) result }
+        (MemberRefusedTold member place (need_of need)) result }
     ensures plain { IsPlain result.turn }
     ensures past { IsPast result.stage }
     ensures ends { EndsAsRefused member.entry.request need result.turn }

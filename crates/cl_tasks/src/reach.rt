@@ -9,7 +9,7 @@ ghost use Rattle.cl_tasks.specs.Ends.{IsOwnTarget};
 ghost use Rattle.cl_tasks.specs.Measures.{Initiating};
 ghost use Rattle.cl_tasks.specs.Reaching.{ReachesBy};
 ghost use Rattle.cl_tasks.specs.Stages.{IsJob, task_at};
-ghost use Rattle.cl_tasks.specs.Steps.{Finds, IsPlain, LeadsAt};
+ghost use Rattle.cl_tasks.specs.Steps.{FindsRow, IsPlain, LeadsAt};
 ghost use Rattle.cl_tasks.specs.Turns.{GoesOnWith};
 
 use crate::leads::{out_of_memory, post};
@@ -33,7 +33,7 @@ pub(crate) fn reach<T: Told>(
     requires job { IsJob T.told config.now.value job }
     requires alone { job.path.frames ≡ [] }
     requires name { row.value.class.name ≡ at_name job.path }
-    ensures leads { LeadsAt T.told Initiating job (Finds job row.value) result }
+    ensures leads { LeadsAt T.told Initiating job (FindsRow job row.value) result }
     ensures own { IsOwnTarget job.target → GoesOnWith job.request row.value.class
         (task_at config.now.value result.stage) result.turn }
     ensures plain { IsPlain result.turn }

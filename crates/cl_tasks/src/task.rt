@@ -4,7 +4,7 @@ ghost use Rattle.cl_registry.specs.Tables.{Shown};
 ghost use Rattle.cl_tasks.specs.Blames.{BlamesWhere};
 ghost use Rattle.cl_tasks.specs.Facts.{Holds};
 ghost use Rattle.cl_tasks.specs.Follows.{AreLeft, BackedWhere, CallsWithin, EndsRefused, FollowsWhere, IsWithinCost, LacksOnly, Refuses, Tells, TellsNow, made_by, refusal};
-ghost use Rattle.cl_tasks.specs.Tasks.{begun};
+ghost use Rattle.cl_tasks.specs.Tasks.{begun_task};
 ghost use Rattle.cl_tasks.specs.Turns.{AnswersOwn, Asks, DerivesUnrecorded, Expects, KeepsRequest, ReadsUnrecorded};
 
 use crate::expected::expects;
@@ -64,7 +64,7 @@ impl<T: Told> Task<T> {
         request: Request,
     ) -> Result<Task<T>, TaskRefused>
         requires loader { loader_of request < length config.value.loaders }
-        ensures fresh { IfOk result (λ t. t ≡ begun config.value q request) }
+        ensures fresh { IfOk result (λ t. t ≡ begun_task config.value q request) }
         ensures cost { IfOk result (λ t. IsWithinCost t.calls) }
         ensures more { IfOk result (λ t. AreLeft t.calls) }
         ensures refused { IfErr result (λ e. (e.config.value ≡ config.value)

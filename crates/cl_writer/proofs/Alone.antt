@@ -19,7 +19,7 @@ use Rattle.cl_writer.specs.declared.statement.Statement.TheVariants.{Implements,
 use Rattle.cl_writer.specs.declared.fault.AssembleFault.{AssembleFault}
 use Rattle.cl_writer.specs.declared.fault.AssembleFault.TheVariants.{Memory, BadLine, Invalid}
 use Rattle.cl_writer.specs.Statements.{WritesInteger, WritesSuper, IsName, IsInteger, IsMemberLine, IsMemberName, IsClassLine, Begins, kind_word, Refers, Says}
-use Rattle.cl_writer.specs.Assemblies.{Listed, class_alone, with_said, AllSay, IsRest, StopsAt, IsRead, IsBadAt}
+use Rattle.cl_writer.specs.Assemblies.{ListedClass, class_alone, with_said, AllSay, IsRest, StopsAt, IsRead, IsBadAt}
 use Rattle.cl_writer.specs.Described.{described}
 use Rattle.cl_writer.specs.Assembled.{IsAssembled, IsInvalid, AssembleOf}
 use Rattle.cl_writer.proofs.Rows.{first_of, second_of, third_of, head_of, only_of, letters, differs, other, behind, no_member_word}
@@ -130,10 +130,10 @@ one_list (l ∷ ls) [] ts v w = absurd v
 one_list (l ∷ ls) (a ∷ ss) [] v w = absurd w
 one_list (l ∷ ls) (a ∷ ss) (b ∷ ts) v w = same_more a b ss ts (one_statement (words_of l.text) a b v.0 w.0) (one_list ls ss ts v.1 w.1)
 
-one_rest : (class : ClassLine) (lines : List Numbered) (a b : Listed) → IsRest class lines a → IsRest class lines b → a ≡ b
+one_rest : (class : ClassLine) (lines : List Numbered) (a b : ListedClass) → IsRest class lines a → IsRest class lines b → a ≡ b
 one_rest class lines a b v w = v.is ∙ ap (fold with_said (class_alone class)) (one_list lines v.statements w.statements v.said w.said) ∙ sym w.is
 
-pub one_listed : (lines : List Numbered) (a b : Listed) → IsRead lines a → IsRead lines b → a ≡ b
+pub one_listed : (lines : List Numbered) (a b : ListedClass) → IsRead lines a → IsRead lines b → a ≡ b
 one_listed [] a b v w = absurd v
 one_listed (l ∷ ls) a b v w =
     let same : a.class ≡ b.class = one_class_line (words_of l.text) a.class b.class v.0 w.0 in
@@ -178,12 +178,12 @@ all_but (l ∷ ls) s behind [] v bad = v
 all_but (l ∷ ls) s behind (a ∷ ss) v bad = all_but ls s behind ss v.1 bad
 
 -- lines that all say something stop nowhere
-goes_on : (class : ClassLine) (lines : List Numbered) (a : Listed) (n : ℕ) → IsRest class lines a → StopsAt lines n → ⊥
+goes_on : (class : ClassLine) (lines : List Numbered) (a : ListedClass) (n : ℕ) → IsRest class lines a → StopsAt lines n → ⊥
 unfolding Bad
 goes_on class lines a n v w = all_but w.front w.line w.behind v.statements (subst (λ (ls : List Numbered). AllSay ls v.statements) w.cut v.said) w.bad
 
 -- lines that are read have no line that is wrong
-read_or_bad : (lines : List Numbered) (a : Listed) (n : ℕ) → IsRead lines a → IsBadAt lines n → ⊥
+read_or_bad : (lines : List Numbered) (a : ListedClass) (n : ℕ) → IsRead lines a → IsBadAt lines n → ⊥
 read_or_bad [] a n v w = v
 read_or_bad (l ∷ ls) a n v w = elim w [ inl first ↦ first.1 a.class v.0 | inr later ↦ goes_on a.class ls a n v.1 later.1 ]
 
@@ -207,10 +207,10 @@ no_both : (f : Structure) (g : Fault) (r : Result Structure Fault) → r ≡ Ok 
 no_both f g r v w = absurd cc
 
 one_fault : (lines : List Numbered) (f g : Fault) → IsInvalid lines f → IsInvalid lines g → f ≡ g
-one_fault lines f g v w = fault_is f g (parts_of (described v.listed)) v.first (ap (λ (l : Listed). parts_of (described l)) (one_listed lines v.listed w.listed v.read w.read) ∙ w.first)
+one_fault lines f g v w = fault_is f g (parts_of (described v.listed)) v.first (ap (λ (l : ListedClass). parts_of (described l)) (one_listed lines v.listed w.listed v.read w.read) ∙ w.first)
 
 good_or_invalid : (lines : List Numbered) (f : Structure) (g : Fault) → IsAssembled lines f → IsInvalid lines g → ⊥
-good_or_invalid lines f g v w = no_both f g (parts_of (described v.listed)) v.kept (ap (λ (l : Listed). parts_of (described l)) (one_listed lines v.listed w.listed v.read w.read) ∙ w.first)
+good_or_invalid lines f g v w = no_both f g (parts_of (described v.listed)) v.kept (ap (λ (l : ListedClass). parts_of (described l)) (one_listed lines v.listed w.listed v.read w.read) ∙ w.first)
 
 pub one_answer : (lines : List Numbered) (r s : Result Structure AssembleFault) → AssembleOf lines r → AssembleOf lines s → r ≢ Err Memory → s ≢ Err Memory → r ≡ s
 one_answer lines (Err Memory) s v w some other = absurd (some refl)

@@ -9,7 +9,7 @@ use Rattle.cl_classfile.specs.Structure.{Structure, Spells, spelling}
 use Rattle.cl_classfile.specs.Widths.{is_short}
 use Rattle.cl_classfile.specs.Checking.{checked_pool, parts_of}
 use Rattle.cl_writer.specs.declared.item.Item.{Item}
-use Rattle.cl_writer.specs.Assemblies.{Listed, IsRead}
+use Rattle.cl_writer.specs.Assemblies.{ListedClass, IsRead}
 use Rattle.cl_writer.specs.Items.{items_of}
 use Rattle.cl_writer.specs.Described.{described, described_over, entry_of}
 use Rattle.cl_writer.specs.Assembled.{IsAssembled, IsInvalid}
@@ -25,21 +25,21 @@ too_long : (f : Structure) → is_short (length f.pool + 1) ≡ false → parts_
 unfolding checked_pool parts_of
 too_long f long = rw long refl
 
-pub too_many : (lines : List Numbered) (l : Listed) (items : List Item) → IsRead lines l → items ≡ items_of l → MOST_ENTRIES < length items → IsInvalid lines (BadPool 0)
+pub too_many : (lines : List Numbered) (l : ListedClass) (items : List Item) → IsRead lines l → items ≡ items_of l → MOST_ENTRIES < length items → IsInvalid lines (BadPool 0)
 too_many lines l items read is many = record {
   listed = l;
   read = read;
   first = too_long (described l) (ap (λ n. is_short (n + 1)) (length-map (items_of l) (entry_of (items_of l)) ∙ sym (ap length is)) ∙ no_count (length items) many);
 }
 
-pub faulty : (lines : List Numbered) (l : Listed) (items : List Item) (parts : Structure) (fault : Fault) → IsRead lines l → items ≡ items_of l → parts ≡ described_over items l → parts_of parts ≡ Err fault → IsInvalid lines fault
+pub faulty : (lines : List Numbered) (l : ListedClass) (items : List Item) (parts : Structure) (fault : Fault) → IsRead lines l → items ≡ items_of l → parts ≡ described_over items l → parts_of parts ≡ Err fault → IsInvalid lines fault
 faulty lines l items parts fault read is same first = record {
   listed = l;
   read = read;
   first = ap parts_of (sym (same ∙ ap (λ i. described_over i l) is)) ∙ first;
 }
 
-pub made : (lines : List Numbered) (l : Listed) (items : List Item) (parts file : Structure) → IsRead lines l → items ≡ items_of l → parts ≡ described_over items l → (file ≡ parts) × Spells (spelling file) file → parts_of parts ≡ Ok file
+pub made : (lines : List Numbered) (l : ListedClass) (items : List Item) (parts file : Structure) → IsRead lines l → items ≡ items_of l → parts ≡ described_over items l → (file ≡ parts) × Spells (spelling file) file → parts_of parts ≡ Ok file
     → IsAssembled lines file
 made lines l items parts file read is same found kept =
     let described_so : parts ≡ described l = same ∙ ap (λ i. described_over i l) is in

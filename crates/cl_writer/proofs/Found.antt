@@ -24,7 +24,7 @@ use Rattle.cl_writer.specs.declared.statement.Statement.TheVariants.{Implements,
 use Rattle.cl_writer.specs.declared.fault.AssembleFault.{AssembleFault}
 use Rattle.cl_writer.specs.declared.fault.AssembleFault.TheVariants.{Memory, BadLine, Invalid}
 use Rattle.cl_writer.specs.Statements.{flags_of, WritesInteger, WritesSuper, IsName, IsInteger, IsMemberLine, IsMemberName, IsClassLine, Begins, kind_word, Refers, Says}
-use Rattle.cl_writer.specs.Assemblies.{Listed, class_alone, with_said, AllSay, IsRest, StopsAt, IsRead, IsBadAt}
+use Rattle.cl_writer.specs.Assemblies.{ListedClass, class_alone, with_said, AllSay, IsRest, StopsAt, IsRead, IsBadAt}
 use Rattle.cl_writer.specs.Described.{described}
 use Rattle.cl_writer.specs.Listings.{listing_of}
 use Rattle.cl_writer.specs.Assembled.{IsAssembled, AssembleOf}
@@ -264,7 +264,7 @@ all_read l ls class ss here more =
     let same = sym (class_stays (class_alone class) ss) in
     (subst (λ k. IsClassLine (words_of l.text) k) same here, subst (λ k. IsRest k ls (fold with_said (class_alone class) ss)) same (record { statements = ss; said = more; is = refl }))
 
-lines_found : (lines : List Numbered) → ((a : Listed) × IsRead lines a) ⊎ ((n : ℕ) × IsBadAt lines n)
+lines_found : (lines : List Numbered) → ((a : ListedClass) × IsRead lines a) ⊎ ((n : ℕ) × IsBadAt lines n)
 lines_found [] = inr (0, refl)
 lines_found (l ∷ ls) =
     elim (class_line_found (words_of l.text)) [
@@ -289,7 +289,7 @@ spelled_so f g h =
     let says = parts_say f g h in
     subst (λ (x : Structure). Spells (spelling x) x) says.0 (record { file = says.1; spelled = refl })
 
-made_of : (lines : List Numbered) (l : Listed) (file : Structure) → IsRead lines l → parts_of (described l) ≡ Ok file → IsAssembled lines file
+made_of : (lines : List Numbered) (l : ListedClass) (file : Structure) → IsRead lines l → parts_of (described l) ≡ Ok file → IsAssembled lines file
 made_of lines l file read kept =
     let same : file ≡ described l = sym (parts_say (described l) file kept).0 in
     record { listed = l; read = read; is = same; kept = kept; spelled = spelled_so (described l) file kept; printed = ap listing_of same ∙ printed_so l }

@@ -11,10 +11,10 @@ use Rattle.cl_writer.specs.declared.fault.AssembleFault.{AssembleFault}
 use Rattle.cl_writer.specs.declared.fault.AssembleFault.TheVariants.{Memory, BadLine, Invalid}
 use Rattle.cl_lines.specs.Lines.{stated_from}
 use Rattle.cl_writer.specs.Statements.{IsClassLine, Says}
-use Rattle.cl_writer.specs.Assemblies.{Listed, lists_of, class_alone, with_said, AllSay, IsRest, StopsAt, RestOf, LinesOf}
+use Rattle.cl_writer.specs.Assemblies.{ListedClass, lists_of, class_alone, with_said, AllSay, IsRest, StopsAt, RestOf, LinesOf}
 
 -- so far each line says something; these lines are left
-pub record IsReadSoFar (class : ClassLine) (lines left : List Numbered) (listed : Listed) : Type 0 where
+pub record IsReadSoFar (class : ClassLine) (lines left : List Numbered) (listed : ListedClass) : Type 0 where
   pub front : List Numbered
   pub statements : List Statement
   pub cut : lines ≡ front ++ left
@@ -35,12 +35,12 @@ all_say_more [] (t ∷ ts) line s all here = absurd all
 all_say_more (l ∷ ls) [] line s all here = absurd all
 all_say_more (l ∷ ls) (t ∷ ts) line s all here = (all.0, all_say_more ls ts line s all.1 here)
 
-folded_more : (start : Listed) (statements : List Statement) (s : Statement) → fold with_said start (statements ++ s ∷ []) ≡ with_said (fold with_said start statements) s
+folded_more : (start : ListedClass) (statements : List Statement) (s : Statement) → fold with_said start (statements ++ s ∷ []) ≡ with_said (fold with_said start statements) s
 folded_more start [] s = refl
 folded_more start (t ∷ ts) s = folded_more (with_said start t) ts s
 
 -- one more line says something
-pub more_read : (class : ClassLine) (lines left rest : List Numbered) (listed more : Listed) (line : Numbered) (s : Statement)
+pub more_read : (class : ClassLine) (lines left rest : List Numbered) (listed more : ListedClass) (line : Numbered) (s : Statement)
     → IsReadSoFar class lines left listed → left ≡ line ∷ rest → Says (words_of line.text) s → more ≡ with_said listed s → IsReadSoFar class lines rest more
 more_read class lines left rest listed more line s t first here grown = record {
   front = t.front ++ line ∷ [];
@@ -51,7 +51,7 @@ more_read class lines left rest listed more line s t first here grown = record {
 }
 
 -- a line that says nothing
-pub stops_here : (class : ClassLine) (lines left rest : List Numbered) (listed : Listed) (line : Numbered)
+pub stops_here : (class : ClassLine) (lines left rest : List Numbered) (listed : ListedClass) (line : Numbered)
     → IsReadSoFar class lines left listed → left ≡ line ∷ rest → ((s : Statement) → Says (words_of line.text) s → ⊥) → StopsAt lines line.number
 stops_here class lines left rest listed line t first bad = record {
   front = t.front;
@@ -65,7 +65,7 @@ stops_here class lines left rest listed line t first bad = record {
 }
 
 -- no line is left
-pub whole_read : (class : ClassLine) (lines left : List Numbered) (listed : Listed) → IsReadSoFar class lines left listed → left ≡ [] → IsRest class lines listed
+pub whole_read : (class : ClassLine) (lines left : List Numbered) (listed : ListedClass) → IsReadSoFar class lines left listed → left ≡ [] → IsRest class lines listed
 whole_read class lines left listed t none = record {
   statements = t.statements;
   said = subst (λ ls. AllSay ls t.statements) (sym (t.cut ∙ ap (λ l. t.front ++ l) none ∙ append-nil t.front)) t.said;
@@ -74,18 +74,18 @@ whole_read class lines left listed t none = record {
 
 -- ---- the line of the class, and the others
 
-said_of_class : (l : Listed) (s : Statement) → (let c : ClassLine = (with_said l s).class in c) ≡ l.class
+said_of_class : (l : ListedClass) (s : Statement) → (let c : ClassLine = (with_said l s).class in c) ≡ l.class
 said_of_class l (Implements n) = refl
 said_of_class l (Field line) = refl
 said_of_class l (Method line) = refl
 said_of_class l (Ref i) = refl
 
-pub class_stays : (l : Listed) (ss : List Statement) → (fold with_said l ss).class ≡ l.class
+pub class_stays : (l : ListedClass) (ss : List Statement) → (fold with_said l ss).class ≡ l.class
 class_stays l [] = refl
 class_stays l (s ∷ ss) = class_stays (with_said l s) ss ∙ said_of_class l s
 
-same_class : (class : ClassLine) (lines : List Numbered) (listed : Listed) → IsRest class lines listed → listed.class ≡ class
-same_class class lines listed t = ap (λ (l : Listed). l.class) t.is ∙ class_stays (class_alone class) t.statements
+same_class : (class : ClassLine) (lines : List Numbered) (listed : ListedClass) → IsRest class lines listed → listed.class ≡ class
+same_class class lines listed t = ap (λ (l : ListedClass). l.class) t.is ∙ class_stays (class_alone class) t.statements
 
 first_and_rest : (first : Numbered) (rest : List Numbered) (class : ClassLine) (r : Result Assembly AssembleFault) → IsClassLine (words_of first.text) class → RestOf class rest r → LinesOf (first ∷ rest) r
 first_and_rest first rest class (Ok a) here t =

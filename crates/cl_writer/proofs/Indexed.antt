@@ -11,7 +11,7 @@ use Rattle.cl_writer.specs.declared.item.Item.TheVariants.{Text, Integer, Class,
 use Rattle.std.proofs.lemmas.List.{length_push}
 use Rattle.indexmap.specs.IndexMap.{IndexMap, get}
 use Rattle.cl_classfile.specs.Files.{same_name}
-use Rattle.cl_writer.specs.Items.{same_kind, same_member, same_item, index_from, index_of, IsIndexed}
+use Rattle.cl_writer.specs.Items.{same_kind, same_member, same_item, index_from, index_of, ItemsAreIndexed}
 use Rattle.std.proofs.lemmas.Bool.{and_parts, and_from}
 use Rattle.std.proofs.lemmas.Option.{same_Some}
 use Rattle.std.specs.Option.{option_or}
@@ -155,16 +155,16 @@ none_is (Some n) e = absurd cc
 
 -- ---- the map, with an entry more
 
-module _ {S : Type 0} (old new : IndexMap Item ℕ S) (items pushed : List Item) (item copy : Item) (m : ℕ) (b : Bool) (indexed : IsIndexed items old) (grown : pushed ≡ items ++ item ∷ []) (copied : copy ≡ item) (tested : b ≡ is_some (get same_item old copy)) where
+module _ {S : Type 0} (old new : IndexMap Item ℕ S) (items pushed : List Item) (item copy : Item) (m : ℕ) (b : Bool) (indexed : ItemsAreIndexed items old) (grown : pushed ≡ items ++ item ∷ []) (copied : copy ≡ item) (tested : b ≡ is_some (get same_item old copy)) where
   known : is_some (index_of items item) ≡ b
   known = sym (tested ∙ ap is_some (indexed copy) ∙ ap (λ i. is_some (index_of items i)) copied)
 
-  pub with_stayed : b ≡ true → IsIndexed pushed old
+  pub with_stayed : b ≡ true → ItemsAreIndexed pushed old
   with_stayed e q =
       let there = some_is (index_of items item) (known ∙ e) in
       rw grown (stays items item q there.0 (get same_item old q) there.1 (indexed q))
 
-  pub with_entered : b ≡ false → m ≡ length pushed → ((q : Item) → get same_item new q ≡ cond (same_item copy q) (Some m) (get same_item old q)) → IsIndexed pushed new
+  pub with_entered : b ≡ false → m ≡ length pushed → ((q : Item) → get same_item new q ≡ cond (same_item copy q) (Some m) (get same_item old q)) → ItemsAreIndexed pushed new
   with_entered e count updated q =
       let counted : m ≡ 1 + length items = count ∙ ap length grown ∙ length_push items item ∙ one_more (length items) in
       rw grown (updated q ∙ ap (λ i. cond (same_item i q) (Some m) (get same_item old q)) copied ∙ enters items item q m (get same_item old q) (none_is (index_of items item) (known ∙ e)) (indexed q) counted)

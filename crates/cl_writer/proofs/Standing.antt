@@ -12,8 +12,8 @@ use Rattle.cl_writer.specs.declared.item.Item.{Item}
 use Rattle.cl_writer.specs.declared.item.Item.TheVariants.{Text, Class}
 use Rattle.cl_writer.specs.declared.statement.ClassLine.{ClassLine}
 use Rattle.cl_writer.specs.declared.statement.MemberLine.{MemberLine}
-use Rattle.cl_writer.specs.Assemblies.{Listed}
-use Rattle.cl_writer.specs.Items.{same_item, index_from, index_of, index, with_item, class_wanted, line_wanted, wanted, all_wanted, items_of}
+use Rattle.cl_writer.specs.Assemblies.{ListedClass}
+use Rattle.cl_writer.specs.Items.{same_item, index_from, index_of, index, with_item, class_wanted, line_wanted, wanted_items, all_wanted, items_of}
 use Rattle.cl_writer.specs.Described.{entry_of, member_of, super_index, described}
 use Rattle.cl_writer.specs.Listings.{printed_name, printed_type, printed_super, class_line, implements_line, member_line, listing_of, super_text, class_text, implements_text, member_text, text_of}
 use Rattle.cl_writer.proofs.Indexed.{same_says, same_self, index_more, some_is}
@@ -144,11 +144,11 @@ module _ (items : List Item) where
       ∙ ap (λ t. codes "class " ++ four_digits line.flags ++ codes " " ++ escaped line.name ++ codes " " ++ t ++ 10 ∷ []) (super_named line.superclass s)
 
 -- the listing of what lines describe has these lines
-pub printed_so : (l : Listed) → listing_of (described l) ≡ text_of l
+pub printed_so : (l : ListedClass) → listing_of (described l) ≡ text_of l
 printed_so l =
     let items = items_of l in
     let P : Item → Type 0 = Stands items in
-    let refs = split P (flat_map wanted l.references) _ (all_stand (all_wanted l) l.references) in
+    let refs = split P (flat_map wanted_items l.references) _ (all_stand (all_wanted l) l.references) in
     let class = split P (class_wanted l.class.name) _ refs.1 in
     let above = split P (flat_map class_wanted (option_to_list l.class.superclass)) _ class.1 in
     let interfaces = split P (flat_map class_wanted l.interfaces) _ above.1 in

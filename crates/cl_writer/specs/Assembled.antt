@@ -6,14 +6,14 @@ use Rattle.cl_classfile.specs.Structure.{Structure, Spells, spelling}
 use Rattle.cl_classfile.specs.Checking.{parts_of}
 use Rattle.cl_writer.specs.declared.fault.AssembleFault.{AssembleFault}
 use Rattle.cl_writer.specs.declared.fault.AssembleFault.TheVariants.{Memory, BadLine, Invalid}
-use Rattle.cl_writer.specs.Assemblies.{Listed, IsRead, IsBadAt}
+use Rattle.cl_writer.specs.Assemblies.{ListedClass, IsRead, IsBadAt}
 use Rattle.cl_writer.specs.Described.{described}
 use Rattle.cl_writer.specs.Listings.{listing_of, text_of}
 
 -- the lines describe this file, which is a class file: the tests of its parts find no fault, and
 -- bytes spell it; it is listed as these lines without those of `ref` (JVMS SE 8, 4.1 of the file)
 pub record IsAssembled (lines : List Numbered) (file : Structure) : Type 0 where
-  pub listed : Listed
+  pub listed : ListedClass
   pub read : IsRead lines listed
   pub is : file ≡ described listed
   pub kept : parts_of (described listed) ≡ Ok file
@@ -22,7 +22,7 @@ pub record IsAssembled (lines : List Numbered) (file : Structure) : Type 0 where
 
 -- the lines describe what is no class file: this is the first fault of its parts (4.1)
 pub record IsInvalid (lines : List Numbered) (fault : Fault) : Type 0 where
-  pub listed : Listed
+  pub listed : ListedClass
   pub read : IsRead lines listed
   pub first : parts_of (described listed) ≡ Err fault
 

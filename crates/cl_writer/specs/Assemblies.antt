@@ -13,7 +13,7 @@ use Rattle.cl_writer.specs.declared.fault.AssembleFault.TheVariants.{Memory, Bad
 use Rattle.cl_writer.specs.Statements.{IsClassLine, Says}
 
 -- what the lines of a class say, each kind in its order
-pub record Listed : Type 0 where
+pub record ListedClass : Type 0 where
   pub class : ClassLine
   pub interfaces : List (List ℕ)
   pub fields : List MemberLine
@@ -21,7 +21,7 @@ pub record Listed : Type 0 where
   pub references : List Item
 
 -- the same of what was read
-abbrev pub lists_of : Assembly → Listed
+abbrev pub lists_of : Assembly → ListedClass
 lists_of a =
     record {
       class = a.class;
@@ -32,12 +32,12 @@ lists_of a =
     }
 
 -- the line of the class alone
-abbrev pub class_alone : ClassLine → Listed
+abbrev pub class_alone : ClassLine → ListedClass
 class_alone class =
     record { class = class; interfaces = []; fields = []; methods = []; references = [] }
 
 -- one line more stands at the end of its kind
-abbrev pub with_said : Listed → Statement → Listed
+abbrev pub with_said : ListedClass → Statement → ListedClass
 with_said l (Implements name) = record l { interfaces = l.interfaces ++ name ∷ [] }
 with_said l (Field line) = record l { fields = l.fields ++ line ∷ [] }
 with_said l (Method line) = record l { methods = l.methods ++ line ∷ [] }
@@ -48,7 +48,7 @@ abbrev pub AllSay : List Numbered → List Statement → Type 0
 AllSay = AllZip (λ line said. Says (words_of line.text) said)
 
 -- the lines behind that of the class say this
-pub record IsRest (class : ClassLine) (lines : List Numbered) (listed : Listed) : Type 0 where
+pub record IsRest (class : ClassLine) (lines : List Numbered) (listed : ListedClass) : Type 0 where
   pub statements : List Statement
   pub said : AllSay lines statements
   pub is : listed ≡ fold with_said (class_alone class) statements
@@ -72,7 +72,7 @@ RestOf class lines (Err (Invalid f)) = ⊥
 RestOf class lines (Err Memory) = Unit {0}
 
 -- the first line is that of the class, and the others say the rest
-abbrev pub IsRead : List Numbered → Listed → Type 0
+abbrev pub IsRead : List Numbered → ListedClass → Type 0
 IsRead [] listed = ⊥
 IsRead (l ∷ ls) listed = IsClassLine (words_of l.text) listed.class × IsRest listed.class ls listed
 

@@ -14,7 +14,7 @@ use Rattle.cl_writer.specs.declared.item.Item.TheVariants.{
   Member,
 }
 use Rattle.cl_writer.specs.declared.statement.MemberLine.{MemberLine}
-use Rattle.cl_writer.specs.Assemblies.{Listed}
+use Rattle.cl_writer.specs.Assemblies.{ListedClass}
 use Rattle.cl_writer.specs.Items.{index, items_of}
 
 -- the reference to a member of such a kind (4.4.2)
@@ -34,7 +34,7 @@ entry_of items (Member kind m) =
     reference_of kind (index items (Class m.class)) (index items (NameAndType m.name m.descriptor))
 
 -- a field or a method, without attributes (4.5, 4.6)
-abbrev pub member_of : List Item → MemberLine → structure.Member
+abbrev pub member_of : List Item → MemberLine → structure.MemberInfo
 member_of items line =
     record {
       flags = line.flags;
@@ -49,7 +49,7 @@ super_index items None = 0
 super_index items (Some name) = index items (Class name)
 
 -- the file of these entries, with the flags, names and members of the lines (4.1)
-abbrev pub described_over : List Item → Listed → structure.Structure
+abbrev pub described_over : List Item → ListedClass → structure.Structure
 described_over items l = record {
   pool = map (entry_of items) items;
   flags = l.class.flags;
@@ -62,5 +62,5 @@ described_over items l = record {
 }
 
 -- the file that the lines describe, over the entries that they ask for (4.1)
-abbrev pub described : Listed → structure.Structure
+abbrev pub described : ListedClass → structure.Structure
 described l = described_over (items_of l) l

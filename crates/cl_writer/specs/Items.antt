@@ -35,7 +35,7 @@ use Rattle.cl_writer.specs.declared.item.Item.TheVariants.{
   Member,
 }
 use Rattle.cl_writer.specs.declared.statement.MemberLine.{MemberLine}
-use Rattle.cl_writer.specs.Assemblies.{Listed}
+use Rattle.cl_writer.specs.Assemblies.{ListedClass}
 
 -- ---- two entries are equal
 
@@ -76,8 +76,8 @@ abbrev pub index : List Item → Item → ℕ
 index items item = unwrap_or (index_of items item) 0
 
 -- the map tells the index of each entry
-abbrev pub IsIndexed : {S : Type 0} → List Item → IndexMap Item ℕ S → Type 0
-IsIndexed items indices = (item : Item) → get same_item indices item ≡ index_of items item
+abbrev pub ItemsAreIndexed : {S : Type 0} → List Item → IndexMap Item ℕ S → Type 0
+ItemsAreIndexed items indices = (item : Item) → get same_item indices item ≡ index_of items item
 
 -- one entry of the map is put, and the others stay
 abbrev pub PutsIndex : {S : Type 0} → IndexMap Item ℕ S → IndexMap Item ℕ S → Item → ℕ → Type 0
@@ -99,12 +99,12 @@ abbrev pub type_wanted : List ℕ → List ℕ → List Item
 type_wanted name descriptor = Text name ∷ Text descriptor ∷ NameAndType name descriptor ∷ []
 
 -- what an entry wants to stand, in order: what it names, and then itself (4.4)
-abbrev pub wanted : Item → List Item
-wanted (Text text) = Text text ∷ []
-wanted (Integer number) = Integer number ∷ []
-wanted (Class name) = class_wanted name
-wanted (NameAndType name descriptor) = type_wanted name descriptor
-wanted (Member kind m) =
+abbrev pub wanted_items : Item → List Item
+wanted_items (Text text) = Text text ∷ []
+wanted_items (Integer number) = Integer number ∷ []
+wanted_items (Class name) = class_wanted name
+wanted_items (NameAndType name descriptor) = type_wanted name descriptor
+wanted_items (Member kind m) =
     class_wanted m.class ++ (type_wanted m.name m.descriptor ++ Member kind m ∷ [])
 
 -- what a field or a method wants: its name and its descriptor (4.5, 4.6)
@@ -113,9 +113,9 @@ line_wanted line = Text line.name ∷ Text line.descriptor ∷ []
 
 -- what all lines want, in their order: the `ref` lines, the class, its superclass, the interfaces,
 -- the fields, the methods
-abbrev pub all_wanted : Listed → List Item
+abbrev pub all_wanted : ListedClass → List Item
 all_wanted l =
-    flat_map wanted l.references
+    flat_map wanted_items l.references
     ++ (class_wanted l.class.name
     ++ (flat_map class_wanted (option_to_list l.class.superclass)
     ++ (flat_map class_wanted l.interfaces
@@ -123,5 +123,5 @@ all_wanted l =
 
 -- the entries of the `ref` lines stand from the start; what is wanted is appended where no equal
 -- entry stands (own choice)
-abbrev pub items_of : Listed → List Item
+abbrev pub items_of : ListedClass → List Item
 items_of l = fold with_item l.references (all_wanted l)

@@ -16,10 +16,10 @@ use Rattle.std.specs.List.{flat_map}
 use Rattle.cl_names.specs.Escape.{escaped, four_digits}
 use Rattle.cl_classfile.specs.declared.entry.Entry.{Entry}
 use Rattle.cl_classfile.specs.Files.{type_name, text_at}
-use Rattle.cl_classfile.specs.Structure.{Structure, Member}
+use Rattle.cl_classfile.specs.Structure.{Structure, MemberInfo}
 use Rattle.cl_writer.specs.declared.statement.ClassLine.{ClassLine}
 use Rattle.cl_writer.specs.declared.statement.MemberLine.{MemberLine}
-use Rattle.cl_writer.specs.Assemblies.{Listed}
+use Rattle.cl_writer.specs.Assemblies.{ListedClass}
 
 -- a name as escaped text
 abbrev pub printed_name : Option (List ℕ) → List ℕ
@@ -57,7 +57,7 @@ class_line f =
 abbrev pub implements_line : List Entry → ℕ → List ℕ
 implements_line pool interface = implements_words (printed_type pool interface)
 
-abbrev pub member_line : List ℕ → List Entry → Member → List ℕ
+abbrev pub member_line : List ℕ → List Entry → MemberInfo → List ℕ
 member_line word pool m =
     member_words word m.flags (printed_name (text_at pool m.name_index))
     (printed_name (text_at pool m.descriptor_index))
@@ -87,7 +87,7 @@ abbrev pub member_text : List ℕ → MemberLine → List ℕ
 member_text word m = member_words word m.flags (escaped m.name) (escaped m.descriptor)
 
 -- all lines but those of `ref`: the class, its interfaces, its fields, its methods
-abbrev pub text_of : Listed → List ℕ
+abbrev pub text_of : ListedClass → List ℕ
 text_of l =
     class_text l.class
     ++ flat_map implements_text l.interfaces

@@ -2,7 +2,7 @@
 
 ghost use Rattle.std.specs.Prelude.{◌≡◌, ◌<◌, ◌^◌, ◌++◌, ◌∷◌, OnOk, length};
 ghost use Rattle.std.specs.Int.{w16, to_be_bytes};
-ghost use Rattle.cl_classfile.specs.Pool.{two, entry_spelling};
+ghost use Rattle.cl_classfile.specs.Pool.{two_indices, entry_spelling};
 ghost use Rattle.cl_classfile.specs.declared.entry.Entry.TheVariants.{Utf8};
 
 use cl_classfile::tags;
@@ -38,7 +38,7 @@ pub fn put_tagged(out: &mut Vec<u8>, tag: u8, bytes: &[u8]) -> Result<(), AllocE
 
 /// A tag, and two numbers behind it.
 pub fn put_two(out: &mut Vec<u8>, tag: u8, a: u16, b: u16) -> Result<(), AllocError>
-    ensures { OnOk result (out.new.items ≡ out.old.items ++ (tag ∷ two a b)) }
+    ensures { OnOk result (out.new.items ≡ out.old.items ++ (tag ∷ two_indices a b)) }
 {
     out.push(tag)?;
     put_u16(out, a)?;

@@ -5,7 +5,7 @@ ghost use Rattle.std.specs.List.{flat_map};
 ghost use Rattle.cl_writer.specs.Assemblies.{lists_of};
 ghost use Rattle.cl_writer.specs.declared.item.Item.TheVariants as said;
 ghost use Rattle.indexmap.specs.IndexMap.{get};
-ghost use Rattle.cl_writer.specs.Items.{PutsIndex, same_item, index, index_of, with_item, class_wanted, type_wanted, wanted, line_wanted, items_of};
+ghost use Rattle.cl_writer.specs.Items.{PutsIndex, same_item, index, index_of, with_item, class_wanted, type_wanted, wanted_items, line_wanted, items_of};
 
 use crate::assembly::Assembly;
 use crate::item::Item;
@@ -26,13 +26,13 @@ pub struct Items {
 impl Model for Items {
     ghost use Rattle.std.specs.Prelude.{List};
     ghost use Rattle.cl_writer.specs.declared.item.Item.{Item as Said};
-    ghost use Rattle.cl_writer.specs.Items.{IsIndexed};
+    ghost use Rattle.cl_writer.specs.Items.{ItemsAreIndexed};
 
     ghost Value = { List Said };
 
     ghost view = { λ t. t.items.items };
 
-    ghost invariant = { λ t. IsIndexed t.items.items t.indices };
+    ghost invariant = { λ t. ItemsAreIndexed t.items.items t.indices };
 }
 
 impl Items {
@@ -129,7 +129,7 @@ impl Items {
 
     /// With what an entry names, and then itself, as far as no equal one stands.
     fn with_wanted(self, alloc: Global, item: &Item) -> Result<Items, AllocError>
-        ensures { IfOk result (λ t. t ≡ fold with_item self (wanted item.now)) }
+        ensures { IfOk result (λ t. t ≡ fold with_item self (wanted_items item.now)) }
     {
         let items = match item {
             Item::Text(text) => return self.with_text(alloc, text),
@@ -177,7 +177,7 @@ fn with_references(items: Items, alloc: Global, named: &[Item]) -> Result<Items,
 
 /// With what these entries want.
 fn with_all(items: Items, alloc: Global, named: &[Item]) -> Result<Items, AllocError>
-    ensures { IfOk result (λ t. t ≡ fold with_item items (flat_map wanted named.now)) }
+    ensures { IfOk result (λ t. t ≡ fold with_item items (flat_map wanted_items named.now)) }
 {
     let mut items = items;
     for item in named {

@@ -7,7 +7,7 @@ ghost use Rattle.cl_writer.specs.declared.fault.AssembleFault.TheVariants.{Memor
 ghost use Rattle.cl_writer.specs.declared.statement.ClassLine.{ClassLine};
 ghost use Rattle.cl_writer.specs.declared.statement.Statement.{Statement};
 ghost use Rattle.cl_writer.specs.Statements.{IsClassLine, Says};
-ghost use Rattle.cl_writer.specs.Assemblies.{Listed, IsRead};
+ghost use Rattle.cl_writer.specs.Assemblies.{ListedClass, IsRead};
 ghost use Rattle.cl_writer.specs.Assembled.{AssembleOf};
 
 /// A line says one thing at most, and so do the lines of a text.
@@ -15,7 +15,7 @@ pub fn says_one_thing()
     ensures class { (words : List (List ℕ)) (a b : ClassLine) → IsClassLine words a
         → IsClassLine words b → a ≡ b }
     ensures line { (words : List (List ℕ)) (a b : Statement) → Says words a → Says words b → a ≡ b }
-    ensures lines { (lines : List Numbered) (a b : Listed) → IsRead lines a → IsRead lines b
+    ensures lines { (lines : List Numbered) (a b : ListedClass) → IsRead lines a → IsRead lines b
         → a ≡ b }
 {}
 

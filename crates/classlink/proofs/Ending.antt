@@ -18,10 +18,10 @@ use Rattle.cl_program.specs.declared.asked.Asked.TheVariants.{Bundle, Read, Run}
 use Rattle.cl_program.specs.declared.asked.Options.{Options}
 use Rattle.cl_program.specs.declared.fault.Fault.{Fault}
 use Rattle.cl_program.specs.declared.fault.Fault.TheVariants.{Memory}
-use Rattle.classlink.specs.CommandLine.{IsAsked, file_to_read}
-use Rattle.classlink.specs.Endings.{EndsFor, Grows, HelpOf, IsHelped, IsTaken, LacksMemory, Reads, Runs, RunsScript}
+use Rattle.classlink.specs.CommandLine.{CommandAsks, file_to_read}
+use Rattle.classlink.specs.Endings.{EndsFor, OutputGrows, HelpOf, IsHelped, IsTaken, LacksMemory, Reads, Runs, RunsScript}
 
-pub taken : (entered : Option (Text × List Row)) (input : Option (List ℕ)) (gives : List ℕ → Giving) (o : Outputs) (status : ℕ) (asked : Asked) → IsAsked entered asked
+pub taken : (entered : Option (Text × List Row)) (input : Option (List ℕ)) (gives : List ℕ → Giving) (o : Outputs) (status : ℕ) (asked : Asked) → CommandAsks entered asked
     → ((options : Options) → AsksForBundle options asked → IsRun input options o status)
     → ((w : Wanted) → AsksForRun w asked → IsScriptRun gives w o status)
     → ((path : List ℕ) → AsksForFile path asked → IsReading (gives path) path o status)
@@ -46,7 +46,7 @@ lacking_script gives w o status l = record { outcome = Err Memory; ran = inl (in
 
 -- ---- help
 
-pub grows : (out : Stream) (bytes : List ℕ) → WritesPart out bytes → Grows out
+pub grows : (out : Stream) (bytes : List ℕ) → WritesPart out bytes → OutputGrows out
 grows out bytes part = record { text = part.front; grown = part.grown }
 
 breaks_help : (fault : PrintFault) → HelpOf (Err (print_fault fault))
@@ -61,9 +61,9 @@ pub for_help : (said kind : ErrorKind) (o : Outputs) (status : ℕ) → said ≡
 for_help said kind o status same (inl is) h = subst (λ (k : ErrorKind). EndsFor k o status) (sym is ∙ same) h
 for_help said kind o status same (inr is) h = subst (λ (k : ErrorKind). EndsFor k o status) (sym is ∙ same) h
 
-pub helped : (out : Stream) (err : Option (List ℕ)) → Grows out → IsHelped (record { out = out; err = record { old = err; new = err } }) 0
+pub helped : (out : Stream) (err : Option (List ℕ)) → OutputGrows out → IsHelped (record { out = out; err = record { old = err; new = err } }) 0
 helped out err g = record { outcome = Ok tt; helped = tt; grown = g; told = (refl, appends_nothing err) }
 
-pub help_failed : (o : Outputs) (fault : Fault) (status : ℕ) → HelpOf (Err fault) → Grows o.out → status ≡ 1 → TellsFault o.err fault ⊎ TellsFault o.err Memory → IsHelped o status
+pub help_failed : (o : Outputs) (fault : Fault) (status : ℕ) → HelpOf (Err fault) → OutputGrows o.out → status ≡ 1 → TellsFault o.err fault ⊎ TellsFault o.err Memory → IsHelped o status
 help_failed o fault status h g is (inl told) = record { outcome = Err fault; helped = h; grown = g; told = (is, told) }
 help_failed o fault status h g is (inr told) = record { outcome = Err Memory; helped = tt; grown = g; told = (is, told) }

@@ -25,7 +25,7 @@ use Rattle.cl_program.specs.Asking.{AsksForBundle, AsksForFile, AsksForRun, Want
 use Rattle.cl_program.specs.declared.asked.Asked.{Asked}
 use Rattle.cl_program.specs.declared.asked.Asked.TheVariants.{Bundle, Read, Run}
 use Rattle.cl_program.specs.declared.asked.Options.{Options}
-use Rattle.classlink.specs.CommandLine.{Answers, AreOptions, AreWordsOf, AskFor, AskToRead, AskToRun, Dashes, End, HasFlag, HasOptions, IsAsked, IsCount, IsCountOf, IsNamed, IsToRead, IsToRun, Workers, file_to_read, is_plain_word, named_file, program, wrong_words, text_at}
+use Rattle.classlink.specs.CommandLine.{Answers, AreOptions, AreWordsOf, AskFor, AskToRead, AskToRun, Dashes, End, HasFlag, HasOptions, CommandAsks, IsCount, IsCountOf, CommandIsNamed, IsToRead, IsToRun, Workers, file_to_read, is_plain_word, named_file, program, wrong_words, text_at}
 use Rattle.classlink.proofs.Orders.{AreFull, Ends, PassesCount, answers_row, full_at_end, leads_on, right_at_end, workers_row}
 use Rattle.classlink.proofs.Steps.{IsNoFlag, finds_at, idle_at, no_flag, passes_to}
 use Rattle.cl_pool.specs.declared.limits.TheConstants.{MOST_WORKERS}
@@ -90,7 +90,7 @@ HasTexts count answers entered = HasFlag entered answers × (text_at entered (co
 
 -- the words of `bundle` pass, and the options are found in them
 abbrev IsBundle : Option Text → Bool → List Text → Type 0
-IsBundle count answers words = Passes words × HasTexts count answers (entered_at words) × IsNamed (codes "bundle") (entered_at words)
+IsBundle count answers words = Passes words × HasTexts count answers (entered_at words) × CommandIsNamed (codes "bundle") (entered_at words)
 
 bundle_at : {count : Option Text} {answers : Bool} {rest : List Text} → AreWordsOf [] count answers rest → PassesCount count → IsBundle count answers (codes "bundle" ∷ rest)
 unfolding clap_on_literals
@@ -199,7 +199,7 @@ takes_run words w ask = (run_found words w ask).0
 
 -- ---- what is asked for by these words
 
-one_name : (o : Option (Text × List Row)) (a b : Text) → IsNamed a o → IsNamed b o → a ≡ b
+one_name : (o : Option (Text × List Row)) (a b : Text) → CommandIsNamed a o → CommandIsNamed b o → a ≡ b
 one_name o a b x y = some_is (sym x ∙ y)
   where
     some_is : Some a ≡ Some b → a ≡ b
@@ -214,12 +214,12 @@ bundle_no_running e = cc
 reading_no_running : codes "read" ≡ codes "run" → ⊥
 reading_no_running e = cc
 
-pub bundle_asked : (words : List Text) (o : Options) (a : Asked) → AskFor words o → IsAsked (subcommand_of program words) a → AsksForBundle o a
+pub bundle_asked : (words : List Text) (o : Options) (a : Asked) → AskFor words o → CommandAsks (subcommand_of program words) a → AsksForBundle o a
 bundle_asked words o (Bundle given) ask is = options_are ask.count (drop 1 words) o given ask.counts (bundle_found words o ask).1 is.1
 bundle_asked words o (Run w) ask is = absurd (bundle_no_running (one_name _ _ _ (bundle_found words o ask).2 is.0))
 bundle_asked words o (Read path) ask is = absurd (bundle_no_reading (one_name _ _ _ (bundle_found words o ask).2 is.0))
 
-pub path_asked : (words : List Text) (path : Text) (a : Asked) → AskToRead words path → IsAsked (subcommand_of program words) a → AsksForFile path a
+pub path_asked : (words : List Text) (path : Text) (a : Asked) → AskToRead words path → CommandAsks (subcommand_of program words) a → AsksForFile path a
 path_asked words path (Bundle b) ask is = absurd (is.0.no_reading (found_path words path ask).0)
 path_asked words path (Run w) ask is = absurd (reading_no_running (one_name _ _ _ (found_path words path ask).0 is.0))
 path_asked words path (Read at) ask is = sym is.1 ∙ (found_path words path ask).1
@@ -229,7 +229,7 @@ same_wanted a b c s o =
     let run : Text → Text → Options → Wanted = λ config script options. record { config = config; script = script; options = options } in
     ap (λ (x : Text). run x a.script a.options) c ∙ ap (λ (x : Text). run b.config x a.options) s ∙ ap (λ (x : Options). run b.config b.script x) o
 
-pub run_asked : (words : List Text) (w : Wanted) (a : Asked) → AskToRun words w → IsAsked (subcommand_of program words) a → AsksForRun w a
+pub run_asked : (words : List Text) (w : Wanted) (a : Asked) → AskToRun words w → CommandAsks (subcommand_of program words) a → AsksForRun w a
 run_asked words w (Bundle b) ask is = absurd (is.0.no_running (run_found words w ask).1.0)
 run_asked words w (Run given) ask is =
     let run = (run_found words w ask).1 in
@@ -237,10 +237,10 @@ run_asked words w (Run given) ask is =
 run_asked words w (Read at) ask is = absurd (reading_no_running (one_name _ _ _ is.0 (run_found words w ask).1.0))
 
 -- what the matches ask for is what the words ask for
-pub asked_by_words : (a : App) (words : List Text) (m : ArgMatches) (asked : Asked) → a ≡ program → HasMatchesOf a words m → IsAsked (subcommand_rows_of m) asked → IsAsked (subcommand_of program words) asked
+pub asked_by_words : (a : App) (words : List Text) (m : ArgMatches) (asked : Asked) → a ≡ program → HasMatchesOf a words m → CommandAsks (subcommand_rows_of m) asked → CommandAsks (subcommand_of program words) asked
 asked_by_words a words m asked is matches h =
     let found = (matches (ap is_simple is ∙ is_simple_program)).1 in
-    subst (λ (o : Option (Text × List Row)). IsAsked o asked) (found ∙ ap (λ (b : App). subcommand_of b words) is) h
+    subst (λ (o : Option (Text × List Row)). CommandAsks o asked) (found ∙ ap (λ (b : App). subcommand_of b words) is) h
 
 -- ---- what is read of the matches
 
@@ -271,13 +271,13 @@ name_of : {Z : Type 0} (o : Option (Box SubCommand Z)) → option_map (λ b. (ou
 name_of None = refl
 name_of (Some b) = refl
 
-pub is_named : (m : ArgMatches) (name : Text) → subcommand_name_of m ≡ Some name → IsNamed name (subcommand_rows_of m)
+pub is_named : (m : ArgMatches) (name : Text) → subcommand_name_of m ≡ Some name → CommandIsNamed name (subcommand_rows_of m)
 is_named m name e = sym (name_of (out-ArgMatches m).subcommand) ∙ e
 
 false_true : false ≡ true → ⊥
 false_true e = cc
 
-pub is_other : (m : ArgMatches) (name : Text) → (subcommand_name_of m ≡ Some name → false ≡ true) → IsNamed name (subcommand_rows_of m) → ⊥
+pub is_other : (m : ArgMatches) (name : Text) → (subcommand_name_of m ≡ Some name → false ≡ true) → CommandIsNamed name (subcommand_rows_of m) → ⊥
 is_other m name other e = false_true (other (name_of (out-ArgMatches m).subcommand ∙ e))
 
 path_text : (read : Option (Bor Text)) (or : Bor Text) → or.now ≡ [] → unwrap_or (option_map (λ s. s.now) read) [] ≡ (unwrap_or read or).now

@@ -116,16 +116,16 @@ AskToRun words w = AskBy (codes "run") (w.config ∷ w.script ∷ []) words w.op
 -- ---- what is asked for, by the subcommand that `clap` finds and what it finds for its arguments
 
 -- the subcommand has this name
-abbrev pub IsNamed : List ℕ → Option (Text × List Row) → Type 0
-IsNamed name entered = option_map (λ p. p.0) entered ≡ Some name
+abbrev pub CommandIsNamed : List ℕ → Option (Text × List Row) → Type 0
+CommandIsNamed name entered = option_map (λ p. p.0) entered ≡ Some name
 
 -- the subcommand is `read`
 abbrev pub IsToRead : Option (Text × List Row) → Type 0
-IsToRead entered = IsNamed (codes "read") entered
+IsToRead entered = CommandIsNamed (codes "read") entered
 
 -- the subcommand is `run`
 abbrev pub IsToRun : Option (Text × List Row) → Type 0
-IsToRun entered = IsNamed (codes "run") entered
+IsToRun entered = CommandIsNamed (codes "run") entered
 
 -- its file of this name
 abbrev pub named_file : List ℕ → Option (Text × List Row) → Text
@@ -163,13 +163,13 @@ pub record IsForBundle (entered : Option (Text × List Row)) : Type 0 where
   pub no_running : ¬ IsToRun entered
 
 -- `run` wants this
-pub record IsWanted (entered : Option (Text × List Row)) (w : Wanted) : Type 0 where
+pub record RunWants (entered : Option (Text × List Row)) (w : Wanted) : Type 0 where
   pub config : named_file (codes "CONFIG") entered ≡ w.config
   pub script : named_file (codes "SCRIPT") entered ≡ w.script
   pub options : HasOptions entered w.options
 
 -- what is asked for is what `clap` finds
-abbrev pub IsAsked : Option (Text × List Row) → Asked → Type 0
-IsAsked entered (Bundle options) = IsForBundle entered × HasOptions entered options
-IsAsked entered (Run words) = IsToRun entered × IsWanted entered (wanted_of words)
-IsAsked entered (Read path) = IsToRead entered × (file_to_read entered ≡ path.now)
+abbrev pub CommandAsks : Option (Text × List Row) → Asked → Type 0
+CommandAsks entered (Bundle options) = IsForBundle entered × HasOptions entered options
+CommandAsks entered (Run words) = IsToRun entered × RunWants entered (wanted_of words)
+CommandAsks entered (Read path) = IsToRead entered × (file_to_read entered ≡ path.now)

@@ -7,7 +7,7 @@ ghost use Rattle.cl_program.specs.Runs.{IsRun};
 ghost use Rattle.cl_program.specs.ScriptRuns.{IsScriptRun};
 ghost use Rattle.cl_program.specs.declared.asked.Options.{Options};
 ghost use Rattle.classlink.specs.CommandLine.{AskFor, AskToRead, AskToRun, program, wrong_words};
-ghost use Rattle.classlink.specs.Endings.{EndsFor, Grows, HelpOf, IsTaken, IsTurnedDown};
+ghost use Rattle.classlink.specs.Endings.{EndsFor, OutputGrows, HelpOf, IsTaken, IsTurnedDown};
 
 use crate::words;
 use cl_program::{Fault, OpenDirectories, fail, run_asked};
@@ -77,7 +77,7 @@ fn turn_down<W: Write, E: Write>(alloc: Global, error: &clap::Error, out: &mut W
 /// Writes the text of help.
 fn print_help<W: Write>(alloc: Global, help: &clap::Error, out: &mut W) -> Result<(), Fault>
     ensures faults { HelpOf result }
-    ensures grown { Grows (stream W.contents out.old out.new) }
+    ensures grown { OutputGrows (stream W.contents out.old out.new) }
 {
     let text = format!(in alloc; "{help}")?;
     write_out(out, text.as_bytes())?;

@@ -2,7 +2,7 @@ ghost use Rattle.std.specs.Prelude.{◌≡◌, [], ℕ, List, false, IfOk, IfErr
 ghost use Rattle.clap.specs.Words.{HasKind, app_of, found_of, kind_of, rule_of, subcommand_of, subcommand_rows_of};
 ghost use Rattle.cl_program.specs.Asking.{AsksForBundle, AsksForFile, AsksForRun, Wanted};
 ghost use Rattle.cl_program.specs.declared.asked.Options.{Options};
-ghost use Rattle.classlink.specs.CommandLine.{AreOptions, AskFor, AskToRead, AskToRun, IsAsked, IsCommand, HasOptions, answers, bundle, file, program, reading, running, workers, wrong_words};
+ghost use Rattle.classlink.specs.CommandLine.{AreOptions, AskFor, AskToRead, AskToRun, CommandAsks, IsCommand, HasOptions, answers, bundle, file, program, reading, running, workers, wrong_words};
 
 use cl_pool::MOST_WORKERS;
 use cl_program::{Asked, Options, RunWords};
@@ -118,7 +118,7 @@ pub fn read<'a, S: AsStr>(alloc: Global, words: &'a [S]) -> Result<Asked<'a>, Er
     ensures run { (w : Wanted) → AskToRun (map S.text words.entry.now) w
         → MatchResult result (AsksForRun w) (λ e. kind_of e ≡ ErrorKind.OutOfMemory) }
     ensures taken { IfOk result (λ _. wrong_words (map S.text words.entry.now) ≡ []) }
-    ensures exact { IfOk result (IsAsked (subcommand_of program (map S.text words.entry.now))) }
+    ensures exact { IfOk result (CommandAsks (subcommand_of program (map S.text words.entry.now))) }
     ensures refused { IfErr result (HasKind (wrong_words (map S.text words.entry.now))) }
 {
     let matches = command(alloc)?.try_get_matches_from(words)?;
@@ -127,7 +127,7 @@ pub fn read<'a, S: AsStr>(alloc: Global, words: &'a [S]) -> Result<Asked<'a>, Er
 
 /// What the matches ask for.
 fn asked_of<'a>(matches: &ArgMatches<'a>) -> Asked<'a>
-    ensures { IsAsked (subcommand_rows_of matches.now) result }
+    ensures { CommandAsks (subcommand_rows_of matches.now) result }
 {
     match matches.subcommand_matches("read") {
         Some(read) => Asked::Read {

@@ -20,8 +20,8 @@ ListsAgain f =
     × (listing_of g ≡ listing_of f)
 
 -- what is said of the bytes of a file (JVMS SE 8, 4.1)
-abbrev pub OutcomeOf : List ℕ → Outcome → Type 0
-OutcomeOf bytes Same = (f : Structure) × (read_of bytes ≡ Ok f) × ListsAgain f
-OutcomeOf bytes (Refused fault) = read_of bytes ≡ Err fault
-OutcomeOf bytes OtherBytes = ⊥
-OutcomeOf bytes OtherListing = (f : Structure) × (read_of bytes ≡ Ok f) × (ListsAgain f → ⊥)
+abbrev pub OutcomeOfBytes : List ℕ → Outcome → Type 0
+OutcomeOfBytes bytes Same = (f : Structure) × (read_of bytes ≡ Ok f) × ListsAgain f
+OutcomeOfBytes bytes (Refused fault) = read_of bytes ≡ Err fault
+OutcomeOfBytes bytes OtherBytes = ⊥
+OutcomeOfBytes bytes OtherListing = (f : Structure) × (read_of bytes ≡ Ok f) × (ListsAgain f → ⊥)

@@ -3,7 +3,7 @@
 ghost use Rattle.std.specs.Prelude.{◌≡◌, Bool, IfOk, true};
 ghost use Rattle.cl_names.specs.Truth.{Decides};
 ghost use Rattle.cl_classfile.specs.Structure.{Spells};
-ghost use Rattle.classlink_corpus.specs.Rounds.{ListsAgain, OutcomeOf};
+ghost use Rattle.classlink_corpus.specs.Rounds.{ListsAgain, OutcomeOfBytes};
 
 use cl_classfile::{ClassFile, Fault, ReadError, has_one_spelling, read};
 use cl_writer::{AssembleFault, WriteFault, assemble, assembles_to_one_answer, listing, write};
@@ -23,7 +23,7 @@ pub enum Outcome {
 
 /// Reads the bytes, writes the file, and assembles its listing. It is refused only where memory runs out.
 pub fn round_trip(alloc: Global, bytes: &[u8]) -> Result<Outcome, AllocError>
-    ensures { IfOk result (OutcomeOf bytes.now) }
+    ensures { IfOk result (OutcomeOfBytes bytes.now) }
 {
     let file = match read(alloc, bytes) {
         Ok(file) => file,

@@ -1,6 +1,6 @@
 use Rattle.std.proofs.Common.{◌∙◌, refl}
 use Rattle.std.proofs.lemmas.List.{map-append}
-use Rattle.cl_bundle.specs.Cuts.{part_of}
+use Rattle.cl_bundle.specs.Cuts.{cut_part}
 use Rattle.cl_bundle.proofs.Cutting.{cut_starts, cut_goes_on, cut_ends, cut_wrong, cut_err}
 use Rattle.cl_bundle.proofs.sections.cut.Goals as goal
 
@@ -16,7 +16,7 @@ returns-in_err-body c =
 
 pub loop-end-preserved : goal.loop-end-preserved
 loop-end-preserved c =
-    rw (c.in_ok-push.ensures, map-append part_of c.loop-end.classes.items)
+    rw (c.in_ok-push.ensures, map-append cut_part c.loop-end.classes.items)
     (cut_goes_on c.args.text.now _ _ c.in-Class.line c.in-Class.loader c.in-Class.name c.in_ok-body.body.text.now c.in_ok-body.body.end c.loop-end.lines c.next_body-in-Class.new.lines
     (rw c.in-Class.is at c.loop-end.invariant) c.in_ok-body.ensures.body)
 

@@ -1,5 +1,5 @@
 use Rattle.std.proofs.Common.{List, length, take, refl, sym, subst, ◌∙◌, arith}
-use Rattle.cl_classfile.specs.Structure.{Member}
+use Rattle.cl_classfile.specs.Structure.{MemberInfo}
 use Rattle.cl_classfile.specs.Checking.{keeps_member}
 use Rattle.cl_classfile.specs.Numbers.{number_of}
 use Rattle.std.proofs.lemmas.Option.{slice_get_read}
@@ -30,7 +30,7 @@ loop-i-preserved c = (
       let so_far = c.loop-i.invariant.0 pool a in
       let k = c.in_ok-is_new.ensures.seen pool (take c.loop-i.i c.args.members.now) a.numbers (member_noted pool c.args.numbers.now c.args.members.now c.loop-i.i c.index-members-i.result c.loop-i-test.true c.index-members-i.is a.each) so_far.1 in (
         goes_on (keeps_member c.args.kind c.args.traits.now c.args.of_interface) pool c.args.members.now c.loop-i.i c.index-members-i.result c.loop-i-test.true c.index-members-i.is (sym c.keeps_member.ensures ∙ c.if-not-keeps_member.false) (fresh c.in_ok-is_new.field-0 _ k.0 c.if-not-branch.false) so_far.0,
-        subst (λ (ms : List Member). HasPairs pool (number_of pool c.args.numbers.now) (has_place c.is_new.new.places) ms) (sym (front c.args.members.now c.loop-i.i c.index-members-i.result c.loop-i-test.true c.index-members-i.is)) k.1,
+        subst (λ (ms : List MemberInfo). HasPairs pool (number_of pool c.args.numbers.now) (has_place c.is_new.new.places) ms) (sym (front c.args.members.now c.loop-i.i c.index-members-i.result c.loop-i-test.true c.index-members-i.is)) k.1,
       ),
   c.in_ok-is_new.ensures.placed c.args.members.now (slice_get_read c.args.members.now (length c.args.members.now) c.loop-i.i c.index-members-i.result refl c.loop-i-test.true c.index-members-i.is) c.loop-i.invariant.1,
 )

@@ -1,6 +1,6 @@
 use Rattle.std.proofs.Common.{◌≡◌, ◌⊎◌, ℕ, zero, suc, ap, List, [], ◌∷◌, Some, inl, inr, refl, codes, arith, sym, subst, ◌∙◌}
 use Rattle.std.specs.Prelude.{Contains}
-use Rattle.cl_model.specs.States.{start, IsPath, Linked, Equality, recorded}
+use Rattle.cl_model.specs.States.{start, IsPathBetween, Linked, Equality, recorded}
 use Rattle.cl_model.specs.Machine.{state_after}
 use Rattle.cl_model.specs.Examples.{app, kid}
 use Rattle.cl_model.specs.ExampleRuns.{joined_with_kid}
@@ -30,7 +30,7 @@ step a b h = along h.ends
     along (inl e) = inr (sym e.1 ∙ sym (ap (λ (k : Equality). k.other) (only_one kid h.equality h.imposed)))
     along (inr e) = inl (sym e.0 ∙ sym (ap (λ (k : Equality). k.one) (only_one kid h.equality h.imposed)))
 
-ends : (a : ℕ) (path : List ℕ) (b : ℕ) → (a ≡ app) ⊎ (a ≡ kid) → IsPath (for_t kid) (codes "p/T") a path b → (b ≡ app) ⊎ (b ≡ kid)
+ends : (a : ℕ) (path : List ℕ) (b : ℕ) → (a ≡ app) ⊎ (a ≡ kid) → IsPathBetween (for_t kid) (codes "p/T") a path b → (b ≡ app) ⊎ (b ≡ kid)
 ends a [] b one e = subst (λ (l : ℕ). (l ≡ app) ⊎ (l ≡ kid)) e one
 ends a (l ∷ ls) b one e = ends l ls b (step a l e.0) e.1
 

@@ -1,12 +1,12 @@
 use Rattle.std.proofs.Common.{arith, subst}
 use Rattle.std.specs.Prelude.{IfErr}
 use Rattle.cl_config.specs.Views.{Configured, Scripted}
-use Rattle.cl_pool.specs.Served.{FailsAs, MayServe}
+use Rattle.cl_pool.specs.Served.{FailsAs, WorkersMayServe}
 use Rattle.cl_pool.proofs.Ended.{for_report, why_none}
 use Rattle.cl_pool.proofs.serving.serve_with_rows.Goals as goal
 
 -- from 1 to 64 workers serve
-may_serve : (g : _) (c : goal.After-drop-config-2 g) → MayServe c.args.workers
+may_serve : (g : _) (c : goal.After-drop-config-2 g) → WorkersMayServe c.args.workers
 may_serve g c = record {
   least = let l = c.if-workers-lt1.false in omega arith;
   most = let m = c.if-workers-gt-MOST_WORKERS.false in omega arith;

@@ -3,7 +3,7 @@ use Rattle.std.specs.Prelude.{slice_get}
 use Rattle.std.proofs.lemmas.Option.{slice_get_within}
 use Rattle.cl_schedule.specs.declared.choices.Room.{Room}
 use Rattle.cl_schedule.specs.Places.{seat_at}
-use Rattle.cl_schedule.specs.Rooms.{HasTurned, left_at}
+use Rattle.cl_schedule.specs.Rooms.{HasTurned, left_of_request}
 use Rattle.cl_schedule.proofs.Owing.{count_none, debt_advanced, debt_posted}
 use Rattle.cl_schedule.proofs.Paying.{takings_none, takings_turned}
 use Rattle.cl_schedule.proofs.Places.{moved_back, moved_out}
@@ -59,7 +59,7 @@ returns-in-Some g c =
     record {
       chosen = chosen_advanced told x y ws room.next c.args.choice q serves.kept serves.places.gathered at turned.did.advanced;
       serves = record {
-        serves = serves_turned told c.args.config.now.value c.args.script.now x y room done q (left_at room q) (Some seat) serves e.kept turned.did moved
+        serves = serves_turned told c.args.config.now.value c.args.script.now x y room done q (left_of_request room q) (Some seat) serves e.kept turned.did moved
             (gathered_advanced told x y room mid done q serves.places.gathered e.taken turned.did.advanced c.put.ensures.waiting c.put.ensures.next);
         faults = debt_advanced x y room mid done c.in_ok-seat.field-0 seat q _ _ c.in-Some.is e.taken in_tasks in_calls e.faults c.put.ensures.tasks c.put.ensures.calls;
       };
@@ -91,7 +91,7 @@ returns-in-None g c =
     record {
       chosen = chosen_posted told x y ws room.next c.args.choice q serves.kept serves.places.gathered at turned.did;
       serves = record {
-        serves = serves_turned told c.args.config.now.value c.args.script.now x y room done q (left_at room q) None serves e.kept turned.did moved
+        serves = serves_turned told c.args.config.now.value c.args.script.now x y room done q (left_of_request room q) None serves e.kept turned.did moved
             (gathered_posted told x y room mid done q place serves.kept serves.places.gathered e.taken turned.did there c.take_out.ensures refl);
         faults = debt_posted x y room mid done c.in_ok-seat.field-0 q _ _ c.in-None.is e.taken e.faults refl refl;
       };

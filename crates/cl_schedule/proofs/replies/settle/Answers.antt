@@ -1,5 +1,5 @@
 use Rattle.std.proofs.Common.{Option, subst, sym}
-use Rattle.cl_registry.specs.Settling.{MaySettle}
+use Rattle.cl_registry.specs.Settling.{FindingSettles}
 use Rattle.cl_tasks.specs.Waits.{Settling}
 use Rattle.cl_tasks.specs.declared.turn.Reply.{Reply}
 use Rattle.cl_schedule.specs.Replies.{RepliesWhere}
@@ -16,5 +16,5 @@ returns-in-Ok-clause-did g c = did_settle c.args.registry.now c.settle-told.new.
 
 pub returns-in-Err-clause-replied : goal.returns-in-Err-clause-replied
 returns-in-Err-clause-replied g c =
-    subst (λ (r : Option (Reply g.row.T.Denot)). RepliesWhere (MaySettle c.args.registry.now c.args.finding) c.settle-told.new.self (Settling c.args.finding.request) r) (sym c.reply_of.ensures)
+    subst (λ (r : Option (Reply g.row.T.Denot)). RepliesWhere (FindingSettles c.args.registry.now c.args.finding) c.settle-told.new.self (Settling c.args.finding.request) r) (sym c.reply_of.ensures)
     (settle_answered g.row.T.Denot c.args.registry.now c.settle-told.new.self c.args.finding c.in-Err.fault c.in-Err.ensures.refused)

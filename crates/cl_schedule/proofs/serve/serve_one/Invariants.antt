@@ -1,6 +1,6 @@
 use Rattle.std.proofs.Common.{◌≡◌}
 use Rattle.std.specs.List.{range_with_len}
-use Rattle.cl_registry.specs.Tables.{IsKept, MayGoOn, posts}
+use Rattle.cl_registry.specs.Tables.{IsKept, RoundMayBegin, posts}
 use Rattle.cl_schedule.specs.Blames.{EachBlames}
 use Rattle.cl_schedule.specs.Counting.{Grows, faults}
 use Rattle.cl_schedule.proofs.Rounds.{KnownBelow, ServedBelow}
@@ -12,7 +12,7 @@ invariant-loop-q g l = record {
   script : l.registry.script ≡ l.fn.script.value;
   order : posts l.registry.history ≡ range_with_len 0 l.q;
   kept : IsKept g.T.Told.told l.registry;
-  over : MayGoOn l.registry → ⊥;
+  over : RoundMayBegin l.registry → ⊥;
   known : KnownBelow l.registry;
   served : ServedBelow g.T.Told.told l.registry l.q;
   blames : EachBlames g.T.Told.told l.registry;

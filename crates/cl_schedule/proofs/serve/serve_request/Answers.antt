@@ -3,7 +3,7 @@ use Rattle.std.specs.Prelude.{slice_set}
 use Rattle.cl_model.specs.declared.answer.Answer.{Answer}
 use Rattle.cl_model.specs.declared.request.Request.{Request}
 use Rattle.cl_model.proofs.Bind.{some_same}
-use Rattle.cl_registry.specs.Posting.{MayPost}
+use Rattle.cl_registry.specs.Posting.{MayPostUnder}
 use Rattle.cl_registry.specs.Tables.{Shown}
 use Rattle.cl_tasks.specs.Turns.{KeepsRequest}
 use Rattle.cl_tasks.specs.declared.turn.Turn.{Turn}
@@ -73,7 +73,7 @@ pub post-requires-in-Ok-answer_of-clause-may : goal.post-requires-in-Ok-answer_o
 post-requires-in-Ok-answer_of-clause-may g c =
     let P : Turn g.row.T.Denot → Type 0 = λ w. KeepsRequest c.loop-finding.task c.turn.new.self w in
     let same = some_same c.args.request c.in-Ok-answer_of.finding.request (sym c.loop-finding.invariant.request ∙ subst P c.in-Ok-answer_of.ensures.post c.turn.ensures.serves) in
-    subst (λ (r : Request). MayPost c.loop-finding.registry c.args.q r) same (may_still g.T.Told.told c.args.registry.now c.loop-finding.registry c.args.request c.args.q c.loop-finding.invariant.going c.requires.may)
+    subst (λ (r : Request). MayPostUnder c.loop-finding.registry c.args.q r) same (may_still g.T.Told.told c.args.registry.now c.loop-finding.registry c.args.request c.args.q c.loop-finding.invariant.going c.requires.may)
 
 pub returns-in-Ok-answer_of-clause-done : goal.returns-in-Ok-answer_of-clause-done
 returns-in-Ok-answer_of-clause-done g c =

@@ -3,7 +3,7 @@ use Rattle.std.specs.Prelude.{IfSome}
 use Rattle.std.proofs.lemmas.Result.{on_ok_weaker}
 use Rattle.cl_hierarchy.specs.Lineages.{Lined, kin_of}
 use Rattle.cl_hierarchy.specs.Rows.{Rowed}
-use Rattle.cl_preparation.specs.Chains.{AreImposed, CoversHidden, IsChained, IsClassAbove, hidden_by}
+use Rattle.cl_preparation.specs.Chains.{AreImposedAbove, CoversHidden, IsChained, IsClassAbove, hidden_by}
 use Rattle.cl_preparation.specs.Relatives.{bare}
 use Rattle.cl_preparation.proofs.Coverage.{ImposesShared, all_left_rows, imposes_at, shared_met}
 use Rattle.cl_preparation.proofs.chained.Chained.push_left.Goals as goal
@@ -16,8 +16,8 @@ push_new_rows-requires g c =
     let fit : ImposesShared (kin_of l) (hidden_by c.in_ok-hiding.hiding) =
     imposes_at l c.in-Some.above is.surveyed.rows (hidden_by c.in_ok-hiding.hiding) is.surveyed.part up
     (subst (λ (x : Lined). CoversHidden x is.surveyed.rows (bare c.in-Some.above) (hidden_by c.in_ok-hiding.hiding)) c.self.view_is (c.in_ok-hiding.ensures is.surveyed.rows is.surveyed.is)) in
-    subst (λ o. AreImposed (kin_of l) (hidden_by o) (map (λ r. r.now.value) c.as_slice.result.now)) (sym c.as_ref.ensures.value)
-    (subst (λ (rs : List Rowed). AreImposed (kin_of l) (hidden_by c.in_ok-hiding.hiding) rs) (sym c.as_slice.ensures)
+    subst (λ o. AreImposedAbove (kin_of l) (hidden_by o) (map (λ r. r.now.value) c.as_slice.result.now)) (sym c.as_ref.ensures.value)
+    (subst (λ (rs : List Rowed). AreImposedAbove (kin_of l) (hidden_by c.in_ok-hiding.hiding) rs) (sym c.as_slice.ensures)
     (shared_met l c.self.inside.over (hidden_by c.in_ok-hiding.hiding) fit is.over_in))
 
 pub returns : goal.returns

@@ -5,7 +5,7 @@ use Rattle.cl_model.specs.Texts.{EqualityNames}
 use Rattle.cl_hierarchy.specs.Imposed.{equal_need}
 use Rattle.cl_registry.specs.Imposing.{MayConstrainAs, with_constrain}
 use Rattle.cl_registry.specs.Tables.{Shown, state_of}
-use Rattle.cl_registry.specs.Refusals.{AddRefusedFor, Blames}
+use Rattle.cl_registry.specs.Refusals.{AddRefusedFor, BlamesNeed}
 use Rattle.cl_registry.specs.View.{shown}
 use Rattle.cl_registry.proofs.Entered.{add_refused}
 use Rattle.cl_registry.proofs.Imposed.{blames_equality, free_equality, kept_constrained, met_constrain}
@@ -16,7 +16,7 @@ pub returns-then-refuses-clause-refused : goal.returns-then-refuses-clause-refus
 returns-then-refuses-clause-refused g c =
     let x : Shown = shown c.self.inside in
     let e = c.args.equality.now in
-    subst (λ (y : Shown). Blames y (needs.Equal (record { name = c.args.name; one = e.one; other = e.other })) (equal_need e)) c.self.view_is
+    subst (λ (y : Shown). BlamesNeed y (needs.Equal (record { name = c.args.name; one = e.one; other = e.other })) (equal_need e)) c.self.view_is
     (blames_equality x _ c.refuses.result e c.args.name c.requires.named c.refuses.ensures c.if-refuses.true c.self.invariant.book)
 
 pub add_equality-requires-clause-unmet : goal.add_equality-requires-clause-unmet

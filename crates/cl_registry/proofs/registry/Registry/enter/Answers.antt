@@ -5,7 +5,7 @@ use Rattle.cl_delegation.specs.Searches.{Located}
 use Rattle.cl_hierarchy.specs.Rows.{Rowed}
 use Rattle.cl_registry.specs.Parts.{IsPut, shared}
 use Rattle.cl_registry.specs.Tables.{Shown, IsNew, MayEnter, DefinedAs, row_for, row_at, state_of}
-use Rattle.cl_registry.specs.Refusals.{AddRefusedFor, Blames}
+use Rattle.cl_registry.specs.Refusals.{AddRefusedFor, BlamesNeed}
 use Rattle.cl_registry.specs.View.{shown}
 use Rattle.cl_registry.proofs.Asked.{row_made}
 use Rattle.cl_registry.proofs.Entered.{add_refused, blames_record, kept_defined, not_refused, own_entry, shown_define}
@@ -16,7 +16,7 @@ use Rattle.cl_findings.specs.Loads.{own_record}
 pub returns-then-not-admits-clause-refused : goal.returns-then-not-admits-clause-refused
 returns-then-not-admits-clause-refused g c =
     let x : Shown = shown c.self.inside in
-    subst (λ (y : Shown). Blames y (needs.Entry c.place-home.result c.args.name c.place-home.result) (own_record c.args.draft.now)) c.self.view_is
+    subst (λ (y : Shown). BlamesNeed y (needs.Entry c.place-home.result c.args.name c.place-home.result) (own_record c.args.draft.now)) c.self.view_is
     (blames_record x _ c.admits.result _ _ _ (own_record c.args.draft.now) (own_entry g.T.Told.told c.args.draft.now c.home.ensures.draft c.args.name c.place-home.result c.requires.named (c.place-home.ensures ∙ ap (λ (h : Located). h.place) (c.deref.ensures ∙ c.home.ensures.home))) c.admits.ensures
     c.if-not-admits.true c.self.invariant.book)
 

@@ -4,7 +4,7 @@ use Rattle.cl_model.specs.declared.need.Need.TheVariants as needs
 use Rattle.cl_model.specs.States.{Refused}
 use Rattle.cl_hierarchy.specs.Rows.{Rowed}
 use Rattle.cl_registry.specs.Tables.{Shown, LacksRecord, MayJoin, InitiatedAs, looked, state_of}
-use Rattle.cl_registry.specs.Refusals.{AddRefusedFor, Blames}
+use Rattle.cl_registry.specs.Refusals.{AddRefusedFor, BlamesNeed}
 use Rattle.cl_registry.specs.View.{shown}
 use Rattle.cl_registry.proofs.Entered.{add_refused, asked_entry, blamed_as, blames_record, kept_initiated, not_refused, share_refused, shown_initiate}
 use Rattle.cl_registry.proofs.Kept.{come_by, kept_failed}
@@ -15,7 +15,7 @@ pub returns-then-not-admits-clause-refused : goal.returns-then-not-admits-clause
 returns-then-not-admits-clause-refused g c =
     let x : Shown = shown c.self.inside in
     let h = c.args.home.now in
-    subst (λ (y : Shown). Blames y (needs.Entry c.asked-then-not-admits.result c.args.name c.place-then-not-admits.result) (asked_record h)) c.self.view_is
+    subst (λ (y : Shown). BlamesNeed y (needs.Entry c.asked-then-not-admits.result c.args.name c.place-then-not-admits.result) (asked_record h)) c.self.view_is
     (blamed_as x (asked_record h) (asked_record h) c.args.name c.args.name c.asked.result c.asked-then-not-admits.result c.place.result c.place-then-not-admits.result (c.asked.ensures ∙ sym c.asked-then-not-admits.ensures) (c.place.ensures ∙ sym c.place-then-not-admits.ensures) refl
     (blames_record x _ c.admits.result _ _ _ (asked_record h) (asked_entry h c.asked.result c.place.result c.args.name c.asked.ensures c.place.ensures c.requires.named) c.admits.ensures c.if-not-admits.true c.self.invariant.book) refl)
 

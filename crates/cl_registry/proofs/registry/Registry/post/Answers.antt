@@ -3,7 +3,7 @@ use Rattle.std.specs.Prelude.{slice_get}
 use Rattle.cl_model.specs.declared.answer.Answer.{Answer}
 use Rattle.cl_model.specs.declared.request.Request.{Request}
 use Rattle.cl_config.specs.Views.{Scripted}
-use Rattle.cl_registry.specs.Posting.{Fits, IsBacked}
+use Rattle.cl_registry.specs.Posting.{AnswerFits, IsBacked}
 use Rattle.cl_registry.specs.Tables.{Shown}
 use Rattle.cl_registry.specs.View.{shown}
 use Rattle.cl_registry.proofs.Histories.{left_set}
@@ -48,7 +48,7 @@ invariant_of-self g c =
     let asked : slice_get c.self.inside.script.value.requests c.args.q ≡ Some c.args.finding.request = ap (λ (l : List Request). slice_get l c.args.q) (sym (c.requests.ensures.requests ∙ ap (λ (s : Scripted). s.requests) c.deref.ensures)) ∙ c.if-not-is_asked.ensures ∙ ap (λ (r : Request). Some r) c.request.ensures.request in
     let is : slice_get c.self.inside.answers.items c.args.q ≡ Some None = ap (λ (xs : List (Option Answer)). slice_get xs c.args.q) (sym c.deref-3.ensures.value) ∙ c.if-not-is_open.ensures in
     let at : slice_get c.self.inside.script.value.rounds_of c.args.q ≡ Some c.round_of-round.result = ap (λ (s : Scripted). slice_get s.rounds_of c.args.q) (sym c.deref-2.ensures) ∙ c.round_of-round.ensures in
-    let fits : Fits x c.args.q c.args.finding = record { may = record { asked = asked; begun = not_later x c.args.q c.round_of-round.result c.self.inside.round at c.if-round-self.false c.self.invariant.round; unanswered = is }; backed = subst (λ (y : Shown). IsBacked y c.args.finding) (sym c.self.view_is) c.if-not-backs.ensures } in
+    let fits : AnswerFits x c.args.q c.args.finding = record { may = record { asked = asked; begun = not_later x c.args.q c.round_of-round.result c.self.inside.round at c.if-round-self.false c.self.invariant.round; unanswered = is }; backed = subst (λ (y : Shown). IsBacked y c.args.finding) (sym c.self.view_is) c.if-not-backs.ensures } in
     let e = left_set c.self.inside.answers.items c.args.q c.into_answer.result is in
     rw (c.push_reserved.ensures.items, c.put_answer.ensures, c.into_answer.ensures.answer)
     (kept_post g.T.Told.told x _ c.args.q c.round_of-round.result c.args.finding _ _ _ _ c.self.invariant fits c.into_answer.ensures.rests at c.count_down.ensures
@@ -60,7 +60,7 @@ returns-clause-fits g c =
     let asked : slice_get c.self.inside.script.value.requests c.args.q ≡ Some c.args.finding.request = ap (λ (l : List Request). slice_get l c.args.q) (sym (c.requests.ensures.requests ∙ ap (λ (s : Scripted). s.requests) c.deref.ensures)) ∙ c.if-not-is_asked.ensures ∙ ap (λ (r : Request). Some r) c.request.ensures.request in
     let is : slice_get c.self.inside.answers.items c.args.q ≡ Some None = ap (λ (xs : List (Option Answer)). slice_get xs c.args.q) (sym c.deref-3.ensures.value) ∙ c.if-not-is_open.ensures in
     let at : slice_get c.self.inside.script.value.rounds_of c.args.q ≡ Some c.round_of-round.result = ap (λ (s : Scripted). slice_get s.rounds_of c.args.q) (sym c.deref-2.ensures) ∙ c.round_of-round.ensures in
-    let fits : Fits x c.args.q c.args.finding = record { may = record { asked = asked; begun = not_later x c.args.q c.round_of-round.result c.self.inside.round at c.if-round-self.false c.self.invariant.round; unanswered = is }; backed = subst (λ (y : Shown). IsBacked y c.args.finding) (sym c.self.view_is) c.if-not-backs.ensures } in
+    let fits : AnswerFits x c.args.q c.args.finding = record { may = record { asked = asked; begun = not_later x c.args.q c.round_of-round.result c.self.inside.round at c.if-round-self.false c.self.invariant.round; unanswered = is }; backed = subst (λ (y : Shown). IsBacked y c.args.finding) (sym c.self.view_is) c.if-not-backs.ensures } in
     rw (← c.self.view_is) fits
 
 pub returns-clause-kept : goal.returns-clause-kept

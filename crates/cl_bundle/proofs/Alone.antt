@@ -11,7 +11,7 @@ use Rattle.cl_writer.specs.declared.fault.AssembleFault.TheVariants as assembler
 use Rattle.cl_writer.specs.Faults.{assemble_text}
 use Rattle.cl_writer.proofs.Alone.{one_answer}
 use Rattle.cl_bundle.specs.Sections.{Part}
-use Rattle.cl_bundle.specs.Contents.{ContentOf, IsRefused, IsSpelledBy, IsTooLong, TextWritten, Written, hex_written, is_hex, stated}
+use Rattle.cl_bundle.specs.Contents.{ContentOf, IsRefused, IsSpelledBy, IsTooLong, TextWritten, Written, hex_written, is_hex, content_lines}
 use Rattle.cl_bundle.specs.Bundles.{AllTell, FirstFault, StoredAs, StoredBy, StoredOf}
 use Rattle.cl_bundle.specs.Faults.{SameAnswer, SameFault, fault_text}
 use Rattle.cl_bundle.specs.declared.fault.BundleFault.{BundleFault}
@@ -77,10 +77,10 @@ one_refusal lines f g v w =
     err_is f g (Err f) refl (one_answer lines (Err f) (Err g) r.0 s.0 (told f (Err f) r.1 refl) (told g (Err g) s.1 refl))
 
 one_text : (part : Part) (r s : Result (List ℕ) BundleFault) → TextWritten part r → TextWritten part s → SameAnswer r s
-one_text part (Ok a) (Ok b) v w = one_spelt (stated part) a b v w
-one_text part (Ok a) (Err (Class class f)) v w = spelt_or_refused (stated part) a f v w.0
-one_text part (Err (Class class f)) (Ok a) v w = spelt_or_refused (stated part) a f w v.0
-one_text part (Err (Class class f)) (Err (Class other g)) v w = (v.1 ∙ sym w.1, one_refusal (stated part) f g v.0 w.0)
+one_text part (Ok a) (Ok b) v w = one_spelt (content_lines part) a b v w
+one_text part (Ok a) (Err (Class class f)) v w = spelt_or_refused (content_lines part) a f v w.0
+one_text part (Err (Class class f)) (Ok a) v w = spelt_or_refused (content_lines part) a f w v.0
+one_text part (Err (Class class f)) (Err (Class other g)) v w = (v.1 ∙ sym w.1, one_refusal (content_lines part) f g v.0 w.0)
 one_text part (Err (Class class f)) (Err g) v w = absurd w
 one_text part (Ok a) (Err g) v w = absurd w
 one_text part (Err f) s v w = absurd v
@@ -92,7 +92,7 @@ one_by true part r s v w = same_answers r s (hex_written part) v w
 one_by false part r s v w = one_text part r s v w
 
 one_written : (part : Part) (r s : Result (List ℕ) BundleFault) → Written part r → Written part s → SameAnswer r s
-one_written part r s v w = one_by (is_hex (stated part)) part r s v w
+one_written part r s v w = one_by (is_hex (content_lines part)) part r s v w
 
 too_long : (a b : List ℕ) → a ≡ b → length a ≤ MOST_CLASS_BYTES → MOST_CLASS_BYTES < length b → ⊥
 too_long a b e short long = let n : length a ≡ length b = ap (λ (x : List ℕ). length x) e in absurd (omega arith)

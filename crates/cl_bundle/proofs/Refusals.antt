@@ -12,7 +12,7 @@ use Rattle.cl_bundle.specs.Cuts.{IsWrongLine}
 use Rattle.cl_bundle.specs.Faults.{UnlessMemory}
 use Rattle.cl_writer.specs.Assembled.{AssembleOf}
 use Rattle.cl_writer.specs.declared.fault.AssembleFault.{AssembleFault}
-use Rattle.cl_bundle.specs.Contents.{FaultOf, TextWritten, stated}
+use Rattle.cl_bundle.specs.Contents.{FaultOf, TextWritten, content_lines}
 use Rattle.cl_bundle.specs.Bundles.{BundleOf, ConfigFaultOf, ContentsOf, IsNoBundle, WrongClass, WrongConfig, WrongLine, WrongScript}
 use Rattle.cl_bundle.specs.declared.bundle.Bundle as declared
 use Rattle.cl_bundle.specs.declared.fault.BundleFault.{BundleFault}
@@ -52,9 +52,9 @@ by_script text cut config content wrong e k told w =
     unless (Script wrong) (IsNoBundle text (Script wrong)) (WrongScript cut config told.0 wrong e k told.1 w refl)
 
 -- a class section's assembler text is refused
-pub refused_text : (part : Part) (said : AssembleFault) (fault : BundleFault) → AssembleOf (stated part) (Err said) → FaultOf part said fault → UnlessMemory fault (TextWritten part (Err fault))
+pub refused_text : (part : Part) (said : AssembleFault) (fault : BundleFault) → AssembleOf (content_lines part) (Err said) → FaultOf part said fault → UnlessMemory fault (TextWritten part (Err fault))
 refused_text part said Memory a f = tt
 refused_text part said (Class class assembler.Memory) a f = tt
-refused_text part said (Class class (assembler.BadLine n)) a f = (subst (λ (x : AssembleFault). AssembleOf (stated part) (Err x)) (sym f.0) a, f.1)
-refused_text part said (Class class (assembler.Invalid w)) a f = (subst (λ (x : AssembleFault). AssembleOf (stated part) (Err x)) (sym f.0) a, f.1)
+refused_text part said (Class class (assembler.BadLine n)) a f = (subst (λ (x : AssembleFault). AssembleOf (content_lines part) (Err x)) (sym f.0) a, f.1)
+refused_text part said (Class class (assembler.Invalid w)) a f = (subst (λ (x : AssembleFault). AssembleOf (content_lines part) (Err x)) (sym f.0) a, f.1)
 refused_text part said fault a f = absurd f

@@ -45,8 +45,8 @@ use Rattle.cl_bundle.specs.declared.fault.BundleFault.TheVariants.{BadLine, Clas
 use Rattle.cl_source.specs.declared.size.TheConstants.{MOST_CLASS_BYTES}
 
 -- the lines of a class section that are not skipped, counted from the one after `%class`
-abbrev pub stated : Part → List Numbered
-stated part = stated_lines part.body
+abbrev pub content_lines : Part → List Numbered
+content_lines part = stated_lines part.body
 
 -- ---- hexadecimal
 
@@ -74,7 +74,7 @@ is_hex (line ∷ lines) = is_some (line_digits (words_of line.text))
 
 -- what the `@hex` lines of a class section write, or else the line of `%class` is wrong
 abbrev pub hex_written : Part → Result (List ℕ) BundleFault
-hex_written part = ok_or (hex_bytes (stated part)) (BadLine part.line)
+hex_written part = ok_or (hex_bytes (content_lines part)) (BadLine part.line)
 
 -- ---- assembler text
 
@@ -95,9 +95,9 @@ class_text part = reports.class_text (part.loader ∷ []) (classes.class part.na
 
 -- what assembler text gives: bytes, or its fault, with the class that it is a fault of
 abbrev pub TextWritten : Part → Result (List ℕ) BundleFault → Type 0
-TextWritten part (Ok bytes) = IsSpelledBy (stated part) bytes
+TextWritten part (Ok bytes) = IsSpelledBy (content_lines part) bytes
 TextWritten part (Err (Class class fault)) =
-    IsRefused (stated part) fault × (string_bytes class ≡ class_text part)
+    IsRefused (content_lines part) fault × (string_bytes class ≡ class_text part)
 TextWritten part (Err _) = ⊥
 
 -- ---- either
@@ -106,7 +106,7 @@ TextWritten part (Err _) = ⊥
 -- other is assembler text
 abbrev pub Written : Part → Result (List ℕ) BundleFault → Type 0
 Written part result =
-    MatchBool (is_hex (stated part)) (result ≡ hex_written part) (TextWritten part result)
+    MatchBool (is_hex (content_lines part)) (result ≡ hex_written part) (TextWritten part result)
 
 -- more bytes than a class file may have
 pub record IsTooLong (part : Part) : Type 0 where

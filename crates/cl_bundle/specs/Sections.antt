@@ -21,7 +21,7 @@ use Rattle.std.specs.Prelude.{
   if◌then◌else◌,
 }
 use Rattle.std.specs.List.{join_with_byte}
-use Rattle.cl_names.specs.Escape.{unescaped}
+use Rattle.cl_names.specs.Escape.{unescaped_name}
 use Rattle.cl_names.specs.Kind.{is_class_name}
 use Rattle.cl_lines.specs.Lines.{lines_in, words_of, is_skipped}
 
@@ -35,7 +35,7 @@ pub data Heading : Type 0 where
 -- the name that a word writes as escaped text, where a class may have it (JVMS SE 8, 4.2.1)
 abbrev pub class_named : List ℕ → Option (List ℕ)
 class_named word =
-    option_and_then (λ name. if is_class_name name then Some name else None) (unescaped word)
+    option_and_then (λ name. if is_class_name name then Some name else None) (unescaped_name word)
 
 -- a class section begins, where its word is a class's name; else the line is wrong
 abbrev pub named_heading : List ℕ → Option (List ℕ) → Heading

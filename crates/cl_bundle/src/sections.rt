@@ -1,5 +1,5 @@
 ghost use Rattle.std.specs.Prelude.{◌≡◌, ◌<◌, ◌++◌, ◌∷◌, [], List, ℕ, length, OnOk, IfSome, IfNone};
-ghost use Rattle.cl_lines.specs.Lines.{CutsLine, words_of, numbered};
+ghost use Rattle.cl_lines.specs.Lines.{CutsLine, words_of, plain_line};
 ghost use Rattle.cl_bundle.specs.Sections.{is_config};
 ghost use Rattle.cl_bundle.specs.Cuts.{BodyOf, CutOf, OpeningOf, SectionLineOf};
 
@@ -84,7 +84,7 @@ fn push<'a>(
 /// The next line, which takes something off the text.
 fn next_line<'a>(lines: &mut Lines<'a>) -> Option<Line<'a>>
     ensures cut { IfSome result
-        (λ l. CutsLine lines.old (numbered l) lines.new) }
+        (λ l. CutsLine lines.old (plain_line l) lines.new) }
     ensures less { IfSome result (λ _. length lines.new.text < length lines.old.text) }
     ensures end { IfNone result (lines.old.text ≡ []) }
 {

@@ -5,9 +5,9 @@ use Rattle.cl_classfile.specs.declared.entry.Entry.{Entry}
 use Rattle.cl_classfile.specs.declared.entry.Entry.TheVariants.{Class}
 use Rattle.cl_classfile.specs.Pool.{at}
 use Rattle.cl_classfile.specs.Files.{class_name, no_array, text_at, type_of}
-use Rattle.cl_classfile.specs.Mentions.{AreMentions, AreMet, MarksOne, MetAt, named_at, naming, text_of_interface}
+use Rattle.cl_classfile.specs.Mentions.{AreMentions, AreMet, MarksOne, MetAt, named_at, naming_text, text_of_interface}
 
-type_by_text : (pool : List Entry) (o : Option Entry) (text : ℕ) → naming o ≡ suc text → type_of pool o ≡ text_at pool (suc text)
+type_by_text : (pool : List Entry) (o : Option Entry) (text : ℕ) → naming_text o ≡ suc text → type_of pool o ≡ text_at pool (suc text)
 type_by_text pool (Some (Class index)) text h = ap (text_at pool) h
 type_by_text pool _ text h = absurd cc
 
@@ -21,7 +21,7 @@ same_name pool interfaces one other text e f =
     let next : text + 1 ≡ suc text = omega arith in
     name_by_text pool (slice_get interfaces one) text (e ∙ next) ∙ sym (name_by_text pool (slice_get interfaces other) text (f ∙ next))
 
-pub text_there : (pool : List Entry) (interfaces : List ℕ) (place text : ℕ) → place < length interfaces → text ≡ naming (at pool (get_or interfaces place 0)) → text_of_interface pool (slice_get interfaces place) ≡ text
+pub text_there : (pool : List Entry) (interfaces : List ℕ) (place text : ℕ) → place < length interfaces → text ≡ naming_text (at pool (get_or interfaces place 0)) → text_of_interface pool (slice_get interfaces place) ≡ text
 text_there pool [] place text less is = absurd (omega (arith, less))
 text_there pool (i ∷ interfaces) zero text less is = sym is
 text_there pool (i ∷ interfaces) (suc place) text less is = text_there pool interfaces place text (omega (arith, less)) is

@@ -11,7 +11,7 @@ use Rattle.cl_classfile.specs.declared.entry.Entry.TheVariants.{Class, Fieldref,
 use Rattle.cl_classfile.specs.Pool.{at, HasText, HasClass, HasPair, NamesType, MayPair, KeepsEntry}
 use Rattle.cl_classfile.specs.Rows.{is_field, is_call}
 use Rattle.cl_classfile.specs.Structure.{Structure}
-use Rattle.cl_classfile.specs.Files.{Reference, Symbol, Citation, text_of, type_of, type_name, pair_name, pair_descriptor, symbol_at, cited, typed, reference_of, references_from, file_of, reference}
+use Rattle.cl_classfile.specs.Files.{Reference, Symbol, Citation, text_of, type_of, type_name, pair_name, pair_descriptor, symbol_at, citation_of, typed_reference, reference_of, references_from, file_of, reference}
 use Rattle.cl_classfile.specs.References.{refers, IsFieldSymbol, IsMethodSymbol, IsCited}
 use Rattle.cl_classfile.proofs.Judging.{field_is, call_is}
 use Rattle.cl_classfile.proofs.Classes.{Rows, row_at}
@@ -51,11 +51,11 @@ reference_is : (pool : List Entry) (i : ℕ) → found i (references_from pool 1
 reference_is pool zero = none_before pool 1 pool 0 (omega arith)
 reference_is pool (suc i) = found_at pool 1 pool i (suc i) (omega arith)
 
-each_typed : (pool : List Entry) (o : Option Entry) → option_and_then typed (option_and_then (cited pool) o) ≡ option_and_then (reference_of pool) o
+each_typed : (pool : List Entry) (o : Option Entry) → option_and_then typed_reference (option_and_then (citation_of pool) o) ≡ option_and_then (reference_of pool) o
 each_typed pool None = refl
 each_typed pool (Some e) = refl
 
-pub value_is : (f : Structure) (i : ℕ) → option_and_then typed (option_and_then (cited f.pool) (at f.pool i)) ≡ reference (file_of f) i
+pub value_is : (f : Structure) (i : ℕ) → option_and_then typed_reference (option_and_then (citation_of f.pool) (at f.pool i)) ≡ reference (file_of f) i
 value_is f i = each_typed f.pool (at f.pool i) ∙ sym (reference_is f.pool i)
 
 -- ---- the texts of a reference
@@ -117,21 +117,21 @@ nothing = record { some = refl; sound = λ r e. absurd cc }
 something : (o : Option Citation) (r : Citation) → o ≡ Some r → IsCited r → IsSound o true
 something o r e h = record { some = ap is_some e; sound = λ q f. let same : r ≡ q = cc in subst IsCited same h }
 
-entry_sound : (pool : List Entry) → Rows pool → (e : Entry) → KeepsEntry pool e → IsSound (cited pool e) (refers (Some e))
+entry_sound : (pool : List Entry) → Rows pool → (e : Entry) → KeepsEntry pool e → IsSound (citation_of pool e) (refers (Some e))
 entry_sound pool rows (Class text) k = something _ _ (ap (λ (o : Option Entry). option_map (λ name. Citation.CitesClass name) (text_of o)) k.is_text) k.kind
 entry_sound pool rows (Fieldref class pair) k = let r = field_right pool rows class pair k.0 k.1 in something _ _ (ap (option_map (λ s. Citation.CitesField s)) r.is) r.right
 entry_sound pool rows (Methodref class pair) k = let r = method_right pool rows class pair k.0 k.1 in something _ _ (ap (option_map (λ s. Citation.CitesMethod s)) r.is) r.right
 entry_sound pool rows (InterfaceMethodref class pair) k = let r = method_right pool rows class pair k.0 k.1 in something _ _ (ap (option_map (λ s. Citation.CitesInterfaceMethod s)) r.is) r.right
 entry_sound pool rows _ k = nothing
 
-at_sound : (pool : List Entry) → Rows pool → (i : ℕ) (o : Option Entry) → at pool i ≡ o → IsSound (option_and_then (cited pool) o) (refers o)
+at_sound : (pool : List Entry) → Rows pool → (i : ℕ) (o : Option Entry) → at pool i ≡ o → IsSound (option_and_then (citation_of pool) o) (refers o)
 at_sound pool rows i None e = nothing
 at_sound pool rows i (Some x) e = entry_sound pool rows x (row_at pool i x rows e)
 
-pub some_is : (pool : List Entry) → Rows pool → (i : ℕ) → is_some (option_and_then (cited pool) (at pool i)) ≡ refers (at pool i)
+pub some_is : (pool : List Entry) → Rows pool → (i : ℕ) → is_some (option_and_then (citation_of pool) (at pool i)) ≡ refers (at pool i)
 some_is pool rows i = (at_sound pool rows i (at pool i) refl).some
 
-pub sound_is : (pool : List Entry) → Rows pool → (i : ℕ) (r : Citation) → option_and_then (cited pool) (at pool i) ≡ Some r → IsCited r
+pub sound_is : (pool : List Entry) → Rows pool → (i : ℕ) (r : Citation) → option_and_then (citation_of pool) (at pool i) ≡ Some r → IsCited r
 sound_is pool rows i r e = (at_sound pool rows i (at pool i) refl).sound r e
 
 -- ---- for the call

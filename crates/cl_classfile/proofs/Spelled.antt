@@ -4,7 +4,7 @@ use Rattle.std.specs.Int.{w16, w32, to_be_bytes}
 use Rattle.std.specs.List.{flat_map}
 use Rattle.std.proofs.lemmas.Bool.{eqb-true}
 use Rattle.cl_classfile.specs.declared.fault.Fault.TheVariants.{BadMagic, Version}
-use Rattle.cl_classfile.specs.Structure.{Structure, counted, pool_spelling, member_spelling, attribute_spelling, magic, version, spelling, AllFit, PoolFits, AttributeFits, MemberFits, Fits}
+use Rattle.cl_classfile.specs.Structure.{Structure, counted_list, pool_spelling, member_spelling, attribute_spelling, magic, version, spelling, AllFit, PoolFits, AttributeFits, MemberFits, Fits}
 use Rattle.cl_classfile.specs.Reading.{Reader, number_at, then_at, sized_at, each_at, counted_at, magic_at, version_at, header_at, pool_at, class_at, interfaces_at, attribute_at, attributes_at, member_at, members_at, tables_at, FileParts, parts_at, structure_of, structure_at, two_at}
 use Rattle.cl_classfile.proofs.Codec.{both, bind_ok, Takes, Takes-then, IsCodec, number16, number32, also, sized, tested, mapped, many, EachFits, each_of_all, all_of_each}
 use Rattle.cl_classfile.proofs.Pooled.{pool}
@@ -48,7 +48,7 @@ class = also (number_at w16) (then_at (number_at w16) (λ this. number_at w16)) 
 each : {A : Type 0} (r : Reader A) (s : A → List ℕ) (F : A → Type 0) → IsCodec r s F → (n : ℕ) → IsCodec (each_at r n) (flat_map s) (λ xs. (length xs ≡ n) × EachFits {C = ℕ} (λ i. F) (λ i a. i) 0 xs)
 each r s F c n = many {C = ℕ} (λ i. r) (λ i a. i) s (λ i. F) (λ i. c) n 0
 
-counts : {A : Type 0} (r : Reader A) (s : A → List ℕ) (F : A → Type 0) → IsCodec r s F → IsCodec (counted_at r) (counted s) (AllFit F)
+counts : {A : Type 0} (r : Reader A) (s : A → List ℕ) (F : A → Type 0) → IsCodec r s F → IsCodec (counted_at r) (counted_list s) (AllFit F)
 counts r s F c = record {
   takes = λ bytes x fits e.
       let a = bind_ok (number_at w16 bytes) (λ n. each_at r n.0 n.1) x e in
@@ -61,7 +61,7 @@ counts r s F c = record {
       ∙ rw (number16.again (length xs) (flat_map s xs ++ rest) h.0, (each r s F c (length xs)).again xs rest (refl, each_of_all {C = ℕ} F (λ i a. i) 0 xs h.1)) refl;
 }
 
-interfaces : IsCodec interfaces_at (counted (to_be_bytes w16)) (AllFit (λ i. i < 2 ^ 16))
+interfaces : IsCodec interfaces_at (counted_list (to_be_bytes w16)) (AllFit (λ i. i < 2 ^ 16))
 unfolding interfaces_at
 interfaces = counts (number_at w16) (to_be_bytes w16) (λ i. i < 2 ^ 16) number16
 
@@ -73,7 +73,7 @@ attribute =
     (λ p h. (refl, record { name_index = h.0; bytes = h.1 }))
     (λ a h. ((h.name_index, h.bytes), refl, refl))
 
-attributes : IsCodec attributes_at (counted attribute_spelling) (AllFit AttributeFits)
+attributes : IsCodec attributes_at (counted_list attribute_spelling) (AllFit AttributeFits)
 unfolding attributes_at
 attributes = counts attribute_at attribute_spelling AttributeFits attribute
 
@@ -85,11 +85,11 @@ member =
     (λ p h. (refl, record { flags = h.0; name_index = h.1.0; descriptor_index = h.1.1.0; attributes = h.1.1.1 }))
     (λ m h. ((h.flags, (h.name_index, (h.descriptor_index, h.attributes))), refl, refl))
 
-members : IsCodec members_at (counted member_spelling) (AllFit MemberFits)
+members : IsCodec members_at (counted_list member_spelling) (AllFit MemberFits)
 unfolding members_at
 members = counts member_at member_spelling MemberFits member
 
-tables : IsCodec tables_at (λ p. counted member_spelling p.0 ++ (counted member_spelling p.1.0 ++ counted attribute_spelling p.1.1)) (λ p. AllFit MemberFits p.0 × (AllFit MemberFits p.1.0 × AllFit AttributeFits p.1.1))
+tables : IsCodec tables_at (λ p. counted_list member_spelling p.0 ++ (counted_list member_spelling p.1.0 ++ counted_list attribute_spelling p.1.1)) (λ p. AllFit MemberFits p.0 × (AllFit MemberFits p.1.0 × AllFit AttributeFits p.1.1))
 unfolding tables_at
 tables = also members_at (then_at members_at (λ methods. attributes_at)) _ _ _ _ members (also members_at attributes_at _ _ _ _ members attributes)
 
@@ -101,8 +101,8 @@ parts_spelling p =
     header_spelling p.0
     ++ (pool_spelling p.1.0
     ++ (class_spelling p.1.1.0
-    ++ (counted (to_be_bytes w16) p.1.1.1.0
-    ++ (counted member_spelling p.1.1.1.1.0 ++ (counted member_spelling p.1.1.1.1.1.0 ++ counted attribute_spelling p.1.1.1.1.1.1)))))
+    ++ (counted_list (to_be_bytes w16) p.1.1.1.0
+    ++ (counted_list member_spelling p.1.1.1.1.0 ++ (counted_list member_spelling p.1.1.1.1.1.0 ++ counted_list attribute_spelling p.1.1.1.1.1.1)))))
 
 parts : IsCodec parts_at parts_spelling PartsFit
 unfolding parts_at
@@ -118,7 +118,7 @@ joined header pool flags this super rest e = rw e (simp append_assoc)
 there : (p : FileParts) → HeaderFits p.0 → parts_spelling p ≡ spelling (structure_of p)
 there p h =
     joined (header_spelling p.0) (pool_spelling p.1.0) (to_be_bytes w16 p.1.1.0.0) (to_be_bytes w16 p.1.1.0.1.0) (to_be_bytes w16 p.1.1.0.1.1)
-    (counted (to_be_bytes w16) p.1.1.1.0 ++ (counted member_spelling p.1.1.1.1.0 ++ (counted member_spelling p.1.1.1.1.1.0 ++ counted attribute_spelling p.1.1.1.1.1.1))) (header_says p.0 h)
+    (counted_list (to_be_bytes w16) p.1.1.1.0 ++ (counted_list member_spelling p.1.1.1.1.0 ++ (counted_list member_spelling p.1.1.1.1.1.0 ++ counted_list attribute_spelling p.1.1.1.1.1.1))) (header_says p.0 h)
 
 says : (p : FileParts) → PartsFit p → Fits (structure_of p)
 says p h = record {

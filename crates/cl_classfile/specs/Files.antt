@@ -160,13 +160,14 @@ symbol_at pool class pair =
     (pair_descriptor pool (at pool pair))
 
 -- the texts of an entry that refers to a class or a member (4.4.1, 4.4.2)
-abbrev pub cited : List Entry → Entry → Option Citation
-cited pool (Class text) = option_map (λ name. CitesClass name) (text_at pool text)
-cited pool (Fieldref class pair) = option_map (λ s. CitesField s) (symbol_at pool class pair)
-cited pool (Methodref class pair) = option_map (λ s. CitesMethod s) (symbol_at pool class pair)
-cited pool (InterfaceMethodref class pair) =
+abbrev pub citation_of : List Entry → Entry → Option Citation
+citation_of pool (Class text) = option_map (λ name. CitesClass name) (text_at pool text)
+citation_of pool (Fieldref class pair) = option_map (λ s. CitesField s) (symbol_at pool class pair)
+citation_of pool (Methodref class pair) =
+    option_map (λ s. CitesMethod s) (symbol_at pool class pair)
+citation_of pool (InterfaceMethodref class pair) =
     option_map (λ s. CitesInterfaceMethod s) (symbol_at pool class pair)
-cited pool _ = None
+citation_of pool _ = None
 
 -- the key of a field, and of a method, of this name and descriptor (4.3.2, 4.3.3)
 abbrev pub field_of : Name → Name → Option Key
@@ -195,15 +196,16 @@ typed_by make (Some target) (Some key) = Some (make target key)
 typed_by make _ _ = None
 
 -- a reference with its descriptors read (4.3, 4.4.2)
-abbrev pub typed : Citation → Option Reference
-typed (CitesClass name) = option_map (λ t. ToClass t) (named_type name)
-typed (CitesField s) = typed_by ToField (named_type s.class) (field_key s)
-typed (CitesMethod s) = typed_by ToMethod (named_type s.class) (method_key s)
-typed (CitesInterfaceMethod s) = typed_by ToInterfaceMethod (named_type s.class) (method_key s)
+abbrev pub typed_reference : Citation → Option Reference
+typed_reference (CitesClass name) = option_map (λ t. ToClass t) (named_type name)
+typed_reference (CitesField s) = typed_by ToField (named_type s.class) (field_key s)
+typed_reference (CitesMethod s) = typed_by ToMethod (named_type s.class) (method_key s)
+typed_reference (CitesInterfaceMethod s) =
+    typed_by ToInterfaceMethod (named_type s.class) (method_key s)
 
 -- what an entry refers to, if it is a reference (4.4.1, 4.4.2)
 abbrev pub reference_of : List Entry → Entry → Option Reference
-reference_of pool e = option_and_then typed (cited pool e)
+reference_of pool e = option_and_then typed_reference (citation_of pool e)
 
 -- the references among the entries from an index on (4.4)
 abbrev pub references_from : List Entry → ℕ → List Entry → List (ℕ × Reference)
@@ -213,16 +215,17 @@ references_from pool i (e ∷ es) =
     ++ references_from pool (i + 1) es
 
 -- what linking looks at of a field or a method (4.5, 4.6)
-abbrev pub keyed : (Name → Name → Option Key) → ℕ → Option Name → Option Name → Option Member
-keyed key flags (Some name) (Some descriptor) =
+abbrev pub linked_member : (Name → Name → Option Key) → ℕ → Option Name → Option Name
+    → Option Member
+linked_member key flags (Some name) (Some descriptor) =
     option_map (λ k. record { flags = flags; key = k }) (key name descriptor)
-keyed key flags _ _ = None
+linked_member key flags _ _ = None
 
 -- what linking looks at of a member of the structure (4.5, 4.6)
 abbrev pub declared_by : (Name → Name → Option Key) → List Entry → structure.MemberInfo
     → Option Member
 declared_by key pool m =
-    keyed key m.flags (text_at pool m.name_index) (text_at pool m.descriptor_index)
+    linked_member key m.flags (text_at pool m.name_index) (text_at pool m.descriptor_index)
 
 -- what linking looks at in a structure (4.1)
 abbrev pub file_of : Structure → File

@@ -43,8 +43,8 @@ pub record MemberInfo : Type 0 where
 -- ---- the one spelling of each
 
 -- how many there are, and each of them (4.1)
-abbrev pub counted : {A : Type 0} → (A → List ℕ) → List A → List ℕ
-counted spell xs = to_be_bytes w16 (length xs) ++ flat_map spell xs
+abbrev pub counted_list : {A : Type 0} → (A → List ℕ) → List A → List ℕ
+counted_list spell xs = to_be_bytes w16 (length xs) ++ flat_map spell xs
 
 -- the bytes of an attribute (4.7)
 abbrev pub attribute_spelling : Attribute → List ℕ
@@ -55,7 +55,7 @@ abbrev pub member_spelling : MemberInfo → List ℕ
 member_spelling m =
     to_be_bytes w16 m.flags
     ++ (to_be_bytes w16 m.name_index
-    ++ (to_be_bytes w16 m.descriptor_index ++ counted attribute_spelling m.attributes))
+    ++ (to_be_bytes w16 m.descriptor_index ++ counted_list attribute_spelling m.attributes))
 
 -- ---- what the widths hold
 

@@ -9,14 +9,14 @@ use Rattle.cl_classfile.specs.Structure.{Structure}
 use Rattle.cl_classfile.specs.declared.mentions.Mentions.{Mentions}
 
 -- the index of the text that names a class or an array, and 0 of another entry (4.4.1)
-abbrev pub naming : Option Entry → ℕ
-naming (Some (Class text)) = text
-naming other = 0
+abbrev pub naming_text : Option Entry → ℕ
+naming_text (Some (Class text)) = text
+naming_text other = 0
 
 -- the index of the text that names an interface, by its place, and 0 where there is none (4.1)
 abbrev pub text_of_interface : List Entry → Option ℕ → ℕ
 text_of_interface pool None = 0
-text_of_interface pool (Some index) = naming (at pool index)
+text_of_interface pool (Some index) = naming_text (at pool index)
 
 -- the name of an interface, by its place (4.1)
 abbrev pub named_at : List Entry → List ℕ → ℕ → Option Name

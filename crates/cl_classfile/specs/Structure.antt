@@ -33,7 +33,7 @@ use Rattle.cl_classfile.specs.Flags.{has, interface, is_class_flags}
 pub use Rattle.cl_classfile.specs.Members.{
   Attribute,
   MemberInfo,
-  counted,
+  counted_list,
   attribute_spelling,
   member_spelling,
   AllFit,
@@ -78,9 +78,10 @@ spelling f =
     ++ (to_be_bytes w16 f.flags
     ++ (to_be_bytes w16 f.this_class
     ++ (to_be_bytes w16 f.super_class
-    ++ (counted (to_be_bytes w16) f.interfaces
-    ++ (counted member_spelling f.fields
-    ++ (counted member_spelling f.methods ++ counted attribute_spelling f.attributes))))))))
+    ++ (counted_list (to_be_bytes w16) f.interfaces
+    ++ (counted_list member_spelling f.fields
+    ++
+    (counted_list member_spelling f.methods ++ counted_list attribute_spelling f.attributes))))))))
 
 -- ---- what the widths hold
 

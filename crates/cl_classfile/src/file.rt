@@ -4,7 +4,7 @@ ghost use Rattle.cl_classfile.specs.declared.fault.Fault.{Fault};
 ghost use Rattle.cl_classfile.specs.declared.fault.Fault.TheVariants as faults;
 ghost use Rattle.cl_classfile.specs.declared.fault.ReadError.TheVariants as errors;
 ghost use Rattle.cl_classfile.specs.Structure.{Structure, at, Fits, Spells, spelling, IsClassFile, HasOtherMagic, HasOtherVersion};
-ghost use Rattle.cl_classfile.specs.Files.{class_name, file_of, is_interface, is_public, typed, reference};
+ghost use Rattle.cl_classfile.specs.Files.{class_name, file_of, is_interface, is_public, typed_reference, reference};
 ghost use Rattle.cl_classfile.specs.References.{plain_reference, refers, IsCited};
 ghost use Rattle.cl_names.specs.Kind.{IsNameOf, IsClass};
 ghost use Rattle.std.specs.List.{AllByRecursion};
@@ -206,7 +206,7 @@ impl ClassFile {
     /// (JVMS SE 8, 4.4.1, 4.4.2).
     pub fn reference(&self, index: u16) -> Option<Reference<'_>>
         // Its texts are those of the reference.
-        ensures value { option_and_then typed (option_map plain_reference result)
+        ensures value { option_and_then typed_reference (option_map plain_reference result)
             ≡ reference (file_of self.now) index }
         ensures some { is_some result ≡ refers (at self.now.pool index) }
         // Each text is of its kind.

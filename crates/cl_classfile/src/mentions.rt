@@ -3,7 +3,7 @@
 
 ghost use Rattle.std.specs.Prelude.{◌≡◌, ◌<◌, ◌≤◌, ℕ, List, IfOk, slice_get};
 ghost use Rattle.cl_classfile.specs.declared.entry.Entry.{Entry};
-ghost use Rattle.cl_classfile.specs.Mentions.{AreMentions, MetAt, MarksOne, named_at, naming};
+ghost use Rattle.cl_classfile.specs.Mentions.{AreMentions, MetAt, MarksOne, named_at, naming_text};
 ghost use Rattle.cl_classfile.specs.Pool.{at};
 
 use crate::entry::Entry;
@@ -44,7 +44,7 @@ impl Mentions {
 
 /// The index of the text that names the class at an index, or 0.
 fn naming(pool: &[Entry], index: u16) -> u16
-    ensures { result ≡ naming (at pool.now index) }
+    ensures { result ≡ naming_text (at pool.now index) }
 {
     match item_at(pool, index) {
         Some(Entry::Class(text)) => *text,

@@ -3,7 +3,7 @@
 ghost use Rattle.std.specs.Prelude.{◌≡◌};
 ghost use Rattle.std.specs.Option.{option_map, option_and_then};
 ghost use Rattle.cl_classfile.specs.Structure.{at};
-ghost use Rattle.cl_classfile.specs.Files.{symbol_at, cited};
+ghost use Rattle.cl_classfile.specs.Files.{symbol_at, citation_of};
 ghost use Rattle.cl_classfile.specs.References.{plain_symbol, plain_reference};
 
 use crate::checking::{text_at, type_name};
@@ -48,7 +48,7 @@ fn symbol_at(pool: &[Entry], class: u16, name_and_type: u16) -> Option<Symbol<'_
 
 /// What the entry at an index refers to, if it is a reference.
 pub fn reference_at(pool: &[Entry], index: u16) -> Option<Reference<'_>>
-    ensures { option_map plain_reference result ≡ option_and_then (cited pool.now)
+    ensures { option_map plain_reference result ≡ option_and_then (citation_of pool.now)
         (at pool.now index) }
 {
     match item_at(pool, index)? {

@@ -1,7 +1,7 @@
 -- Names, words and lines of the worked examples.
 use Rattle.std.proofs.Common.{rules, ◌≡◌, ℕ, List, true, false, Some, codes, refl, sym, ap, ◌∙◌}
 use Rattle.cl_model.specs.declared.request.Request.TheVariants.{Load, Resolve, Link}
-use Rattle.cl_names.specs.Escape.{unescaped, written_units}
+use Rattle.cl_names.specs.Escape.{unescaped_name, written_units}
 use Rattle.cl_names.specs.Text.{is_text}
 use Rattle.cl_names.specs.Kind.{is_class_name}
 use Rattle.cl_names.specs.Name.{WritesClass}
@@ -15,8 +15,8 @@ use Rattle.cl_config.proofs.Requests.{words_alone}
 
 -- ---- names
 
-writes_p_a : unescaped (codes "p/A") ≡ Some (codes "p/A")
-unfolding unescaped written_units
+writes_p_a : unescaped_name (codes "p/A") ≡ Some (codes "p/A")
+unfolding unescaped_name written_units
 writes_p_a = refl
 
 class_p_a : is_class_name (codes "p/A") ≡ true
@@ -26,8 +26,8 @@ class_p_a = refl
 pub p_a : WritesClass (codes "p/A") (codes "p/A")
 p_a = record { written = unescaped_from (codes "p/A") (codes "p/A") writes_p_a; kind = class_from_test (codes "p/A") class_p_a }
 
-writes_p_dot_a : unescaped (codes "p.A") ≡ Some (codes "p.A")
-unfolding unescaped written_units
+writes_p_dot_a : unescaped_name (codes "p.A") ≡ Some (codes "p.A")
+unfolding unescaped_name written_units
 writes_p_dot_a = refl
 
 no_class_p_dot_a : is_class_name (codes "p.A") ≡ false

@@ -34,7 +34,7 @@ use Rattle.toml.specs.Data.{
   member,
 }
 use Rattle.cl_config.specs.declared.fault.ConfigFault.{ConfigFault}
-use Rattle.cl_names.specs.Escape.{unescaped}
+use Rattle.cl_names.specs.Escape.{unescaped_name}
 use Rattle.cl_config.specs.declared.order.Order.{Order}
 use Rattle.cl_config.specs.declared.order.Order.TheVariants.{ParentFirst, ChildFirst}
 use Rattle.cl_config.specs.Steps.{◌>>=◌}
@@ -64,7 +64,7 @@ optional_text wrong (Some d) = ok_or (as_str d) wrong >>= λ text. Ok (Some text
 
 -- a name in escaped text, that has to be there
 abbrev pub name_of : ConfigFault → Option Data → Result (List ℕ) ConfigFault
-name_of wrong value = text_of wrong value >>= λ text. ok_or (unescaped text) wrong
+name_of wrong value = text_of wrong value >>= λ text. ok_or (unescaped_name text) wrong
 
 -- where a loader looks first; its parent, where it is left out
 abbrev pub order_of : ConfigFault → Option Data → Result Order ConfigFault

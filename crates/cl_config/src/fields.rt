@@ -7,7 +7,7 @@ ghost use Rattle.std.specs.Option.{ok_or, option_map};
 ghost use Rattle.toml.specs.Data.{Data, get_member, as_str};
 ghost use Rattle.toml.specs.View.{view, table_view, array_view};
 ghost use Rattle.cl_config.specs.Fields.{has_only, table_of, text_of, optional_text, name_of};
-ghost use Rattle.cl_names.specs.Escape.{unescaped};
+ghost use Rattle.cl_names.specs.Escape.{unescaped_name};
 ghost use Rattle.cl_config.specs.Steps.{Finds, Agrees};
 
 use crate::fault::{ConfigError, ConfigFault};
@@ -150,7 +150,7 @@ impl Field for Name {
 
 /// The name that escaped text writes.
 fn name_in_text(alloc: Global, wrong: ConfigFault, text: &str) -> Result<Name, ConfigError>
-    ensures { Agrees (λ x. x) result (ok_or (unescaped text.now) wrong) }
+    ensures { Agrees (λ x. x) result (ok_or (unescaped_name text.now) wrong) }
 {
     match Name::from_text(alloc, text) {
         Ok(name) => Ok(name),

@@ -7,7 +7,7 @@ use Rattle.std.proofs.lemmas.List.Folds.{list_any-append}
 use Rattle.std.specs.Prelude.{if◌then◌else◌, Result, Ok, Err, OnOk, OnErr}
 use Rattle.cl_constraints.specs.declared.record.Entered.{Entered}
 use Rattle.cl_constraints.specs.Records.{home_in}
-use Rattle.cl_constraints.specs.Groups.{Joint, Grouped, group_of, has_both, AreJoined, AreApart, HasItsHome, HaveHomes, IsGrouped, joined_class, IsClassOf, members, without, joint_of, merged}
+use Rattle.cl_constraints.specs.Groups.{Joint, Grouped, group_of, has_both, AreJoined, AreApart, HasItsHome, HaveHomes, IsGrouped, joined_class, IsClassOf, members, without, joint_of, merged_groups}
 use Rattle.cl_model.specs.Probes.{is_in}
 use Rattle.cl_model.specs.States.{Divides}
 use Rattle.cl_constraints.specs.Singles.{Joins}
@@ -180,7 +180,7 @@ kept_shared a b x y (g ∷ gs) h i j = at (is_in g.loaders a) (is_in g.loaders b
     at false true false e ih h i j = ih h i j
     at false false false e ih h i j = or_right (is_in g.loaders x && is_in g.loaders y) (has_both (kept a b gs) x y) (ih h i j)
 
-shared_merged : (v : Grouped) (a b x y : ℕ) → is_in (members v.groups a ++ members v.groups b) x ≡ true → is_in (members v.groups a ++ members v.groups b) y ≡ true → AreJoined (merged v a b) x y
+shared_merged : (v : Grouped) (a b x y : ℕ) → is_in (members v.groups a ++ members v.groups b) x ≡ true → is_in (members v.groups a ++ members v.groups b) y ≡ true → AreJoined (merged_groups v a b) x y
 shared_merged v a b x y h k =
     let all = members v.groups a ++ members v.groups b in
     inr (list_any-append (λ g. is_in g.loaders x && is_in g.loaders y) (kept a b v.groups) (record { home = option_or (joined_class v a) (joined_class v b); loaders = all } ∷ [])
@@ -193,7 +193,7 @@ unshared gs a b x apart h = (at a (has_both gs a x) refl (λ s. has_merged gs a 
     at l true e k = let z : false ≡ true = sym h ∙ k e in absurd cc
     at l false e k = e
 
-pub merged_from : (v : Grouped) (a b x y : ℕ) → IsGrouped v → AreJoined (merged v a b) x y → Joins (λ p q. AreJoined v.groups p q) a b x y
+pub merged_from : (v : Grouped) (a b x y : ℕ) → IsGrouped v → AreJoined (merged_groups v a b) x y → Joins (λ p q. AreJoined v.groups p q) a b x y
 merged_from v a b x y ok (inl e) = inl (inl e)
 merged_from v a b x y ok (inr s) =
     elim (or_cases (has_both (kept a b v.groups) x y) ((is_in all x && is_in all y) || false) (sym (list_any-append (λ g. is_in g.loaders x && is_in g.loaders y) (kept a b v.groups) (record { home = option_or (joined_class v a) (joined_class v b); loaders = all } ∷ [])) ∙ s)) as (λ _. Joins (λ p q. AreJoined v.groups p q) a b x y) [
@@ -216,7 +216,7 @@ merged_from v a b x y ok (inr s) =
     both (inr i) (inl j) = inr (inr (grouped_back v.groups b x i, j))
     both (inr i) (inr j) = inl (grouped_then v.groups x b y ok.apart (grouped_back v.groups b x i) j)
 
-pub merged_to : (v : Grouped) (a b x y : ℕ) → IsGrouped v → Joins (λ p q. AreJoined v.groups p q) a b x y → AreJoined (merged v a b) x y
+pub merged_to : (v : Grouped) (a b x y : ℕ) → IsGrouped v → Joins (λ p q. AreJoined v.groups p q) a b x y → AreJoined (merged_groups v a b) x y
 merged_to v a b x y ok (inr (inl j)) = shared_merged v a b x y (has_merged v.groups a b x ok.apart (inl (grouped_back v.groups x a j.0))) (has_merged v.groups a b y ok.apart (inr j.1))
 merged_to v a b x y ok (inr (inr j)) = shared_merged v a b x y (has_merged v.groups a b x ok.apart (inr (grouped_back v.groups x b j.0))) (has_merged v.groups a b y ok.apart (inl j.1))
 merged_to v a b x y ok (inl (inl e)) = inl e
@@ -229,14 +229,14 @@ merged_to v a b x y ok (inl (inr s)) = at (is_in all x) refl
     along (inl i) = inl (grouped_then v.groups a x y ok.apart i (inr s))
     along (inr i) = inr (grouped_then v.groups b x y ok.apart i (inr s))
 
-    at : (p : Bool) → is_in all x ≡ p → AreJoined (merged v a b) x y
+    at : (p : Bool) → is_in all x ≡ p → AreJoined (merged_groups v a b) x y
     at true e = shared_merged v a b x y e (has_merged v.groups a b y ok.apart (along (merged_has v.groups a b x ok.apart e)))
     at false e =
         let none = unshared v.groups a b x ok.apart e in
         inr (list_any-append (λ g. is_in g.loaders x && is_in g.loaders y) (kept a b v.groups) (record { home = option_or (joined_class v a) (joined_class v b); loaders = all } ∷ [])
         ∙ or_left (has_both (kept a b v.groups) x y) ((is_in all x && is_in all y) || false) (kept_shared a b x y v.groups s none.0 none.1))
 
-pub merged_joined : (v : Grouped) (a b x y : ℕ) → IsGrouped v → AreJoined (merged v a b) x y ↔ Joins (λ p q. AreJoined v.groups p q) a b x y
+pub merged_joined : (v : Grouped) (a b x y : ℕ) → IsGrouped v → AreJoined (merged_groups v a b) x y ↔ Joins (λ p q. AreJoined v.groups p q) a b x y
 merged_joined v a b x y ok = (merged_from v a b x y ok, merged_to v a b x y ok)
 
 apart_push : (gs : List Joint) (n : Joint) → AreApart gs → ((x : ℕ) → list_any (λ g. is_in g.loaders x) gs ≡ true → is_in n.loaders x ≡ false) → AreApart (gs ++ n ∷ [])
@@ -276,7 +276,7 @@ merged_home v a b p q ok ca cb fits =
     some None q cp cq place e = let f = cq.some place e in (f.0, has_merged v.groups a b f.0 ok.apart (inr f.1), f.2)
     some (Some m) q cp cq place e = let f = cp.some place e in (f.0, has_merged v.groups a b f.0 ok.apart (inl f.1), f.2)
 
-pub merged_grouped : (v : Grouped) (a b : ℕ) → IsGrouped v → (Divides (λ x. home_in v.records x) (λ x y. AreJoined v.groups x y) a b → ⊥) → IsGrouped (record { records = v.records; groups = merged v a b })
+pub merged_grouped : (v : Grouped) (a b : ℕ) → IsGrouped v → (Divides (λ x. home_in v.records x) (λ x y. AreJoined v.groups x y) a b → ⊥) → IsGrouped (record { records = v.records; groups = merged_groups v a b })
 merged_grouped v a b ok fits =
     record {
       apart = apart_push (kept a b v.groups) (record { home = option_or (joined_class v a) (joined_class v b); loaders = all }) (kept_apart a b v.groups ok.apart) outside;

@@ -11,7 +11,7 @@ use Rattle.std.proofs.lemmas.Bool.{eqb-true}
 use Rattle.std.proofs.lemmas.Cmp.{nat_eq_equiv, nat_list_eq_equiv}
 use Rattle.indexmap.specs.IndexMap.{IndexMap}
 use Rattle.cl_classfile.specs.Files.{Name, same_name}
-use Rattle.cl_model.specs.States.{State, start, Record, Equality, Need, Entry, Equal, recorded, Joined, Violated, Met, Clashes, Refused, added, Differs, Divides}
+use Rattle.cl_model.specs.States.{State, start, Record, Equality, Need, Entry, Equal, recorded_definer, Joined, Violated, Met, Clashes, Refused, with_need, Differs, Divides}
 use Rattle.cl_model.specs.States as States
 use Rattle.cl_names.specs.Truth.{Decides}
 use Rattle.cl_model.proofs.Runs.{added_later, joined_later, joined_then, joined_back, joined_link, last_linked, met_clash, adds, record_found, start_unviolated, names_equal, path_added}
@@ -165,7 +165,7 @@ same_record : (loader : ℕ) (name : Name) → ((loader == loader) && same_name 
 same_record loader name = rw (nat_eq_equiv.refl loader) (nat_list_eq_equiv.refl name)
 
 -- a record more changes no other
-recorded_apart : (rs : List Record) (r : Record) (l : ℕ) (m : Name) → ((r.loader == l) && same_name r.name m) ≡ false → recorded (rs ++ r ∷ []) l m ≡ recorded rs l m
+recorded_apart : (rs : List Record) (r : Record) (l : ℕ) (m : Name) → ((r.loader == l) && same_name r.name m) ≡ false → recorded_definer (rs ++ r ∷ []) l m ≡ recorded_definer rs l m
 recorded_apart rs r l m e =
     let test = λ (x : Record). (x.loader == l) && same_name x.name m in
     let last : find test (r ∷ []) ≡ None = ap (λ (b : Bool). if b then Some r else None) e in
@@ -177,7 +177,7 @@ both_tests false b e = absurd cc
 
 module _ {N : Type 0} (record_at : N → ℕ → Option ℕ) (joins : N → ℕ → ℕ → Type 0) (old new : List (Name × N)) (s : State) (book : IsBookOf (home_of record_at old) (joins_of joins old) s) (name : Name) where
   -- the book stands for the state with one record more
-  pub entered_book : (loader place : ℕ) → EntersAt record_at joins old new name loader place → home_of record_at old name loader ≡ None → (Differs (home_of record_at old name) (joins_of joins old name) loader place → ⊥) → IsBookOf (home_of record_at new) (joins_of joins new) (added s (Entry loader name place))
+  pub entered_book : (loader place : ℕ) → EntersAt record_at joins old new name loader place → home_of record_at old name loader ≡ None → (Differs (home_of record_at old name) (joins_of joins old name) loader place → ⊥) → IsBookOf (home_of record_at new) (joins_of joins new) (with_need s (Entry loader name place))
   entered_book loader place e fresh fits =
       record {
         records = λ m l. by m l ((loader == l) && same_name name m) refl;
@@ -198,15 +198,15 @@ module _ {N : Type 0} (record_at : N → ℕ → Option ℕ) (joins : N → ℕ 
             | inr d ↦ sym (ap (home_or_none record_at l) (e.others m d))
           ]
 
-      by : (m : Name) (l : ℕ) (b : Bool) → ((loader == l) && same_name name m) ≡ b → recorded (s.records ++ r ∷ []) l m ≡ home_of record_at new m l
+      by : (m : Name) (l : ℕ) (b : Bool) → ((loader == l) && same_name name m) ≡ b → recorded_definer (s.records ++ r ∷ []) l m ≡ home_of record_at new m l
       by m l true t =
           let both = both_tests (loader == l) (same_name name m) t in
-          let here : recorded (s.records ++ r ∷ []) loader name ≡ home_of record_at new name loader = record_found s.records r (book.records name loader ∙ fresh) ∙ sym e.records.here in
-          subst (λ (z : Name). recorded (s.records ++ r ∷ []) l z ≡ home_of record_at new z l) (names_equal name m both.1) (subst (λ (z : ℕ). recorded (s.records ++ r ∷ []) z name ≡ home_of record_at new name z) (eqb-true loader l both.0) here)
+          let here : recorded_definer (s.records ++ r ∷ []) loader name ≡ home_of record_at new name loader = record_found s.records r (book.records name loader ∙ fresh) ∙ sym e.records.here in
+          subst (λ (z : Name). recorded_definer (s.records ++ r ∷ []) l z ≡ home_of record_at new z l) (names_equal name m both.1) (subst (λ (z : ℕ). recorded_definer (s.records ++ r ∷ []) z name ≡ home_of record_at new name z) (eqb-true loader l both.0) here)
       by m l false f = recorded_apart s.records r l m f ∙ book.records m l ∙ stays m l f
 
   -- the book stands for the state with one equality more
-  pub joined_book : (a b : ℕ) → JoinsAt record_at joins old new name a b → (Divides (home_of record_at old name) (joins_of joins old name) a b → ⊥) → IsBookOf (home_of record_at new) (joins_of joins new) (added s (Equal name a b))
+  pub joined_book : (a b : ℕ) → JoinsAt record_at joins old new name a b → (Divides (home_of record_at old name) (joins_of joins old name) a b → ⊥) → IsBookOf (home_of record_at new) (joins_of joins new) (with_need s (Equal name a b))
   joined_book a b j fits =
       record {
         records = λ m l. book.records m l ∙ stays m l;
@@ -218,7 +218,7 @@ module _ {N : Type 0} (record_at : N → ℕ → Option ℕ) (joins : N → ℕ 
       k = record { name = name; one = a; other = b }
 
       t : State
-      t = added s (Equal name a b)
+      t = with_need s (Equal name a b)
 
       later : (m : Name) (x y : ℕ) → joins_of joins old m x y → Joined t.equalities m x y
       later m x y i = joined_later s t (added_later s (Equal name a b)) m x y ((book.joined m x y).0 i)

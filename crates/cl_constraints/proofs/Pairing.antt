@@ -6,7 +6,7 @@ use Rattle.std.proofs.lemmas.Bool.{and_from, and_parts, eqb-true, eqb-false, ne_
 use Rattle.std.proofs.lemmas.List.Sums.{fold-append}
 use Rattle.cl_constraints.specs.declared.plain.Pair.{Pair}
 use Rattle.cl_constraints.specs.declared.plain.Placed.{Placed}
-use Rattle.cl_constraints.specs.Pairs.{Paired, home_at, next_by, end_in, ArePaired, KeepsEnd, KeepsEnds, differs_at, divides_at, moved}
+use Rattle.cl_constraints.specs.Pairs.{Paired, home_at, next_by, end_in, ArePaired, KeepsEnd, KeepsEnds, differs_at, divides_at, moved_record}
 use Rattle.cl_model.specs.States.{Differs, Divides}
 use Rattle.cl_constraints.specs.Singles.{Joins, TellsFit, TellsAgreement}
 use Rattle.cl_constraints.proofs.Recording.{home_elsewhere, home_here}
@@ -113,22 +113,22 @@ all_moved P Q f [] on all = tt
 all_moved P Q f (r ∷ rs) on all = (on r all.0, all_moved P Q f rs on all.1)
 
 -- records keep their homes
-pub home_moved : (p : Pair) (rs : List Placed) (x : ℕ) → home_at (map (moved p) rs) x ≡ home_at rs x
+pub home_moved : (p : Pair) (rs : List Placed) (x : ℕ) → home_at (map (moved_record p) rs) x ≡ home_at rs x
 home_moved p [] x = refl
 home_moved p (r ∷ rs) x = by (r.loader == x) (home_moved p rs x)
   where
-    by : (b : Bool) → home_at (map (moved p) rs) x ≡ home_at rs x → option_map (λ (q : Placed). q.home) (if b then Some (moved p r) else find (λ (q : Placed). q.loader == x) (map (moved p) rs)) ≡ option_map (λ (q : Placed). q.home) (if b then Some r else find (λ (q : Placed). q.loader == x) rs)
+    by : (b : Bool) → home_at (map (moved_record p) rs) x ≡ home_at rs x → option_map (λ (q : Placed). q.home) (if b then Some (moved_record p r) else find (λ (q : Placed). q.loader == x) (map (moved_record p) rs)) ≡ option_map (λ (q : Placed). q.home) (if b then Some r else find (λ (q : Placed). q.loader == x) rs)
     by true ih = refl
     by false ih = ih
 
 -- the constraints with one pair more
 abbrev pub with_pair : Paired → Pair → Paired
-with_pair v p = record { records = map (moved p) v.records; pairs = v.pairs ++ p ∷ [] }
+with_pair v p = record { records = map (moved_record p) v.records; pairs = v.pairs ++ p ∷ [] }
 
 pub placed_on : (v : Paired) (p : Pair) → KeepsEnds v → KeepsEnds (with_pair v p)
-placed_on v p all = all_moved (KeepsEnd v) (KeepsEnd (with_pair v p)) (moved p) v.records go_on all
+placed_on v p all = all_moved (KeepsEnd v) (KeepsEnd (with_pair v p)) (moved_record p) v.records go_on all
   where
-    go_on : (r : Placed) → KeepsEnd v r → KeepsEnd (with_pair v p) (moved p r)
+    go_on : (r : Placed) → KeepsEnd v r → KeepsEnd (with_pair v p) (moved_record p r)
     go_on r ok =
         record {
           own = home_moved p v.records r.loader ∙ ok.own;

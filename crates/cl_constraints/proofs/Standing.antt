@@ -1,7 +1,7 @@
 -- What a book stands for along a history.
 use Rattle.std.proofs.Common.{◌≡◌, ◌↔◌, ℕ, List, [], ◌∷◌, ◌++◌, Option, Some, None, refl, sym, ap, subst, ◌∙◌}
 use Rattle.cl_classfile.specs.Files.{Name}
-use Rattle.cl_model.specs.States.{State, start, Record, Equality, Need, Entry, Equal, recorded, Joined, Met, Refused, MayAdd, added}
+use Rattle.cl_model.specs.States.{State, start, Record, Equality, Need, Entry, Equal, recorded_definer, Joined, Met, Refused, MayAdd, with_need}
 use Rattle.cl_model.specs.Machine.{Step, Define, Initiate, Constrain, Settle, Prepare, Post, NextRound, Stray, after, state_after}
 use Rattle.cl_model.proofs.Views.{state_then}
 use Rattle.cl_model.proofs.Runs.{violated_as}
@@ -18,8 +18,8 @@ module _ (home : Name → ℕ → Option ℕ) (joins : Name → ℕ → ℕ → 
         unviolated = λ v. book.unviolated (violated_as s t (sym r) (sym e) v);
       }
     where
-      same : (m : Name) (l : ℕ) → recorded t.records l m ≡ recorded s.records l m
-      same m l = ap (λ (rs : List Record). recorded rs l m) r
+      same : (m : Name) (l : ℕ) → recorded_definer t.records l m ≡ recorded_definer s.records l m
+      same m l = ap (λ (rs : List Record). recorded_definer rs l m) r
 
   -- so it stands for the state after a step that adds none
   after_none : (s : State) (e : Step) → need_of_step e ≡ None → IsBookOf home joins s → IsBookOf home joins (after s e)
@@ -36,10 +36,10 @@ module _ (home : Name → ℕ → Option ℕ) (joins : Name → ℕ → ℕ → 
   stays_after es e h book = subst (λ (s : State). IsBookOf home joins s) (sym (state_then start es (e ∷ []))) (after_none (state_after start es) e h book)
 
 -- a step adds the need that it makes stand
-pub after_added : (s : State) (e : Step) (need : Need) → need_of_step e ≡ Some need → after s e ≡ added s need
-after_added s (Define c) need h = let q : Entry c.loader c.name c.loader ≡ need = cc in ap (added s) q
-after_added s (Initiate name place loader) need h = let q : Entry loader name place ≡ need = cc in ap (added s) q
-after_added s (Constrain name a b) need h = let q : Equal name a b ≡ need = cc in ap (added s) q
+pub after_added : (s : State) (e : Step) (need : Need) → need_of_step e ≡ Some need → after s e ≡ with_need s need
+after_added s (Define c) need h = let q : Entry c.loader c.name c.loader ≡ need = cc in ap (with_need s) q
+after_added s (Initiate name place loader) need h = let q : Entry loader name place ≡ need = cc in ap (with_need s) q
+after_added s (Constrain name a b) need h = let q : Equal name a b ≡ need = cc in ap (with_need s) q
 after_added s (Settle d i v) need h = absurd cc
 after_added s (Prepare c) need h = absurd cc
 after_added s (Post q a) need h = absurd cc

@@ -2,7 +2,7 @@
 use Rattle.std.specs.Prelude.{◌≡◌, ℕ, ◌↔◌, Option, Bool, true, false}
 use Rattle.std.specs.Bool.{FalseIff}
 use Rattle.cl_classfile.specs.Files.{Name}
-use Rattle.cl_model.specs.States.{State, Need, recorded, Joined, Violated, Met, Refused, added}
+use Rattle.cl_model.specs.States.{State, Need, recorded_definer, Joined, Violated, Met, Refused, with_need}
 use Rattle.cl_names.specs.Truth.{Decides}
 use Rattle.cl_constraints.specs.declared.fault.BookFault.{BookFault}
 use Rattle.cl_constraints.specs.declared.fault.BookFault.TheVariants.{Memory, Violates}
@@ -10,7 +10,8 @@ use Rattle.cl_constraints.specs.declared.fault.BookFault.TheVariants.{Memory, Vi
 -- these are the records of a state and its joined loaders, and nothing is violated in it (5.3.4)
 pub record IsBookOf (home : Name → ℕ → Option ℕ) (joins : Name → ℕ → ℕ → Type 0) (s : State)
     : Type 0 where
-  pub records : (name : Name) (loader : ℕ) → recorded s.records loader name ≡ home name loader
+  pub records : (name : Name) (loader : ℕ) → recorded_definer s.records loader name
+      ≡ home name loader
   pub joined : (name : Name) (a b : ℕ) → joins name a b ↔ Joined s.equalities name a b
   pub unviolated : Violated s → ⊥
 
@@ -21,7 +22,7 @@ Wherever stands holds = (s : State) → stands s → holds s
 -- the answer is who defined the class that a loader records for a name (5.3)
 abbrev pub TellsDefiner : (State → Type 0) → ℕ → Name → Option ℕ → Type 0
 TellsDefiner stands loader name answer =
-    Wherever stands (λ s. recorded s.records loader name ≡ answer)
+    Wherever stands (λ s. recorded_definer s.records loader name ≡ answer)
 
 -- the answer tells whether this holds in each state that a book stands for
 abbrev pub TellsOf : (State → Type 0) → Bool → (State → Type 0) → Type 0
@@ -42,7 +43,7 @@ Meets stands need answer = TellsOf stands answer (λ s. Met s need)
 -- a need is not refused, and is added (5.3.4)
 abbrev pub Adds : {B : Type 0} → (B → State → Type 0) → B → B → Need → Type 0
 Adds stands_for old new need =
-    Wherever (stands_for old) (λ s. (Refused s need → ⊥) × stands_for new (added s need))
+    Wherever (stands_for old) (λ s. (Refused s need → ⊥) × stands_for new (with_need s need))
 
 -- what imposing an equality comes to: it is new and added, or stands already and nothing changes
 -- (5.3.4)

@@ -96,5 +96,5 @@ joint_of v a b =
     }
 
 -- the groups once two loaders are joined (5.3.4)
-abbrev pub merged : Grouped → ℕ → ℕ → List Joint
-merged v a b = without a b v.groups ++ joint_of v a b ∷ []
+abbrev pub merged_groups : Grouped → ℕ → ℕ → List Joint
+merged_groups v a b = without a b v.groups ++ joint_of v a b ∷ []

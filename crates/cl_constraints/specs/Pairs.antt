@@ -46,5 +46,5 @@ divides_at records one other =
     list_any (λ r. (r.end == one) && differs_at records other r.home) records
 
 -- a record once a pair is added
-abbrev pub moved : Pair → Placed → Placed
-moved pair r = record r { end = next_by r.end pair }
+abbrev pub moved_record : Pair → Placed → Placed
+moved_record pair r = record r { end = next_by r.end pair }

@@ -2,7 +2,7 @@ ghost use Rattle.std.specs.Prelude.{◌≡◌, ◌==◌, [], ◌++◌, ◌∷◌
 ghost use Rattle.cl_model.specs.States.{Differs, Divides};
 ghost use Rattle.cl_names.specs.Truth.{Decides};
 ghost use Rattle.cl_constraints.specs.Singles.{Enters, Joins, TellsAgreement, TellsFit};
-ghost use Rattle.cl_constraints.specs.Pairs.{differs_at, divides_at, end_in, home_at, moved, next_by};
+ghost use Rattle.cl_constraints.specs.Pairs.{differs_at, divides_at, end_in, home_at, moved_record, next_by};
 
 use crate::single::NameBook;
 use cl_model::LoaderId;
@@ -40,7 +40,7 @@ struct Placed {
 impl Placed {
     /// Goes on with the search, by a pair that was added.
     fn go_on(&mut self, pair: &Pair)
-        ensures { self.new ≡ moved pair.now self.old }
+        ensures { self.new ≡ moved_record pair.now self.old }
     {
         self.end = pair.next(self.end);
     }
@@ -159,7 +159,7 @@ fn divides(records: &[Placed], one: LoaderId, other: LoaderId) -> bool
 
 /// Goes on with the search from each record's loader, by a pair that was added.
 fn move_on(records: &mut Vec<Placed>, pair: &Pair)
-    ensures { records.new.items ≡ map (moved pair.now) records.old.items }
+    ensures { records.new.items ≡ map (moved_record pair.now) records.old.items }
 {
     for record in records.iter_mut() {
         record.go_on(pair);

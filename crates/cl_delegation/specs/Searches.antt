@@ -33,8 +33,9 @@ pub record Searched : Type 0 where
   pub found : Option Found
 
 -- a search that has asked nobody yet (5.3.2)
-abbrev pub begun : Configured → ℕ → List ℕ → Searched
-begun c loader name = record { config = c; loader = loader; name = name; absent = []; found = None }
+abbrev pub begun_search : Configured → ℕ → List ℕ → Searched
+begun_search c loader name =
+    record { config = c; loader = loader; name = name; absent = []; found = None }
 
 -- the loaders that the search asks, in order, while each lacks the name (5.3.2)
 abbrev pub route_of : Searched → List ℕ

@@ -1,7 +1,7 @@
 //! The search for a name through the loaders.
 
 ghost use Rattle.std.specs.Prelude.{◌≡◌, ◌<◌, ◌≤◌, ◌-◌, ◌++◌, [], ◌∷◌, IfOk, OnOk, IfErr, MatchResult, Option, Some, None, length, is_some, slice_get, vec_len, vec_capacity};
-ghost use Rattle.cl_delegation.specs.Searches.{LeadsTo, FollowsRoute, begun, next_of, route_of, with_probe};
+ghost use Rattle.cl_delegation.specs.Searches.{LeadsTo, FollowsRoute, begun_search, next_of, route_of, with_probe};
 ghost use Rattle.cl_source.specs.Told.{IsTold};
 ghost use Rattle.cl_source.specs.Views.{Found};
 
@@ -77,7 +77,7 @@ impl<T: Told> Search<T> {
         name: Name,
     ) -> Result<Search<T>, SearchRefused>
         requires { loader < length config.value.loaders }
-        ensures begun { IfOk result (λ s. s ≡ begun config.value loader name) }
+        ensures begun { IfOk result (λ s. s ≡ begun_search config.value loader name) }
         ensures back { IfErr result (λ e. (e.config.value ≡ config.value) × (e.name ≡ name)) }
     {
         let Ok(route) = find_route(alloc, &config, loader, &name) else {

@@ -18,14 +18,14 @@ seen_base (Plain base) = base
 seen_base (Class name) = bases.Class name.now
 
 -- a type whose name still stands in bytes (JVMS SE 8, 4.3.2)
-abbrev pub seen : Piece → FieldType
-seen p = record { dims = p.dims; base = seen_base p.base }
+abbrev pub seen_type : Piece → FieldType
+seen_type p = record { dims = p.dims; base = seen_base p.base }
 
 -- a method type whose parameters still stand in bytes (JVMS SE 8, 4.3.3)
-abbrev pub outlined : Outline → MethodType
-outlined o = record { params = (all_types o.params.now).0; ret = option_map seen o.ret }
+abbrev pub outlined_type : Outline → MethodType
+outlined_type o = record { params = (all_types o.params.now).0; ret = option_map seen_type o.ret }
 
 -- the tally is that of the parameters (JVMS SE 8, 4.3.3)
 pub record HasItsTally (o : Outline) : Type 0 where
-  pub units : o.tally.units ≡ units_of_method (outlined o)
-  pub shallow : o.tally.shallow ≡ list_all is_shallow (outlined o).params
+  pub units : o.tally.units ≡ units_of_method (outlined_type o)
+  pub shallow : o.tally.shallow ≡ list_all is_shallow (outlined_type o).params

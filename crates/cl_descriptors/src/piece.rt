@@ -5,7 +5,7 @@ ghost use Rattle.cl_descriptors.specs.Reading.{base_of_letter, class_at, base_at
 ghost use Rattle.cl_names.specs.Kind.{IsNameOf, IsClass};
 ghost use Rattle.cl_descriptors.specs.Types.{IsBase, is_shallow};
 ghost use Rattle.cl_descriptors.specs.Units.{units_of_field};
-ghost use Rattle.cl_descriptors.specs.Pieces.{seen, seen_base};
+ghost use Rattle.cl_descriptors.specs.Pieces.{seen_type, seen_base};
 
 use crate::limits::MOST_DIMENSIONS;
 use crate::types::{Base, FieldType};
@@ -29,7 +29,7 @@ pub struct Piece<'a> {
 impl Piece<'_> {
     /// How many units a parameter of this type counts.
     pub fn units(&self) -> usize
-        ensures value { result ≡ units_of_field (seen self.now) }
+        ensures value { result ≡ units_of_field (seen_type self.now) }
         ensures few { result ≤ 2 }
     {
         match &self.base {
@@ -39,7 +39,7 @@ impl Piece<'_> {
     }
 
     pub fn is_shallow(&self) -> bool
-        ensures { result ≡ is_shallow (seen self.now) }
+        ensures { result ≡ is_shallow (seen_type self.now) }
     {
         self.dims <= MOST_DIMENSIONS
     }
@@ -48,7 +48,7 @@ impl Piece<'_> {
     pub fn build(self, alloc: Global) -> Result<FieldType, AllocError>
         requires named { IsBase (seen_base self.base) }
         requires shallow { self.dims ≤ MOST_DIMENSIONS }
-        ensures { IfOk result (λ t. t ≡ seen self.entry) }
+        ensures { IfOk result (λ t. t ≡ seen_type self.entry) }
     {
         let dims = self.dims as u8;
         let base = self.base.build(alloc)?;
@@ -147,7 +147,7 @@ fn base_at(bytes: &[u8]) -> Option<(Head<'_>, &[u8])>
 /// The type at the front, and what follows.
 #[tactic(auto, unfolding(crate::specs::Reading::field_at))]
 pub fn field_at(bytes: &[u8]) -> Option<(Piece<'_>, &[u8])>
-    ensures { option_map (λ x. (seen x.0, x.1.now)) result ≡ field_at bytes.now }
+    ensures { option_map (λ x. (seen_type x.0, x.1.now)) result ≡ field_at bytes.now }
 {
     let dims = brackets(bytes)?;
     let (_, rest) = bytes.split_at(dims);
@@ -158,7 +158,7 @@ pub fn field_at(bytes: &[u8]) -> Option<(Piece<'_>, &[u8])>
 /// All of the bytes as a type.
 #[tactic(auto, unfolding(crate::specs::Reading::whole_field))]
 pub fn whole_field(bytes: &[u8]) -> Option<Piece<'_>>
-    ensures { option_map seen result ≡ whole_field bytes.now }
+    ensures { option_map seen_type result ≡ whole_field bytes.now }
 {
     let (piece, rest) = field_at(bytes)?;
     if !rest.is_empty() {
@@ -170,7 +170,7 @@ pub fn whole_field(bytes: &[u8]) -> Option<Piece<'_>>
 /// All of the bytes as what a method returns.
 #[tactic(auto, unfolding(crate::specs::Reading::whole_return))]
 pub fn whole_return(bytes: &[u8]) -> Option<Option<Piece<'_>>>
-    ensures { option_map (λ r. option_map seen r) result ≡ whole_return bytes.now }
+    ensures { option_map (λ r. option_map seen_type r) result ≡ whole_return bytes.now }
 {
     if let [b'V'] = bytes {
         return Some(None);

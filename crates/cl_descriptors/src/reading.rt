@@ -4,7 +4,7 @@ ghost use Rattle.std.specs.Prelude.{◌≡◌, Some, ◌≤◌, ◌<◌, ◌+◌
 ghost use Rattle.std.specs.List.{list_all};
 ghost use Rattle.cl_descriptors.specs.Types.{SpellsField, SpellsMethod, AreNamed, is_shallow, are_shallow, is_short};
 ghost use Rattle.cl_descriptors.specs.Units.{units_of_field, units_of_types};
-ghost use Rattle.cl_descriptors.specs.Pieces.{seen, outlined, HasItsTally};
+ghost use Rattle.cl_descriptors.specs.Pieces.{seen_type, outlined_type, HasItsTally};
 ghost use Rattle.cl_descriptors.specs.Reading.{all_types, whole_method, within_field, within_method, field_of, method_of, field_form, method_form, form_of, units_of};
 ghost use Rattle.cl_descriptors.specs.Answers.{FieldOf, MethodOf, FormOf, UnitsOf, GivesReading};
 
@@ -35,8 +35,8 @@ impl Tally {
         requires room { self.count + 1 < 2 ^ 63 }
         requires few { self.units ≤ 2 * self.count }
         ensures count { result.count ≡ self.count + 1 }
-        ensures units { result.units ≡ self.units + units_of_field (seen piece.entry) }
-        ensures shallow { result.shallow ≡ self.shallow && is_shallow (seen piece.entry) }
+        ensures units { result.units ≡ self.units + units_of_field (seen_type piece.entry) }
+        ensures shallow { result.shallow ≡ self.shallow && is_shallow (seen_type piece.entry) }
     {
         Tally {
             count: self.count + 1,
@@ -82,7 +82,7 @@ fn types(alloc: Global, count: usize, bytes: &[u8]) -> Result<Vec<FieldType>, Al
 /// All of the bytes as a method type, but for the limits.
 #[tactic(auto, unfolding(crate::specs::Reading::whole_method))]
 fn outline_of(bytes: &[u8]) -> Option<Outline<'_>>
-    ensures grammar { option_map outlined result ≡ whole_method bytes.now }
+    ensures grammar { option_map outlined_type result ≡ whole_method bytes.now }
     ensures counts { IfSome result HasItsTally }
 {
     let [b'(', params @ ..] = bytes else {
@@ -99,7 +99,7 @@ fn outline_of(bytes: &[u8]) -> Option<Outline<'_>>
 impl Outline<'_> {
     fn is_shallow(&self) -> bool
         requires { HasItsTally self.now }
-        ensures { result ≡ are_shallow (outlined self.now) }
+        ensures { result ≡ are_shallow (outlined_type self.now) }
     {
         match &self.ret {
             Some(ret) => ret.is_shallow() && self.tally.shallow,
@@ -109,17 +109,17 @@ impl Outline<'_> {
 
     fn is_short(&self) -> bool
         requires { HasItsTally self.now }
-        ensures { result ≡ is_short (outlined self.now) }
+        ensures { result ≡ is_short (outlined_type self.now) }
     {
         self.tally.units <= MOST_UNITS
     }
 
     /// The method type, with copies of its names.
     fn build(self, alloc: Global) -> Result<MethodType, AllocError>
-        requires named { AreNamed (outlined self) }
-        requires shallow { IsTrue (are_shallow (outlined self)) }
-        requires short { IsTrue (is_short (outlined self)) }
-        ensures { IfOk result (λ m. m ≡ outlined self.entry) }
+        requires named { AreNamed (outlined_type self) }
+        requires shallow { IsTrue (are_shallow (outlined_type self)) }
+        requires short { IsTrue (is_short (outlined_type self)) }
+        ensures { IfOk result (λ m. m ≡ outlined_type self.entry) }
     {
         let params = types(alloc, self.tally.count, self.params)?;
         let ret = match self.ret {

@@ -11,9 +11,9 @@ use Rattle.cl_model.specs.declared.request.Request.TheVariants as requests
 use Rattle.cl_model.specs.Content.{Content}
 use Rattle.cl_model.specs.Classes.{Error, class}
 use Rattle.cl_model.specs.Lineages.{Kin, classes}
-use Rattle.cl_model.specs.States.{State, Need, Entry, Equal, Verdict, IsLinked, Linkage, recorded, AllMet, IsRecorded, Refused}
+use Rattle.cl_model.specs.States.{State, Need, Entry, Equal, Verdict, IsLinked, Linkage, recorded_definer, AllMet, IsRecorded, Refused}
 use Rattle.cl_model.specs.Preparation.{constraints_of}
-use Rattle.cl_model.specs.Plans.{Request, Resolve, Link, Plan, ending}
+use Rattle.cl_model.specs.Plans.{Request, Resolve, Link, Plan, ending_verdict}
 use Rattle.cl_model.specs.Machine.{Setting, IsSound, AnswersPlan, AnswersReference}
 use Rattle.cl_model.specs.Service.{ComesTo, IsLinkedIn}
 use Rattle.cl_model.specs.Frames.{EndsHere}
@@ -78,7 +78,7 @@ standing_answers content c script s f v h =
 -- ---- references
 
 pub standing_settles : (content : Content) (c : Configured) (script : Scripted) (s : State) (f : Answered) (v : verdict.Verdict) (loader place i : ℕ) (name : List ℕ) → VerdictStands content c script s f v
-    → f.request ≡ requests.Resolve loader name i → recorded s.records loader name ≡ Some place
+    → f.request ≡ requests.Resolve loader name i → recorded_definer s.records loader name ≡ Some place
     → AnswersReference (setting_of c script content) s (class name place) i (verdict_of v)
 standing_settles content c script s f v loader place i name h asked rec =
     let g = setting_of c script content in
@@ -103,7 +103,7 @@ end_comes g s loader name v unlinked here = at here.plan.reached refl
     at (Some d) e =
         let x = reached g.world here.planned.height (Link loader name) here.plan d here.planned.planned e in
         let rest = step_is _ x.rest x.goes_on in
-        absurd (unlinked x.kin.class (sym here.ends ∙ ap (λ (y : Plan). y.ends) x.is ∙ ap (λ (r : Result Verdict Error). ending r) rest.1))
+        absurd (unlinked x.kin.class (sym here.ends ∙ ap (λ (y : Plan). y.ends) x.is ∙ ap (λ (r : Result Verdict Error). ending_verdict r) rest.1))
 
 -- classes of a lineage that are prepared are linked
 pub linked_all : (g : Setting) (s : State) (ks : List Kin) → IsSound g s → AllByRecursion (IsKept g.world s) ks → AllByRecursion (Contains s.prepared) (classes ks) → AllByRecursion (IsLinkedIn s) ks

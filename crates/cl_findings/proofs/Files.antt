@@ -9,7 +9,7 @@ use Rattle.cl_model.specs.Classes.{Error, HasFile, IsAtHome}
 use Rattle.cl_model.specs.Classes as classes
 use Rattle.cl_model.specs.Lineages.{Kin}
 use Rattle.cl_model.specs.Machine.{HasLineage, IsClosed}
-use Rattle.cl_model.specs.States.{State, IsRecorded, recorded}
+use Rattle.cl_model.specs.States.{State, IsRecorded, recorded_definer}
 use Rattle.cl_model.proofs.Homes.{home_of_home}
 use Rattle.cl_model.proofs.Planned.{lineage_exists}
 use Rattle.cl_model.proofs.Trees.{lineage_of}
@@ -22,11 +22,11 @@ ok_same : {A E : Type 0} (a b : A) (r : Result A E) → r ≡ Ok a → r ≡ Ok 
 ok_same a b r h k = cc
 
 -- a class that a loader records is at home
-pub kept_home : (w : World) (s : State) (loader : ℕ) (c : Class) → IsClosed w s → recorded s.records loader c.name ≡ Some c.loader → IsAtHome w c
+pub kept_home : (w : World) (s : State) (loader : ℕ) (c : Class) → IsClosed w s → recorded_definer s.records loader c.name ≡ Some c.loader → IsAtHome w c
 kept_home w s loader c closed at = home_of_home w loader c.loader c.name (closed.homes loader c.loader c.name at)
 
 -- and has the file that its bytes spell
-pub kept_file : (config : Configured) (content : Content) (s : State) (loader : ℕ) (c : Class) (f : Structure) → IsClosed (world_of config content) s → recorded s.records loader c.name ≡ Some c.loader
+pub kept_file : (config : Configured) (content : Content) (s : State) (loader : ℕ) (c : Class) (f : Structure) → IsClosed (world_of config content) s → recorded_definer s.records loader c.name ≡ Some c.loader
     → IsSpelt (Some content) c f → HasFile (world_of config content) c (file_of f)
 kept_file config content s loader c f closed at spelt = spelt_file config content c f (kept_home (world_of config content) s loader c closed at) spelt
 
@@ -37,7 +37,7 @@ pub record Placed (w : World) (c : Class) (f : File) : Type 0 where
   pub class_is : kin.class ≡ c
   pub file_is : kin.file ≡ f
 
-pub kept_lineage : (config : Configured) (content : Content) (s : State) (loader : ℕ) (c : Class) (f : Structure) → IsClosed (world_of config content) s → recorded s.records loader c.name ≡ Some c.loader
+pub kept_lineage : (config : Configured) (content : Content) (s : State) (loader : ℕ) (c : Class) (f : Structure) → IsClosed (world_of config content) s → recorded_definer s.records loader c.name ≡ Some c.loader
     → IsSpelt (Some content) c f → Placed (world_of config content) c (file_of f)
 kept_lineage config content s loader c f closed at spelt =
     let w = world_of config content in

@@ -13,7 +13,7 @@ use Rattle.cl_model.specs.Content.{Content}
 use Rattle.cl_model.specs.Homes.{World}
 use Rattle.cl_model.specs.Lineages.{Kin, IsLineage, classes, lineage}
 use Rattle.cl_model.specs.Preparation.{constraints_of}
-use Rattle.cl_model.specs.States.{State, Need, Entry, Equal, IsLinked, recorded, AllMet, IsNext, IsRecorded}
+use Rattle.cl_model.specs.States.{State, Need, Entry, Equal, IsLinked, recorded_definer, AllMet, IsNext, IsRecorded}
 use Rattle.cl_model.specs.Plans.{Link}
 use Rattle.cl_model.specs.Machine.{HasLineage, IsClosed}
 use Rattle.cl_model.specs.Service.{IsNextNeed}
@@ -36,7 +36,7 @@ use Rattle.cl_hierarchy.specs.Trees.{kin_under, kins, kins_after}
 use Rattle.cl_hierarchy.proofs.MetAbove.{front_met, known_met}
 use Rattle.cl_hierarchy.proofs.Tours.{classes_both}
 use Rattle.cl_findings.specs.Bases.{AreLineages}
-use Rattle.cl_findings.specs.Findings.{HasImposed, LinkIsPlaced, NeedIsPlaced, Rests, loader_of, grounded}
+use Rattle.cl_findings.specs.Findings.{HasImposed, LinkIsPlaced, NeedIsPlaced, Rests, loader_of, grounded_answer}
 use Rattle.cl_findings.specs.References.{AreLinked, link_basis}
 use Rattle.cl_findings.proofs.Plain.{linkage_apart}
 use Rattle.cl_findings.proofs.References.{next_at}
@@ -108,7 +108,7 @@ placed_link w s loader name (Equal other a b) cs h = h
 
 link_concludes : (content : Content) (loader : ℕ) (l at : Lined) (given : Given) (place k : ℕ) (needs : List Need) (n : Need) (s : State)
     → IsInOrder l → IsLineageOf (Some content) l → IsLineageOf (Some content) at → at.config ≡ l.config → option_map (λ (row : Rowed). row.class) (slice_get (rows_in l) place) ≡ Some at.own.class
-    → AreEnough (known_by given (kin_of at)) (constraints_of (kin_of at)) needs → slice_get needs k ≡ Some n → IsClosed (world_of l.config content) s → recorded s.records loader l.own.class.name ≡ Some l.own.class.loader → AllMet s (take k needs)
+    → AreEnough (known_by given (kin_of at)) (constraints_of (kin_of at)) needs → slice_get needs k ≡ Some n → IsClosed (world_of l.config content) s → recorded_definer s.records loader l.own.class.name ≡ Some l.own.class.loader → AllMet s (take k needs)
     → AllByRecursion (HasImposed (world_of l.config content) s) (row_classes (take place (rows_in l)))
     → IsNextNeed (world_of l.config content) s (Link loader l.own.class.name) n × NeedIsPlaced (world_of l.config content) s (Link loader l.own.class.name) n (row_classes (take place (rows_in l)))
 link_concludes content loader l at given place k needs n s order lin other config there are is closed rec met prepared =
@@ -155,7 +155,7 @@ lineage_at : (told : Option Content) (from : Sprung) (at : Lined) (given : Given
 lineage_at told from at given e h = let lined : IsLined told at = subst (λ (x : Sprung). AreLineages told x) e h in lined.lineage
 
 pub link_rests : (told : Option Content) (r : request.Request) (l : Lined) (place : ℕ) (e : Listed) (k : ℕ) (need : rust.Need) → AreLinked r l place e.origin → IsInOrder l → IsLineageOf told l → AreLineages told e.origin
-    → AreOf e.origin (needs_of e.needs) → slice_get (needs_of e.needs) k ≡ Some (need_of need) → Rests told (grounded r (verdicts.Linkage need) (link_basis r l place e k (Some (need_of need))))
+    → AreOf e.origin (needs_of e.needs) → slice_get (needs_of e.needs) k ≡ Some (need_of need) → Rests told (grounded_answer r (verdicts.Linkage need) (link_basis r l place e k (Some (need_of need))))
 link_rests None r l place e k need linked order lin others of is = tt
 link_rests (Some content) r l place e k need linked order lin others of is = record {
   apart = linkage_apart r need;
@@ -174,7 +174,7 @@ link_rests (Some content) r l place e k need linked order lin others of is = rec
 
 -- as it is kept
 pub link_rests_kept : (told : Option Content) (r : request.Request) (l : Lined) (place : ℕ) (e : Listed) (k : ℕ) (need : rust.Need) → AreLinked r l place e.origin → IsInOrder l → IsLineageOf told l → AreLineages told e.origin
-    → AreOf e.origin (needs_of e.needs) → slice_get (needs_of e.needs) k ≡ Some (need_of need) → Rests told (grounded r (verdicts.Linkage need) (link_basis r l place e k (slice_get (needs_of e.needs) k)))
+    → AreOf e.origin (needs_of e.needs) → slice_get (needs_of e.needs) k ≡ Some (need_of need) → Rests told (grounded_answer r (verdicts.Linkage need) (link_basis r l place e k (slice_get (needs_of e.needs) k)))
 link_rests_kept told r l place e k need linked order lin others of is =
-    subst (λ (o : Option Need). Rests told (grounded r (verdicts.Linkage need) (link_basis r l place e k o))) (sym is)
+    subst (λ (o : Option Need). Rests told (grounded_answer r (verdicts.Linkage need) (link_basis r l place e k o))) (sym is)
     (link_rests told r l place e k need linked order lin others of is)

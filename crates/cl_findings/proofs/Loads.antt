@@ -14,13 +14,13 @@ use Rattle.cl_model.specs.declared.verdict.Verdict.TheVariants as verdicts
 use Rattle.cl_model.specs.declared.request.Request as request
 use Rattle.cl_model.specs.Content.{Content}
 use Rattle.cl_model.specs.Homes.{World, home}
-use Rattle.cl_model.specs.Classes.{class, Above, Error, ClassNotFound, NoClassDef, ClassCircularity, HasFile, named}
+use Rattle.cl_model.specs.Classes.{class, Above, Error, ClassNotFound, NoClassDef, ClassCircularity, HasFile, file_if_named}
 use Rattle.cl_model.specs.Classes as classes
-use Rattle.cl_model.specs.States.{State, Need, Entry, Wrong, Linkage, recorded, AllMet, IsRecorded}
+use Rattle.cl_model.specs.States.{State, Need, Entry, Wrong, Linkage, recorded_definer, AllMet, IsRecorded}
 use Rattle.cl_model.specs.Machine.{IsClosed}
 use Rattle.cl_model.specs.Plans.{Request, Load, Resolve, Link}
 use Rattle.cl_model.specs.Service.{IsNextNeed}
-use Rattle.cl_model.specs.Frames.{Frame, wanted, KeepsAccepted, AllKept, IsFrame, IsFrames, OfReference, Starts, path_of, asking, EndsHere, Under, absent_under, kept_of}
+use Rattle.cl_model.specs.Frames.{Frame, wanted_supertype, KeepsAccepted, AllKept, IsFrame, IsFrames, OfReference, Starts, path_of, asking_loader, EndsHere, Under, absent_under, kept_of}
 use Rattle.cl_model.specs.Views.{request_of, error_of, need_of}
 use Rattle.cl_model.specs.Worlds.{file_fault, seen_file}
 use Rattle.cl_model.proofs.Frames.{missing_ends, faulty_ends, circle_ends, misfit_ends, complete_is_next, defined_is_next}
@@ -43,7 +43,7 @@ use Rattle.cl_hierarchy.proofs.Placed.{file_found, spelt_judged}
 use Rattle.cl_findings.specs.declared.load.Target.{Target}
 use Rattle.cl_findings.specs.declared.load.Target.TheVariants as targets
 use Rattle.cl_findings.specs.Bases.{IsSpeltIn}
-use Rattle.cl_findings.specs.Findings.{Based, Concludes, IsRefusal, NeedIsPlaced, Rests, VerdictRests, loader_of, grounded}
+use Rattle.cl_findings.specs.Findings.{Based, Concludes, IsRefusal, NeedIsPlaced, Rests, VerdictRests, loader_of, grounded_answer}
 use Rattle.cl_findings.specs.Loads.{IsFor, IsMisfit, IsReferred, IsSought, IsWhole, LooksFor, kind_of, load_basis, missing_kind, target_needs}
 use Rattle.cl_findings.proofs.Files.{kept_file}
 use Rattle.cl_findings.proofs.Plain.{error_apart, linkage_apart}
@@ -58,13 +58,13 @@ apart : (a b : List ℕ) (t : Bool) → a ≢ b → same_name a b ≡ t → t �
 apart a b true n h = absurd (n (names_equal a b h))
 apart a b false n h = refl
 
-wrong_read : (h : Located) (fault : DraftFault) (c : Class) → h.name ≡ c.name → IsWrong h fault → named c (read h.bytes) ≡ Err (error_of (kind_of fault) c)
-wrong_read h drafts.Version c same wrong = ap (λ (r : Result Structure Fault). named c (seen_file r)) wrong
+wrong_read : (h : Located) (fault : DraftFault) (c : Class) → h.name ≡ c.name → IsWrong h fault → file_if_named c (read h.bytes) ≡ Err (error_of (kind_of fault) c)
+wrong_read h drafts.Version c same wrong = ap (λ (r : Result Structure Fault). file_if_named c (seen_file r)) wrong
 wrong_read h (drafts.Format fault) c same wrong =
-    ap (λ (r : Result Structure Fault). named c (seen_file r)) wrong.0 ∙ ap (λ (f : FileFault). named c (Err f)) (other_than_version fault wrong.1)
+    ap (λ (r : Result Structure Fault). file_if_named c (seen_file r)) wrong.0 ∙ ap (λ (f : FileFault). file_if_named c (Err f)) (other_than_version fault wrong.1)
 wrong_read h drafts.OtherName c same wrong =
     let f = file_of wrong.0 in
-    ap (λ (r : Result Structure Fault). named c (seen_file r)) (grammar_read h.bytes wrong.0 wrong.1)
+    ap (λ (r : Result Structure Fault). file_if_named c (seen_file r)) (grammar_read h.bytes wrong.0 wrong.1)
     ∙ ap (λ (b : Bool). if b then Ok f else Err (NoClassDef c)) (apart f.name c.name (same_name f.name c.name) (λ e. wrong.2 (e ∙ sym same)) refl)
 
 -- ---- the frames of a path
@@ -88,7 +88,7 @@ record Last (xs : List Framed) (t : Class) (f : File) (e : Error) : Type 0 where
   pub before : List Framed
   pub last : Framed
   pub split : xs ≡ before ++ last ∷ []
-  pub judged : misfit_in last (wanted (frame_of last)) t f ≡ Some e
+  pub judged : misfit_in last (wanted_supertype (frame_of last)) t f ≡ Some e
 
 last_of : (xs : List Framed) (t : Class) (f : File) (e : Error) → misfit_under xs t f ≡ Some e → Last xs t f e
 last_of [] t f e h = absurd cc
@@ -110,7 +110,7 @@ placed_record w s (Link loader name) to place other = tt
 -- ---- where a path begins
 
 of_reference : (content : Content) (r : request.Request) (d : Rowed) (p : Pathed) (s : State) → IsReferred r d p → IsSpelt (Some content) d.class d.file → IsClosed (world_of p.config content) s
-    → recorded s.records (loader_of r) d.class.name ≡ Some d.class.loader → OfReference (world_of p.config content) s (request_of r) p.loader p.name
+    → recorded_definer s.records (loader_of r) d.class.name ≡ Some d.class.loader → OfReference (world_of p.config content) s (request_of r) p.loader p.name
 of_reference content r d p s for spelt closed at =
     let w = world_of p.config content in
     let own = sym for.loader in
@@ -119,7 +119,7 @@ of_reference content r d p s for spelt closed at =
       asked = d.class.name;
       index = for.index;
       request = ap request_of for.of;
-      kept = subst (λ (l : ℕ). recorded s.records (loader_of r) d.class.name ≡ Some l) own at;
+      kept = subst (λ (l : ℕ). recorded_definer s.records (loader_of r) d.class.name ≡ Some l) own at;
       file = file_of d.file;
       has_file = subst (λ (l : ℕ). HasFile w (class d.class.name l) (file_of d.file)) own (kept_file p.config content s (loader_of r) d.class d.file closed at spelt);
       cites = for.cites;
@@ -197,7 +197,7 @@ module _ {A : Type 0} (content : Content) (r : request.Request) (t : Target A) (
   -- the last class wants the recorded one
   misfit_ends_so : (row : Rowed) (e : Error) → row.class.name ≡ at_name p → misfit_under p.frames row.class (file_of row.file) ≡ Some e → IsSpelt (Some content) row.class row.file
       → Ends (Entry (at_loader p) row.class.name row.class.loader ∷ []) e
-  misfit_ends_so row e named wrong spelt = λ s closed met.
+  misfit_ends_so row e file_if_named wrong spelt = λ s closed met.
       let last = last_of p.frames row.class (file_of row.file) e wrong in
       let xs = map frame_of last.before in
       let x = frame_of last.last in
@@ -207,11 +207,11 @@ module _ {A : Type 0} (content : Content) (r : request.Request) (t : Target A) (
       let pop = frame_pop w [] u.loader (at_loader p) u.name (at_name p) xs x (subst (λ (ys : List Frame). IsFrames w [] u.loader u.name ys (at_loader p) (at_name p)) split u.frames) in
       let a = pop.2.0 in
       let kept = kept_split s xs x (subst (λ (ys : List Frame). AllKept s ys) split u.kept) in
-      misfit_ends w s (request_of r) (absent_of t) xs x (asking u.loader xs) a row.class e closed
+      misfit_ends w s (request_of r) (absent_of t) xs x (asking_loader u.loader xs) a row.class e closed
       (record { loader = u.loader; name = u.name; starts = u.starts; frames = pop.0; kept = kept.0 })
-      pop.1 kept.1 pop.2.1 (named ∙ sym pop.2.3)
-      (spelt_judged p.config content x.class row.class a.role (Some e) row.file spelt (judged_as last.last (wanted x) a row.class (file_of row.file) e pop.2.1 last.judged))
-      (subst (λ (l : ℕ). recorded s.records l row.class.name ≡ Some row.class.loader) (sym pop.2.2) all.1.0)
+      pop.1 kept.1 pop.2.1 (file_if_named ∙ sym pop.2.3)
+      (spelt_judged p.config content x.class row.class a.role (Some e) row.file spelt (judged_as last.last (wanted_supertype x) a row.class (file_of row.file) e pop.2.1 last.judged))
+      (subst (λ (l : ℕ). recorded_definer s.records l row.class.name ≡ Some row.class.loader) (sym pop.2.2) all.1.0)
 
   -- wherever these needs are met, this one comes next
   abbrev Next : List Need → Need → Type 0
@@ -229,7 +229,7 @@ module _ {A : Type 0} (content : Content) (r : request.Request) (t : Target A) (
   away_is_next : (h : Located) → IsSought p h → h.place ≢ at_loader p → LeadsTo (Some content) h.config h.asked h.name (Some h.place) → Next (Entry h.place h.name h.place ∷ []) (Entry h.asked h.name h.place)
   away_is_next h sought other leads = λ s closed met.
       let all = under_all s (Entry h.place h.name h.place ∷ []) closed met in
-      let at : IsRecorded s (class (at_name p) h.place) = subst (λ (n : List ℕ). recorded s.records h.place n ≡ Some h.place) sought.name all.1.0 in
+      let at : IsRecorded s (class (at_name p) h.place) = subst (λ (n : List ℕ). recorded_definer s.records h.place n ≡ Some h.place) sought.name all.1.0 in
       let next = defined_is_next w s (request_of r) (absent_of t) (frames_of p) (at_loader p) h.place (at_name p) closed all.0 (there h sought leads) at (λ e. other (sym e)) in
       subst (λ (n : List ℕ). IsNextNeed w s (request_of r) (Entry h.asked n h.place)) (sym sought.name)
       (subst (λ (l : ℕ). IsNextNeed w s (request_of r) (Entry l (at_name p) h.place)) (sym sought.asked) next)
@@ -255,7 +255,7 @@ refusal_rests w r need to place other b some bare is h = record {
 
 pub missing_rests : {A : Type 0} (told : Option Content) (r : request.Request) (t : Target A) (p : Pathed) (u : Sought) → IsFor r t p → IsSpeltIn told t → IsPath told p
     → LooksFor p u.config u.asked u.name → LeadsTo told u.config u.asked u.name None
-    → Rests told (grounded r (verdicts.Error (missing_kind t p.frames) (class u.name u.asked)) (load_basis r t p [] None))
+    → Rests told (grounded_answer r (verdicts.Error (missing_kind t p.frames) (class u.name u.asked)) (load_basis r t p [] None))
 missing_rests None r t p u for spelt path stops leads = tt
 missing_rests (Some content) r t p u for spelt path stops leads =
     error_rests (world_of p.config content) r (missing_kind t p.frames) (class u.name u.asked) (load_basis r t p [] None) refl
@@ -263,7 +263,7 @@ missing_rests (Some content) r t p u for spelt path stops leads =
 
 pub faulty_rests : {A : Type 0} (told : Option Content) (r : request.Request) (t : Target A) (p : Pathed) (h : Located) (fault : DraftFault) → IsFor r t p → IsSpeltIn told t → IsPath told p → IsSought p h
     → is_on p (class h.name h.place) ≡ false → LeadsTo told h.config h.asked h.name (Some h.place) → IsTold told h.place h.name (Some h.bytes) → IsWrong h fault
-    → Rests told (grounded r (verdicts.Error (kind_of fault) (class h.name h.place)) (load_basis r t p [] None))
+    → Rests told (grounded_answer r (verdicts.Error (kind_of fault) (class h.name h.place)) (load_basis r t p [] None))
 faulty_rests None r t p h fault for spelt path sought new leads stored wrong = tt
 faulty_rests (Some content) r t p h fault for spelt path sought new leads stored wrong =
     error_rests (world_of p.config content) r (kind_of fault) (class h.name h.place) (load_basis r t p [] None) refl
@@ -271,7 +271,7 @@ faulty_rests (Some content) r t p h fault for spelt path sought new leads stored
 
 pub circle_rests : {A : Type 0} (told : Option Content) (r : request.Request) (t : Target A) (p : Pathed) (h : Located) → IsFor r t p → IsSpeltIn told t → IsPath told p → IsSought p h
     → is_on p (class h.name h.place) ≡ true → LeadsTo told h.config h.asked h.name (Some h.place)
-    → Rests told (grounded r (verdicts.Error kinds.ClassCircularityError (class h.name h.place)) (load_basis r t p [] None))
+    → Rests told (grounded_answer r (verdicts.Error kinds.ClassCircularityError (class h.name h.place)) (load_basis r t p [] None))
 circle_rests None r t p h for spelt path sought again leads = tt
 circle_rests (Some content) r t p h for spelt path sought again leads =
     error_rests (world_of p.config content) r kinds.ClassCircularityError (class h.name h.place) (load_basis r t p [] None) refl
@@ -279,7 +279,7 @@ circle_rests (Some content) r t p h for spelt path sought again leads =
 
 pub misfit_rests : {A : Type 0} (told : Option Content) (r : request.Request) (t : Target A) (p : Pathed) (row : Rowed) (c : Class) (kind : ErrorKind) → IsFor r t p → IsSpeltIn told t → IsPath told p
     → (row.class ≡ c) × (c.name ≡ at_name p) × IsMisfit p row kind → IsSpelt told row.class row.file
-    → Rests told (grounded r (verdicts.Error kind c) (load_basis r t p (Entry (at_loader p) c.name c.loader ∷ []) None))
+    → Rests told (grounded_answer r (verdicts.Error kind c) (load_basis r t p (Entry (at_loader p) c.name c.loader ∷ []) None))
 misfit_rests None r t p row c kind for spelt path stops own = tt
 misfit_rests (Some content) r t p row c kind for spelt path stops own =
     let same = sym stops.0 in
@@ -289,7 +289,7 @@ misfit_rests (Some content) r t p row c kind for spelt path stops own =
 
 pub whole_rests : {A : Type 0} (told : Option Content) (r : request.Request) (t : Target A) (p : Pathed) (x : Framed) (need : rust.Need) → IsFor r t p → IsSpeltIn told t → IsPath told p → IsWhole told p x
     → need_of need ≡ Entry x.draft.class.loader x.draft.class.name x.draft.class.loader
-    → Rests told (grounded r (verdicts.Linkage need) (load_basis r t p (kept_of (frame_of x ∷ [])) (Some (Entry x.draft.class.loader x.draft.class.name x.draft.class.loader))))
+    → Rests told (grounded_answer r (verdicts.Linkage need) (load_basis r t p (kept_of (frame_of x ∷ [])) (Some (Entry x.draft.class.loader x.draft.class.name x.draft.class.loader))))
 whole_rests None r t p x need for spelt path whole is = tt
 whole_rests (Some content) r t p x need for spelt path whole is =
     let c = x.draft.class in
@@ -298,7 +298,7 @@ whole_rests (Some content) r t p x need for spelt path whole is =
 
 pub away_rests : {A : Type 0} (told : Option Content) (r : request.Request) (t : Target A) (p : Pathed) (h : Located) (need : rust.Need) → IsFor r t p → IsSpeltIn told t → IsPath told p
     → IsSought p h × (h.place ≢ at_loader p) → LeadsTo told h.config h.asked h.name (Some h.place) → need_of need ≡ Entry h.asked h.name h.place
-    → Rests told (grounded r (verdicts.Linkage need) (load_basis r t p (Entry h.place h.name h.place ∷ []) (Some (Entry h.asked h.name h.place))))
+    → Rests told (grounded_answer r (verdicts.Linkage need) (load_basis r t p (Entry h.place h.name h.place ∷ []) (Some (Entry h.asked h.name h.place))))
 away_rests None r t p h need for spelt path next leads is = tt
 away_rests (Some content) r t p h need for spelt path next leads is =
     refusal_rests (world_of p.config content) r need h.asked h.place h.name (load_basis r t p (Entry h.place h.name h.place ∷ []) (Some (Entry h.asked h.name h.place))) refl refl is

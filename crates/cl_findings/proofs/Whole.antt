@@ -5,7 +5,7 @@ use Rattle.cl_classfile.specs.Files.{file_of}
 use Rattle.cl_model.specs.declared.class.Class.{Class}
 use Rattle.cl_model.specs.Content.{Content}
 use Rattle.cl_model.specs.Classes.{class, Above}
-use Rattle.cl_model.specs.Frames.{Frame, IsFrame, IsFrames, accepting, asking, path_of, wanted}
+use Rattle.cl_model.specs.Frames.{Frame, IsFrame, IsFrames, with_accepted, asking_loader, path_of, wanted_supertype}
 use Rattle.cl_model.proofs.Stacks.{frame_fits, frame_pop, path_scanned}
 use Rattle.cl_delegation.specs.Worlds.{world_of}
 use Rattle.cl_hierarchy.specs.Drafts.{Drafted, IsDraft, IsSpelt}
@@ -33,14 +33,14 @@ root_rules (Some content) p d draft home new named =
     subst (λ (n : List ℕ). IsFrame w (path_of [] (frames_of p)) (at_loader p) n (frame_of (fresh d))) named
     (fresh_frame p.config content (path_of [] (frames_of p)) d (at_loader p) draft home.config home.asked (path_scanned (frames_of p) d.class ∙ new))
 
-pub root_is_whole : (told : Option Content) (p : Pathed) (d : Drafted) → IsPath told p → IsDraft told d → IsSought p d.home → is_on p d.class ≡ false → wanted (frame_of (fresh d)) ≡ None → IsWhole told p (fresh d)
+pub root_is_whole : (told : Option Content) (p : Pathed) (d : Drafted) → IsPath told p → IsDraft told d → IsSought p d.home → is_on p d.class ≡ false → wanted_supertype (frame_of (fresh d)) ≡ None → IsWhole told p (fresh d)
 root_is_whole told p d path draft home new complete =
     let named : d.class.name ≡ at_name p = sym (home_named told d draft) ∙ home.name in
     record { home = home; named = named; complete = complete; rules = root_rules told p d draft home new named }
 
 -- ---- a class that accepted its last supertype
 
-accepted_frame : (x : Framed) (place : ℕ) (a : Above) → wanted (frame_of x) ≡ Some a → frame_of (with_place x place) ≡ accepting (frame_of x) (class a.name place)
+accepted_frame : (x : Framed) (place : ℕ) (a : Above) → wanted_supertype (frame_of x) ≡ Some a → frame_of (with_place x place) ≡ with_accepted (frame_of x) (class a.name place)
 accepted_frame x place a h = accepts_one x (with_place x place) place refl (Some a) h
 
 completed_rules : (told : Option Content) (c : Pathed) (before : List Framed) (last : Framed) (place : ℕ) → IsPath told (with_frames c (before ++ last ∷ [])) → FitsNext told c.config last place → last.draft.class.name ≡ at_name (with_frames c before)
@@ -53,11 +53,11 @@ completed_rules (Some content) c before last place path fits is =
     let x = frame_of last in
     let pop = frame_pop w [] c.loader (at_loader old) c.name (at_name old) xs x (subst (λ (fs : List Frame). IsFrames w [] c.loader c.name fs (at_loader old) (at_name old)) (map_push frame_of before last) path.rules) in
     let a = pop.2.0 in
-    let whole = frame_fits w (path_of [] xs) (asking c.loader xs) x.class.name x a (class a.name place) pop.1 pop.2.1 refl (fits a pop.2.1) in
-    subst (λ (n : List ℕ). IsFrame w (path_of [] xs) (asking c.loader xs) n (frame_of (with_place last place))) is
-    (subst (λ (y : Frame). IsFrame w (path_of [] xs) (asking c.loader xs) x.class.name y) (sym (accepted_frame last place a pop.2.1)) whole)
+    let whole = frame_fits w (path_of [] xs) (asking_loader c.loader xs) x.class.name x a (class a.name place) pop.1 pop.2.1 refl (fits a pop.2.1) in
+    subst (λ (n : List ℕ). IsFrame w (path_of [] xs) (asking_loader c.loader xs) n (frame_of (with_place last place))) is
+    (subst (λ (y : Frame). IsFrame w (path_of [] xs) (asking_loader c.loader xs) x.class.name y) (sym (accepted_frame last place a pop.2.1)) whole)
 
-completed : (told : Option Content) (c : Pathed) (before : List Framed) (last : Framed) (place : ℕ) → IsPath told (with_frames c (before ++ last ∷ [])) → FitsNext told c.config last place → wanted (frame_of (with_place last place)) ≡ None
+completed : (told : Option Content) (c : Pathed) (before : List Framed) (last : Framed) (place : ℕ) → IsPath told (with_frames c (before ++ last ∷ [])) → FitsNext told c.config last place → wanted_supertype (frame_of (with_place last place)) ≡ None
     → IsWhole told (with_frames c before) (with_place last place)
 completed told c before last place path fits complete =
     let stands = (stand_pop c.config c.loader c.name before last path.stand).1 in
@@ -79,7 +79,7 @@ fitting_is_whole told old new place x path step fits =
     subst (λ (p : Pathed). IsWhole told p x) (sym step.now)
     (subst (λ (y : Framed). IsWhole told (with_frames old step.before) y) (sym step.whole_is)
     (completed told old step.before step.last place (subst (λ (p : Pathed). IsPath told p) (same_path old all step.split) path) (fits step.before step.last step.split)
-    (subst (λ (y : Framed). wanted (frame_of y) ≡ None) step.whole_is step.complete)))
+    (subst (λ (y : Framed). wanted_supertype (frame_of y) ≡ None) step.whole_is step.complete)))
 
 pub completed_is_whole : (told : Option Content) (old new : Pathed) (place : ℕ) (x : Framed) (row : Rowed) → IsPath told old → Completes old new place x → IsSpelt told row.class row.file → row.class.loader ≡ place
     → row.class.name ≡ at_name old → misfit_under old.frames row.class (file_of row.file) ≡ None → IsWhole told new x

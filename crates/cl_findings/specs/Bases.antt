@@ -40,15 +40,15 @@ at_refused {A} (ats.Whole x) = Some (next_need {A = A} (nexts.Define x))
 at_refused {A} (ats.Away h) = Some (next_need {A = A} (nexts.Initiate h))
 
 -- what an answer of a request rests on (5.3 to 5.4.3)
-abbrev pub based : {A : Type 0} → request.Request → Basis A → Based
-based r (bases.Load target path at) =
+abbrev pub basis_of : {A : Type 0} → request.Request → Basis A → Based
+basis_of r (bases.Load target path at) =
     load_basis r target path (at_needs path at) (at_refused at)
-based r (bases.Entry config d) = entry_basis config.value r d.value.class
-based r (bases.Class config d c) = class_basis config.value r d.value.class c.value.class
-based r (bases.Lookup d c) = class_basis d.config r d.own.class c.own.class
-based r (bases.Asked e met) =
+basis_of r (bases.Entry config d) = entry_basis config.value r d.value.class
+basis_of r (bases.Class config d c) = class_basis config.value r d.value.class c.value.class
+basis_of r (bases.Lookup d c) = class_basis d.config r d.own.class c.own.class
+basis_of r (bases.Asked e met) =
     asked_basis r e.value met (slice_get (imposed.needs_of e.value.needs) met)
-based r (bases.Linked l place e met) =
+basis_of r (bases.Linked l place e met) =
     link_basis r l place e.value met (slice_get (imposed.needs_of e.value.needs) met)
 
 -- the file of the class that a target names is what that one's bytes spell (5.3.5)

@@ -31,7 +31,7 @@ use Rattle.cl_model.specs.States.{
   Equal,
   Verdict,
   Linkage,
-  recorded,
+  recorded_definer,
   AllMet,
   IsNext,
   Refused,
@@ -66,13 +66,13 @@ pub record Answered : Type 0 where
   pub basis : Option Based
 
 -- a request is answered with a verdict, which rests on this (5.3 to 5.4.3)
-abbrev pub grounded : request.Request → verdict.Verdict → Based → Answered
-grounded r v b = record { request = r; answer = answers.Said v; basis = Some b }
+abbrev pub grounded_answer : request.Request → verdict.Verdict → Based → Answered
+grounded_answer r v b = record { request = r; answer = answers.Said v; basis = Some b }
 
 -- a request is answered so, and the answer rests on nothing: it is looked up, or a failure
 -- (5.3 to 5.4.3)
-abbrev pub ungrounded : request.Request → answer.Answer → Answered
-ungrounded r a = record { request = r; answer = a; basis = None }
+abbrev pub ungrounded_answer : request.Request → answer.Answer → Answered
+ungrounded_answer r a = record { request = r; answer = a; basis = None }
 
 -- through which loader a request loads its class (5.3)
 abbrev pub loader_of : request.Request → ℕ
@@ -120,7 +120,7 @@ pub record Grounds (w : World) (s : State) (b : Based) : Type 0 where
 pub record LinkIsPlaced (w : World) (s : State) (loader : ℕ) (name : Name) (n : Need)
     (prepared : List Class) : Type 0 where
   pub place : ℕ
-  pub kept : recorded s.records loader name ≡ Some place
+  pub kept : recorded_definer s.records loader name ≡ Some place
   pub kin : Kin
   pub of : HasLineage w (class name place) kin
   pub before : List Kin

@@ -7,8 +7,8 @@ use Rattle.cl_model.specs.declared.answer.Answer.TheVariants as answers
 use Rattle.cl_model.specs.declared.request.Request.TheVariants as requests
 use Rattle.cl_model.specs.Content.{Content}
 use Rattle.cl_model.specs.Classes.{class}
-use Rattle.cl_model.specs.States.{State, recorded}
-use Rattle.cl_model.specs.Frames.{wanted}
+use Rattle.cl_model.specs.States.{State, recorded_definer}
+use Rattle.cl_model.specs.Frames.{wanted_supertype}
 use Rattle.cl_model.specs.Machine.{IsSound, AnswersPlan, AnswersReference}
 use Rattle.cl_model.specs.Service.{ComesTo}
 use Rattle.cl_model.specs.Views.{request_of, verdict_of}
@@ -43,7 +43,8 @@ StandingSettles =
     (content : Content) (c : Configured) (script : Scripted) (s : State) (f : Answered)
     (v : verdict.Verdict) (loader place i : ℕ) (name : Name)
     → VerdictStands content c script s f v
-    → f.request ≡ requests.Resolve loader name i → recorded s.records loader name ≡ Some place
+    → f.request ≡ requests.Resolve loader name i → recorded_definer s.records loader name
+    ≡ Some place
     → AnswersReference (setting_of c script content) s (class name place) i (verdict_of v)
 
 -- of a request to link its service has come to it (5.4)
@@ -69,4 +70,5 @@ abbrev pub RootIsWhole : Type 0
 RootIsWhole =
     (told : Option Content) (p : Pathed) (d : Drafted) → IsPath told p → IsDraft told d
     → IsSought p d.home
-    → is_on p d.class ≡ false → wanted (frame_of (fresh d)) ≡ None → IsWhole told p (fresh d)
+    → is_on p d.class ≡ false → wanted_supertype (frame_of (fresh d)) ≡ None
+    → IsWhole told p (fresh d)

@@ -10,7 +10,7 @@ use Rattle.cl_model.specs.declared.request.Request as request
 use Rattle.cl_model.specs.Content.{Content}
 use Rattle.cl_model.specs.Classes.{class}
 use Rattle.cl_model.specs.States.{Need, Entry}
-use Rattle.cl_model.specs.Frames.{IsFrame, kept_of, path_of, wanted}
+use Rattle.cl_model.specs.Frames.{IsFrame, kept_of, path_of, wanted_supertype}
 use Rattle.cl_model.specs.Plans.{CitesClass}
 use Rattle.cl_model.specs.Views.{error_of}
 use Rattle.cl_delegation.specs.Searches.{Located}
@@ -145,7 +145,7 @@ FrameKeepsRules (Some content) p x =
 pub record IsWhole (told : Option Content) (p : Pathed) (x : Framed) : Type 0 where
   pub home : IsSought p x.draft.home
   pub named : x.draft.class.name ≡ at_name p
-  pub complete : wanted (frame_of x) ≡ None
+  pub complete : wanted_supertype (frame_of x) ≡ None
   pub rules : FrameKeepsRules told p x
 
 -- the record comes next where a path is: that of a class which has all its supertypes, by its own

@@ -2,7 +2,7 @@
 
 ghost use Rattle.std.specs.Prelude.{◌≡◌};
 ghost use Rattle.cl_model.specs.Views.{verdict_of};
-ghost use Rattle.cl_findings.specs.Findings.{grounded};
+ghost use Rattle.cl_findings.specs.Findings.{grounded_answer};
 ghost use Rattle.cl_findings.specs.References.{IsAtClass, IsAtOnce, class_basis, entry_basis};
 
 use crate::basis::Basis;
@@ -22,7 +22,7 @@ impl<T: Told> Finding<T> {
         verdict: Verdict,
     ) -> Finding<T>
         requires ends { IsAtOnce request d.value (verdict_of verdict) }
-        ensures { result ≡ grounded request verdict
+        ensures { result ≡ grounded_answer request verdict
             (entry_basis config.value request d.value.class) }
     {
         // brings that the file is what the class's bytes spell, where a content is told
@@ -40,7 +40,7 @@ impl<T: Told> Finding<T> {
         verdict: Verdict,
     ) -> Finding<T>
         requires ends { IsAtClass request d.value c.value (verdict_of verdict) }
-        ensures { result ≡ grounded request verdict
+        ensures { result ≡ grounded_answer request verdict
             (class_basis config.value request d.value.class c.value.class) }
     {
         // brings that the files are what the classes' bytes spell, where a content is told

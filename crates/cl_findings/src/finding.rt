@@ -3,8 +3,8 @@
 ghost use Rattle.std.specs.Prelude.{◌≡◌};
 ghost use Rattle.cl_model.specs.declared.verdict.Verdict.TheVariants as verdicts;
 ghost use Rattle.cl_model.specs.declared.answer.Answer.TheVariants as answers;
-ghost use Rattle.cl_findings.specs.Bases.{based};
-ghost use Rattle.cl_findings.specs.Findings.{IsLink, IsLoad, IsSettledFor, Rests, grounded, ungrounded};
+ghost use Rattle.cl_findings.specs.Bases.{basis_of};
+ghost use Rattle.cl_findings.specs.Findings.{IsLink, IsLoad, IsSettledFor, Rests, grounded_answer, ungrounded_answer};
 
 use crate::basis::Basis;
 use cl_model::{Answer, Class, LoaderId, Request, Settled, Told, Verdict};
@@ -32,20 +32,20 @@ impl<T: Told> Drop for Finding<T> {
 impl<T: Told> Model for Finding<T> {
     ghost use Rattle.std.specs.Option.{option_map};
     ghost use Rattle.cl_findings.specs.Findings.{Answered, Rests};
-    ghost use Rattle.cl_findings.specs.Bases.{based};
+    ghost use Rattle.cl_findings.specs.Bases.{basis_of};
 
     ghost Value = { Answered };
 
-    ghost view = { λ f. record { request = f.request; answer = f.answer; basis = option_map (based f.request) f.basis } };
+    ghost view = { λ f. record { request = f.request; answer = f.answer; basis = option_map (basis_of f.request) f.basis } };
 
-    ghost invariant = { λ f. Rests T.told (record { request = f.request; answer = f.answer; basis = option_map (based f.request) f.basis }) };
+    ghost invariant = { λ f. Rests T.told (record { request = f.request; answer = f.answer; basis = option_map (basis_of f.request) f.basis }) };
 }
 
 impl<T: Told> Finding<T> {
     /// A verdict that rests on this (JVMS SE 8, 5.3 to 5.4.3).
     pub(crate) fn said(request: Request, verdict: Verdict, basis: Basis<T>) -> Finding<T>
-        requires { Rests T.told (grounded request verdict (based request basis)) }
-        ensures { result ≡ grounded request verdict (based request basis) }
+        requires { Rests T.told (grounded_answer request verdict (basis_of request basis)) }
+        ensures { result ≡ grounded_answer request verdict (basis_of request basis) }
     {
         Finding {
             request,
@@ -58,7 +58,7 @@ impl<T: Told> Finding<T> {
     #[tactic(auto, using(crate::proofs::Plain::class_rests))]
     pub fn class(request: Request, class: Class) -> Finding<T>
         requires { IsLoad request }
-        ensures { result ≡ ungrounded request (answers.Said (verdicts.Class class)) }
+        ensures { result ≡ ungrounded_answer request (answers.Said (verdicts.Class class)) }
     {
         Finding {
             request,
@@ -71,7 +71,7 @@ impl<T: Told> Finding<T> {
     #[tactic(auto, using(crate::proofs::Plain::linked_rests))]
     pub fn linked(request: Request, class: Class) -> Finding<T>
         requires { IsLink request }
-        ensures { result ≡ ungrounded request (answers.Said (verdicts.Linked class)) }
+        ensures { result ≡ ungrounded_answer request (answers.Said (verdicts.Linked class)) }
     {
         Finding {
             request,
@@ -84,7 +84,7 @@ impl<T: Told> Finding<T> {
     #[tactic(auto, using(crate::proofs::Plain::settled_rests))]
     pub fn settled(request: Request, settled: Arc<Settled>) -> Finding<T>
         requires { IsSettledFor request settled.value }
-        ensures { result ≡ ungrounded request (answers.Shared settled) }
+        ensures { result ≡ ungrounded_answer request (answers.Shared settled) }
     {
         Finding {
             request,
@@ -96,7 +96,7 @@ impl<T: Told> Finding<T> {
     /// Memory ran out.
     #[tactic(auto, using(crate::proofs::Plain::memory_rests))]
     pub fn memory(request: Request) -> Finding<T>
-        ensures { result ≡ ungrounded request answers.Memory }
+        ensures { result ≡ ungrounded_answer request answers.Memory }
     {
         Finding {
             request,
@@ -108,7 +108,7 @@ impl<T: Told> Finding<T> {
     /// The source could not be read at a name of a loader.
     #[tactic(auto, using(crate::proofs::Plain::fault_rests))]
     pub fn source_fault(request: Request, name: Name, loader: LoaderId) -> Finding<T>
-        ensures { result ≡ ungrounded request (answers.SourceFault name loader) }
+        ensures { result ≡ ungrounded_answer request (answers.SourceFault name loader) }
     {
         Finding {
             request,

@@ -5,7 +5,7 @@ ghost use Rattle.cl_hierarchy.specs.Drafts.{home_class};
 ghost use Rattle.cl_model.specs.declared.verdict.Verdict.TheVariants as verdicts;
 ghost use Rattle.cl_model.specs.Views.{need_of};
 ghost use Rattle.cl_findings.specs.Bases.{IsSpeltIn, at_needs, at_refused};
-ghost use Rattle.cl_findings.specs.Findings.{Rests, grounded};
+ghost use Rattle.cl_findings.specs.Findings.{Rests, grounded_answer};
 ghost use Rattle.cl_findings.specs.Loads.{ComesNext, IsFor, Stops, basis_at, kind_of, missing_kind, needs_at, next_need, next_needs, refused_at, verdict_at};
 
 use crate::basis::{At, Basis};
@@ -113,7 +113,7 @@ fn end_at<T: Told>(
     ensures verdict { result.verdict ≡ verdict_at target.now path.now end }
     ensures needs { at_needs path.now result.at ≡ needs_at path.now end }
     ensures refused { at_refused result.at ≡ None }
-    ensures rests { Rests T.told (grounded request.now result.verdict
+    ensures rests { Rests T.told (grounded_answer request.now result.verdict
         (basis_at request.now target.now path.now end)) }
 {
     // brings what a path keeps
@@ -176,7 +176,7 @@ fn refused_at<T: Told>(
     requires need { need_of need.now ≡ next_need next }
     ensures needs { at_needs path.now result ≡ next_needs next }
     ensures refused { at_refused result ≡ Some (next_need next) }
-    ensures rests { Rests T.told (grounded request.now (verdicts.Linkage need.now)
+    ensures rests { Rests T.told (grounded_answer request.now (verdicts.Linkage need.now)
         (refused_at request.now target.now path.now next)) }
 {
     // brings what a path keeps
@@ -204,7 +204,7 @@ impl<T: Told> Finding<T> {
     ) -> Finding<T>
         requires path { IsFor request target path }
         requires stops { Stops path end }
-        ensures { result ≡ grounded request (verdict_at target path end)
+        ensures { result ≡ grounded_answer request (verdict_at target path end)
             (basis_at request target path end) }
     {
         let end = end_at(&request, &target, &path, end);
@@ -227,7 +227,7 @@ impl<T: Told> Finding<T> {
         requires path { IsFor request target path }
         requires next { ComesNext T.told path next }
         requires need { need_of need ≡ next_need next }
-        ensures { result ≡ grounded request (verdicts.Linkage need)
+        ensures { result ≡ grounded_answer request (verdicts.Linkage need)
             (refused_at request target path next) }
     {
         let at = refused_at(&request, &target, &path, next, &need);

@@ -3,7 +3,7 @@
 ghost use Rattle.std.specs.Prelude.{◌≡◌};
 ghost use Rattle.cl_model.specs.Views.{verdict_of};
 ghost use Rattle.cl_hierarchy.specs.Imposed.{OfReference};
-ghost use Rattle.cl_findings.specs.Findings.{grounded};
+ghost use Rattle.cl_findings.specs.Findings.{grounded_answer};
 ghost use Rattle.cl_findings.specs.References.{GoesTo, IsOfFound, IsLookupError, class_basis, index_of, member_basis};
 
 use crate::basis::Basis;
@@ -25,7 +25,7 @@ impl<T: Told> Finding<T> {
         requires origin { equalities.value.origin ≡ OfReference found.now.d found.now.c
             found.now.index }
         requires verdict { IsOfFound found.now (verdict_of verdict) }
-        ensures { result ≡ grounded request verdict
+        ensures { result ≡ grounded_answer request verdict
             (member_basis request found.now equalities.value) }
     {
         // brings what is kept of the member, of its equalities, and of the classes' lineages
@@ -47,7 +47,7 @@ impl<T: Told> Finding<T> {
     ) -> Finding<T>
         requires reference { GoesTo request d c (index_of request) }
         requires lookup { IsLookupError d c (index_of request) verdict }
-        ensures { result ≡ grounded request verdict
+        ensures { result ≡ grounded_answer request verdict
             (class_basis d.config request d.own.class c.own.class) }
     {
         // brings what is kept of the classes' lineages

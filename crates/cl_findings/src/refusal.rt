@@ -5,7 +5,7 @@ ghost use Rattle.cl_model.specs.declared.verdict.Verdict.TheVariants as verdicts
 ghost use Rattle.cl_model.specs.Views.{need_of};
 ghost use Rattle.cl_hierarchy.specs.Imposed.{needs_of};
 ghost use Rattle.cl_findings.specs.Bases.{IsListed};
-ghost use Rattle.cl_findings.specs.Findings.{grounded};
+ghost use Rattle.cl_findings.specs.Findings.{grounded_answer};
 ghost use Rattle.cl_findings.specs.References.{AreAsked, AreLinked, asked_basis, link_basis};
 
 use crate::basis::Basis;
@@ -40,7 +40,7 @@ impl<T: Told> Finding<T> {
     ) -> Finding<T>
         requires reference { AreAsked request equalities.value.origin }
         requires need { slice_get (needs_of equalities.value.needs) index ≡ Some (need_of need) }
-        ensures { result ≡ grounded request (verdicts.Linkage need)
+        ensures { result ≡ grounded_answer request (verdicts.Linkage need)
             (asked_basis request equalities.value index (Some (need_of need))) }
     {
         bring_lineages(&equalities);
@@ -64,7 +64,7 @@ impl<T: Told> Finding<T> {
     ) -> Finding<T>
         requires link { AreLinked request lineage place equalities.value.origin }
         requires need { slice_get (needs_of equalities.value.needs) index ≡ Some (need_of need) }
-        ensures { result ≡ grounded request (verdicts.Linkage need)
+        ensures { result ≡ grounded_answer request (verdicts.Linkage need)
             (link_basis request lineage place equalities.value index (Some (need_of need))) }
     {
         bring_lineages(&equalities);

@@ -11,7 +11,7 @@ ghost use Rattle.cl_hierarchy.specs.Imposed.{needs_of};
 ghost use Rattle.cl_hierarchy.specs.Lineages.{rows_in};
 ghost use Rattle.cl_hierarchy.specs.Paths.{frames_of};
 ghost use Rattle.cl_constraints.specs.Books.{TellsOf};
-ghost use Rattle.cl_findings.specs.Bases.{at_needs, at_refused, based};
+ghost use Rattle.cl_findings.specs.Bases.{at_needs, at_refused, basis_of};
 ghost use Rattle.cl_findings.specs.Findings.{Carries, IsBorne};
 ghost use Rattle.cl_findings.specs.Loads.{load_basis, target_needs};
 ghost use Rattle.cl_findings.specs.References.{asked_basis, class_need, link_basis, reference_needs, sprung_needs};
@@ -230,7 +230,7 @@ fn classes_are_prepared<T: Told, X: Tables>(tables: &X, lineage: &Lineage<T>, pl
 
 /// The configuration under which an answer was found.
 fn config_of<T: Told>(basis: &Basis<T>) -> &Config
-    ensures { (r : Request) → result.now ≡ (based r basis.now).config }
+    ensures { (r : Request) → result.now ≡ (basis_of r basis.now).config }
 {
     match basis {
         Basis::Load { path, .. } => path.config(),
@@ -304,7 +304,7 @@ fn link_stands<T: Told, X: Tables>(
 /// Whether what an answer of a request rests on stands, but for the configuration.
 fn needs_stand<T: Told, X: Tables>(tables: &X, request: &Request, basis: &Basis<T>) -> bool
     ensures { TellsOf (X.stands_for tables.now) result
-        (λ s. Carries s (based request.now basis.now)) }
+        (λ s. Carries s (basis_of request.now basis.now)) }
 {
     match basis {
         Basis::Load { target, path, at } => load_stands(tables, request, target, path, at),
@@ -329,7 +329,7 @@ fn basis_stands<T: Told, X: Tables>(
     basis: &Basis<T>,
 ) -> bool
     ensures { TellsOf (X.stands_for tables.now) result
-        (λ s. IsBorne config.now s (based request.now basis.now)) }
+        (λ s. IsBorne config.now s (basis_of request.now basis.now)) }
 {
     config_of(basis).is_same(config) && needs_stand(tables, request, basis)
 }

@@ -6,7 +6,7 @@ use Rattle.std.proofs.lemmas.List.{map_push}
 use Rattle.indexmap.specs.IndexMap.{set_value_at}
 use Rattle.cl_classfile.specs.Files.{File}
 use Rattle.cl_model.specs.declared.class.Class.{Class}
-use Rattle.cl_model.specs.Frames.{wanted, asking}
+use Rattle.cl_model.specs.Frames.{wanted_supertype, asking_loader}
 use Rattle.cl_hierarchy.specs.Frames.{Framed, frame_of}
 use Rattle.cl_hierarchy.specs.Kept.{first_name, frames_in, last_wants}
 use Rattle.cl_hierarchy.specs.Paths.{name_of, sought, misfit_in, misfit_under}
@@ -59,25 +59,25 @@ set_last {K} {X} es before k x w e =
 pub frames_push : (es : List (Class × Framed)) (k : Class) (x : Framed) → frames_in (es ++ (k, x) ∷ []) ≡ frames_in es ++ x ∷ []
 frames_push es k x = map_push (λ (e : Class × Framed). e.1) es (k, x)
 
-pub last_wants_of : (es before : List (Class × Framed)) (k : Class) (x : Framed) → es ≡ before ++ (k, x) ∷ [] → last_wants es ≡ wanted (frame_of x)
-last_wants_of es before k x e = ap last_wants e ∙ ap (option_and_then (λ (e : Class × Framed). wanted (frame_of e.1))) (last_of before (k, x))
+pub last_wants_of : (es before : List (Class × Framed)) (k : Class) (x : Framed) → es ≡ before ++ (k, x) ∷ [] → last_wants es ≡ wanted_supertype (frame_of x)
+last_wants_of es before k x e = ap last_wants e ∙ ap (option_and_then (λ (e : Class × Framed). wanted_supertype (frame_of e.1))) (last_of before (k, x))
 
 -- ---- frames
 
-pub asking_push : (loader : ℕ) (xs : List Framed) (x : Framed) → asking loader (map frame_of (xs ++ x ∷ [])) ≡ x.draft.class.loader
+pub asking_push : (loader : ℕ) (xs : List Framed) (x : Framed) → asking_loader loader (map frame_of (xs ++ x ∷ [])) ≡ x.draft.class.loader
 asking_push loader [] x = refl
 asking_push loader (y ∷ ys) x = asking_push y.draft.class.loader ys x
 
-pub sought_push : (name : List ℕ) (xs : List Framed) (x : Framed) → sought name (xs ++ x ∷ []) ≡ name_of (wanted (frame_of x))
+pub sought_push : (name : List ℕ) (xs : List Framed) (x : Framed) → sought name (xs ++ x ∷ []) ≡ name_of (wanted_supertype (frame_of x))
 sought_push name [] x = refl
-sought_push name (y ∷ ys) x = sought_push (name_of (wanted (frame_of y))) ys x
+sought_push name (y ∷ ys) x = sought_push (name_of (wanted_supertype (frame_of y))) ys x
 
 pub first_push : (xs : List Framed) (x : Framed) (at : List ℕ) → first_name (xs ++ x ∷ []) at ≡ first_name xs x.draft.class.name
 first_push [] x at = refl
 first_push (y ∷ ys) x at = refl
 
 -- what is wrong is told by the last
-pub under_last : (xs : List Framed) (x : Framed) (t : Class) (f : File) → misfit_under (xs ++ x ∷ []) t f ≡ misfit_in x (wanted (frame_of x)) t f
+pub under_last : (xs : List Framed) (x : Framed) (t : Class) (f : File) → misfit_under (xs ++ x ∷ []) t f ≡ misfit_in x (wanted_supertype (frame_of x)) t f
 under_last [] x t f = refl
 under_last (y ∷ []) x t f = refl
 under_last (y ∷ (z ∷ zs)) x t f = under_last (z ∷ zs) x t f

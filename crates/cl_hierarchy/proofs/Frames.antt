@@ -6,7 +6,7 @@ use Rattle.std.proofs.lemmas.Option.{slice_get_within}
 use Rattle.cl_classfile.specs.Files.{Name, file_of}
 use Rattle.cl_model.specs.declared.class.Class.{Class}
 use Rattle.cl_model.specs.Classes.{class, Above, supers}
-use Rattle.cl_model.specs.Frames.{Frame, NamedAs, wanted, accepting}
+use Rattle.cl_model.specs.Frames.{Frame, NamedAs, wanted_supertype, with_accepted}
 use Rattle.cl_hierarchy.specs.Drafts.{Drafted}
 use Rattle.cl_hierarchy.specs.Frames.{Framed, accepted_of, frame_of, with_place}
 use Rattle.cl_hierarchy.specs.Paths.{fresh}
@@ -29,7 +29,7 @@ none_yet [] = refl
 none_yet (a ∷ others) = refl
 
 -- a draft that has accepted nothing wants the first
-pub fresh_wants : (d : Drafted) → wanted (frame_of (fresh d)) ≡ slice_get (supers (file_of d.file)) 0
+pub fresh_wants : (d : Drafted) → wanted_supertype (frame_of (fresh d)) ≡ slice_get (supers (file_of d.file)) 0
 fresh_wants d = ap (λ (ts : List Class). slice_get (supers (file_of d.file)) (length ts)) (none_yet (supers (file_of d.file)))
 
 -- one place more is one class more, of the name that comes next
@@ -51,7 +51,7 @@ one_fits others places place h s =
     omega arith
 
 -- a frame accepts the supertype that comes next
-pub accepts_one : (x new : Framed) (place : ℕ) → new ≡ with_place x place → (o : Option Above) → wanted (frame_of x) ≡ o → IfSome o (λ a. frame_of new ≡ accepting (frame_of x) (class a.name place))
+pub accepts_one : (x new : Framed) (place : ℕ) → new ≡ with_place x place → (o : Option Above) → wanted_supertype (frame_of x) ≡ o → IfSome o (λ a. frame_of new ≡ with_accepted (frame_of x) (class a.name place))
 accepts_one x new place e None h = tt
 accepts_one x new place e (Some a) h =
     ap frame_of e ∙ ap (λ (cs : List Class). let f : Frame = record { class = x.draft.class; file = file_of x.draft.file; accepted = cs } in f) (one_more (supers (file_of x.draft.file)) x.places place a h)
@@ -69,8 +69,8 @@ next_place others places place h s =
 
 -- the name of the supertype after the one that comes next
 pub next_name : (x y : Framed) (len place : ℕ) (o : Option Above) → o ≡ slice_get (supers (file_of x.draft.file)) (len + 1) → len ≡ length x.places → length x.places ≤ length (supers (file_of x.draft.file))
-    → x ≡ y → IsSome (wanted (frame_of y)) → (let names : Option Above → Option Name = option_map (λ a. a.name) in names o) ≡ option_map (λ a. a.name) (wanted (frame_of (with_place y place)))
+    → x ≡ y → IsSome (wanted_supertype (frame_of y)) → (let names : Option Above → Option Name = option_map (λ a. a.name) in names o) ≡ option_map (λ a. a.name) (wanted_supertype (frame_of (with_place y place)))
 next_name x y len place o is counted h same s =
-    let waits : IsSome (wanted (frame_of x)) = subst (λ (z : Framed). IsSome (wanted (frame_of z))) (sym same) s in
-    let next : o ≡ wanted (frame_of (with_place x place)) = is ∙ ap (λ (n : ℕ). slice_get (supers (file_of x.draft.file)) (n + 1)) counted ∙ next_place (supers (file_of x.draft.file)) x.places place h waits in
-    ap (λ (a : Option Above). let names : Option Above → Option Name = option_map (λ a. a.name) in names a) (next ∙ ap (λ (z : Framed). wanted (frame_of (with_place z place))) same)
+    let waits : IsSome (wanted_supertype (frame_of x)) = subst (λ (z : Framed). IsSome (wanted_supertype (frame_of z))) (sym same) s in
+    let next : o ≡ wanted_supertype (frame_of (with_place x place)) = is ∙ ap (λ (n : ℕ). slice_get (supers (file_of x.draft.file)) (n + 1)) counted ∙ next_place (supers (file_of x.draft.file)) x.places place h waits in
+    ap (λ (a : Option Above). let names : Option Above → Option Name = option_map (λ a. a.name) in names a) (next ∙ ap (λ (z : Framed). wanted_supertype (frame_of (with_place z place))) same)

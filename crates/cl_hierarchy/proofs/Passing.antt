@@ -10,7 +10,7 @@ use Rattle.cl_hierarchy.specs.declared.tour.Order.TheVariants as orders
 use Rattle.cl_hierarchy.specs.declared.tour.Task.TheVariants as tasks
 use Rattle.cl_hierarchy.specs.Lineages.{IsRowIn}
 use Rattle.cl_hierarchy.specs.Rows.{Rowed}
-use Rattle.cl_hierarchy.specs.Tours.{Comes, Leaves, Marked, Stop, Toured, inner, passing, steps_left, steps_to_go, stops, stops_left, telling, telling_all, told_at}
+use Rattle.cl_hierarchy.specs.Tours.{Comes, Leaves, Marked, Stop, Toured, inner, after_passing, steps_left, steps_to_go, stops, stops_left, after_telling, telling_all, told_at}
 use Rattle.cl_hierarchy.specs.Trees.{SupersBefore, kin_under, kins}
 use Rattle.cl_hierarchy.proofs.Stages.{AreRowsOf, IsStage, IsTold, telling_on, telling_stack, went}
 use Rattle.cl_hierarchy.proofs.Tours.{Closed, Goes, closed_both, closed_more, closed_rest, over_told, told_both, within_join, within_left, within_right}
@@ -107,30 +107,30 @@ module _ (rows : List Rowed) (goal : List Kin) where
       let k : Kin = kin_under (kins rows) x in
       let others : List Stop = comes (map (kin_under (kins rows)) xs) in
       let first = telling_on o rows goal x are.0 t (Comes k true) true (others ++ rest) refl (subst (λ (ss : List Stop). IsTold o rows goal t (Comes k true ∷ ss)) (sym (append_assoc others rest (stops_left o (kins rows) t.stack))) h) in
-      tells_on (telling true t x) xs rest are.1 (subst (λ (ss : List Stop). IsTold o rows goal (telling true t x) ss) (append_assoc others rest (stops_left o (kins rows) (telling true t x).stack)) first)
+      tells_on (after_telling true t x) xs rest are.1 (subst (λ (ss : List Stop). IsTold o rows goal (after_telling true t x) ss) (append_assoc others rest (stops_left o (kins rows) (after_telling true t x).stack)) first)
 
 -- nothing is put, and nothing left
 pub telling_all_stack : (t : Toured) (xs : List Rowed) → (telling_all t xs).stack ≡ t.stack
 telling_all_stack t [] = refl
-telling_all_stack t (x ∷ xs) = telling_all_stack (telling true t x) xs
+telling_all_stack t (x ∷ xs) = telling_all_stack (after_telling true t x) xs
 
 pub telling_all_left : (t : Toured) (xs : List Rowed) → (telling_all t xs).left ≡ t.left
 telling_all_left t [] = refl
-telling_all_left t (x ∷ xs) = telling_all_left (telling true t x) xs
+telling_all_left t (x ∷ xs) = telling_all_left (after_telling true t x) xs
 
 module _ (rows : List Rowed) (ordered : SupersBefore [] rows) (goal : List Kin) (r : Rowed) (is_row : IsRowIn rows r) (t : Toured) (wanted : Bool) (xs : List Rowed) where
   abbrev kin : Kin
   kin = kin_under (kins rows) r
 
-  stack_is : (telling_all (telling wanted t r) xs).stack ≡ t.stack
-  stack_is = telling_all_stack (telling wanted t r) xs ∙ telling_stack t wanted r
+  stack_is : (telling_all (after_telling wanted t r) xs).stack ≡ t.stack
+  stack_is = telling_all_stack (after_telling wanted t r) xs ∙ telling_stack t wanted r
 
   pub passed : map (kin_under (kins rows)) xs ≡ superinterfaces kin → AllByRecursion (IsRowIn rows) xs
       → IsTold orders.Superinterfaces rows goal t (stops orders.Superinterfaces (alone kin) wanted ++ stops_left orders.Superinterfaces (kins rows) t.stack) → AreRowsOf rows t.stack
-      → IsStage orders.Superinterfaces rows goal (passing orders.Superinterfaces rows t r wanted xs)
+      → IsStage orders.Superinterfaces rows goal (after_passing orders.Superinterfaces rows t r wanted xs)
   passed are rows_are h a =
       let o = orders.Superinterfaces in
-      let now : Toured = telling wanted t r in
+      let now : Toured = after_telling wanted t r in
       let left : List Stop = Leaves kin ∷ [] in
       let behind : List Stop = stops_left o (kins rows) now.stack in
       let first : IsTold o rows goal now ((inner o kin ++ left) ++ behind) = telling_on o rows goal r is_row t (Comes kin wanted) wanted (inner o kin ++ left) refl h in
@@ -139,7 +139,7 @@ module _ (rows : List Rowed) (ordered : SupersBefore [] rows) (goal : List Kin) 
       let each = tells_on rows goal now xs left rows_are (subst (λ (ks : List Kin). IsTold o rows goal now (comes ks ++ (left ++ behind))) (sym are) swapped) in
       went rows ordered o goal r is_row (telling_all now xs) each (subst (λ (ms : List Marked). AreRowsOf rows ms) (sym stack_is) a)
 
-  pub passed_less : steps_left (kins rows) (passing orders.Superinterfaces rows t r wanted xs).stack < steps_left (kins rows) t.stack + steps_to_go (kins rows) r (tasks.Come wanted)
+  pub passed_less : steps_left (kins rows) (after_passing orders.Superinterfaces rows t r wanted xs).stack < steps_left (kins rows) t.stack + steps_to_go (kins rows) r (tasks.Come wanted)
   passed_less =
-      let same : steps_left (kins rows) (telling_all (telling wanted t r) xs).stack ≡ steps_left (kins rows) t.stack = ap (λ (ms : List Marked). steps_left (kins rows) ms) stack_is in
+      let same : steps_left (kins rows) (telling_all (after_telling wanted t r) xs).stack ≡ steps_left (kins rows) t.stack = ap (λ (ms : List Marked). steps_left (kins rows) ms) stack_is in
       omega arith

@@ -20,7 +20,7 @@ use Rattle.cl_hierarchy.specs.Lineages.{IsRowIn}
 use Rattle.cl_hierarchy.specs.PlaceTours.{AreKnown, AreMarked, AreSkipped, AreSuperinterfacesAt, AreTold, TourGoesOn, IsToldAndLeft, IsOpened, TourIsPlaced, IsPushed, IsToldAt, IsTour, Moves, PassesAt, Placed, TourSteps, classes_at, mark_at, marks_at, rows_at, toured_at}
 use Rattle.cl_hierarchy.specs.Rows.{Rowed}
 use Rattle.cl_hierarchy.specs.Supers.{AreAllSupers, AreSupers, HasRow, IsRowAt, place_in, row_at}
-use Rattle.cl_hierarchy.specs.Tours.{Marked, Toured, first_row, interface_row, opened, over_from, passing, step, steps_left, stops, stops_left, telling, telling_all, told_at, upwards_of}
+use Rattle.cl_hierarchy.specs.Tours.{Marked, Toured, first_row, interface_row, opening_steps, over_from, after_passing, step, steps_left, stops, stops_left, after_telling, telling_all, told_at, upwards_of}
 use Rattle.cl_hierarchy.specs.Trees.{SupersBefore, kin_named, kin_under, kins, superclass_in}
 use Rattle.cl_hierarchy.proofs.Ancestry.{keeps, named_first, same_back}
 use Rattle.cl_hierarchy.proofs.Climbs.{placed_row}
@@ -229,7 +229,7 @@ opened_alone table old a new p up one two_ up_is none = λ rows left r ordered a
     record {
       placed = second.placed;
       toured =
-          toured_is rows left old new (ms ++ opened orders.Superinterfaces rows r) (second.told ∙ first.told)
+          toured_is rows left old new (ms ++ opening_steps orders.Superinterfaces rows r) (second.told ∙ first.told)
           (second.marks ∙ ap (λ (ns : List Marked). ns ++ over) first.marks ∙ append_assoc ms leave over
           ∙ ap (λ (o : Option Rowed). ms ++ record { row = r; task = tasks.Leave } ∷ (upwards_of orders.Superinterfaces o ++ over)) (sym gone));
     }
@@ -255,7 +255,7 @@ opened_under table old a c new p up o one two_ last up_is some = λ rows left r 
     record {
       placed = third.placed;
       toured =
-          toured_is rows left old new (ms ++ opened orders.Superinterfaces rows r) (third.told ∙ second.told ∙ first.told)
+          toured_is rows left old new (ms ++ opening_steps orders.Superinterfaces rows r) (third.told ∙ second.told ∙ first.told)
           (third.marks ∙ ap (λ (ns : List Marked). ns ++ over) (second.marks ∙ ap (λ (ns : List Marked). ns ++ come) first.marks) ∙ append_assoc (ms ++ leave) come over ∙ append_assoc ms leave (come ++ over)
           ∙ ap (λ (y : Option Rowed). ms ++ record { row = r; task = tasks.Leave } ∷ (upwards_of orders.Superinterfaces y ++ over)) (sym x.2));
     }
@@ -265,18 +265,18 @@ opened_under table old a c new p up o one two_ last up_is some = λ rows left r 
 -- a class is come to that was left before
 pub came_past : (table : List Supers) (old mid : Placed) (p : ℕ) (wanted b : Bool) → IsToldAt table old p wanted mid → IfSome (slice_get mid.is_left p) (λ c. b ≡ c) → b ≡ true → TourSteps table old p (tasks.Come wanted) mid
 came_past table old mid p wanted b told h e = λ rows left r ordered are at placed.
-    let u = telling wanted (toured_at rows left old) r in
+    let u = after_telling wanted (toured_at rows left old) r in
     let first = told rows left r ordered are at placed in
-    subst (λ (c : Bool). IsTour rows (record u { stack = if c then u.stack else u.stack ++ opened orders.Superinterfaces rows r }) mid) (sym e ∙ bit rows u.left mid.is_left r p b at first.placed.is_left_is h) first
+    subst (λ (c : Bool). IsTour rows (record u { stack = if c then u.stack else u.stack ++ opening_steps orders.Superinterfaces rows r }) mid) (sym e ∙ bit rows u.left mid.is_left r p b at first.placed.is_left_is h) first
 
 -- and one that was not
 pub came_on : (table : List Supers) (old mid new : Placed) (p : ℕ) (wanted b : Bool) → IsToldAt table old p wanted mid → IfSome (slice_get mid.is_left p) (λ c. b ≡ c) → b ≡ false → IsOpened table mid p new → TourSteps table old p (tasks.Come wanted) new
 came_on table old mid new p wanted b told h e opens = λ rows left r ordered are at placed.
-    let u = telling wanted (toured_at rows left old) r in
+    let u = after_telling wanted (toured_at rows left old) r in
     let first = told rows left r ordered are at placed in
     let second = opens rows u.left r ordered are at first.placed in
-    subst (λ (c : Bool). IsTour rows (record u { stack = if c then u.stack else u.stack ++ opened orders.Superinterfaces rows r }) new) (sym e ∙ bit rows u.left mid.is_left r p b at first.placed.is_left_is h)
-    (subst (λ (x : Toured). IsTour rows (record x { stack = x.stack ++ opened orders.Superinterfaces rows r }) new) first.toured second)
+    subst (λ (c : Bool). IsTour rows (record u { stack = if c then u.stack else u.stack ++ opening_steps orders.Superinterfaces rows r }) new) (sym e ∙ bit rows u.left mid.is_left r p b at first.placed.is_left_is h)
+    (subst (λ (x : Toured). IsTour rows (record x { stack = x.stack ++ opening_steps orders.Superinterfaces rows r }) new) first.toured second)
 
 -- no superinterface is left
 pub went_past : (table : List Supers) (old : Placed) (p at : ℕ) (o : Option ℕ) → ((s : Supers) → slice_get table p ≡ Some s → o ≡ place_in s.over.items at) → o ≡ None → TourSteps table old p (tasks.Over at) old
@@ -369,9 +369,9 @@ left_now table old new p b h e told is_told is_left stack = λ rows left r order
 
 -- ---- a class is passed
 
-telling_behind : (t : Toured) (xs : List Rowed) (r : Rowed) → telling_all t (xs ++ r ∷ []) ≡ telling true (telling_all t xs) r
+telling_behind : (t : Toured) (xs : List Rowed) (r : Rowed) → telling_all t (xs ++ r ∷ []) ≡ after_telling true (telling_all t xs) r
 telling_behind t [] r = refl
-telling_behind t (x ∷ xs) r = telling_behind (telling true t x) xs r
+telling_behind t (x ∷ xs) r = telling_behind (after_telling true t x) xs r
 
 pub none_told : (table : List Supers) (old : Placed) → AreTold table old [] old
 none_told table old = λ rows left ordered are within placed. record { placed = placed; toured = refl }
@@ -385,10 +385,10 @@ told_more table old mid new places p first last = λ rows left ordered are withi
     let one : IsTour rows so_far mid = first rows left ordered are parts.0 placed in
     let same : so_far.left ≡ left = telling_all_left (toured_at rows left old) (rows_at rows places) in
     let here : TourIsPlaced rows left mid = subst (λ (cs : List Class). TourIsPlaced rows cs mid) same one.placed in
-    let two_ : IsTour rows (telling true (toured_at rows left mid) row) new = last rows left row ordered are parts.1.1 here in
+    let two_ : IsTour rows (after_telling true (toured_at rows left mid) row) new = last rows left row ordered are parts.1.1 here in
     let is : toured_at rows left mid ≡ so_far = ap (λ (cs : List Class). toured_at rows cs mid) (sym same) ∙ one.toured in
-    let all : telling true (toured_at rows left mid) row ≡ telling_all (toured_at rows left old) (rows_at rows (places ++ p ∷ [])) =
-    ap (λ (x : Toured). telling true x row) is ∙ sym (telling_behind (toured_at rows left old) (rows_at rows places) row)
+    let all : after_telling true (toured_at rows left mid) row ≡ telling_all (toured_at rows left old) (rows_at rows (places ++ p ∷ [])) =
+    ap (λ (x : Toured). after_telling true x row) is ∙ sym (telling_behind (toured_at rows left old) (rows_at rows places) row)
     ∙ ap (λ (rs : List Rowed). telling_all (toured_at rows left old) rs) (sym (rows_push rows places p row parts.1.1)) in
     subst (λ (x : Toured). IsTour rows x new) all two_
 
@@ -404,7 +404,7 @@ took_all (p ∷ places) (suc i) h = ap (λ (ps : List ℕ). p ∷ ps) (took_all 
 
 pub passes_by : (table : List Supers) (old first mid new : Placed) (p : ℕ) (wanted : Bool) (over : List ℕ) → IsToldAt table old p wanted first → AreTold table first over mid → TourSteps table mid p tasks.Leave new → PassesAt table old p wanted over new
 passes_by table old first mid new p wanted over one two_ three = λ rows left r ordered are within at placed.
-    let start : Toured = telling wanted (toured_at rows left old) r in
+    let start : Toured = after_telling wanted (toured_at rows left old) r in
     let a : IsTour rows start first = one rows left r ordered are at placed in
     let b : IsTour rows (telling_all (toured_at rows start.left first) (rows_at rows over)) mid = two_ rows start.left ordered are within a.placed in
     let told : Toured = telling_all start (rows_at rows over) in
@@ -593,7 +593,7 @@ module _ (rows : List Rowed) (table : List Supers) (start : Rowed) (t rest new :
   -- a class is passed
   module _ (wanted : Bool) (over : List ℕ) (task_is : next.task ≡ tasks.Come wanted) (known : AreSuperinterfacesAt rows row over) (passes : PassesAt table rest next.place wanted over new) where
     abbrev gone : Toured
-    gone = passing orders.Superinterfaces rows old row wanted (rows_at rows over)
+    gone = after_passing orders.Superinterfaces rows old row wanted (rows_at rows over)
 
     went : IsTour rows gone new
     went = passes rows h.left row ordered are known.within spots.1.1 rest_placed

@@ -7,7 +7,7 @@ use Rattle.cl_classfile.specs.Structure.{Structure}
 use Rattle.cl_model.specs.declared.class.Class.{Class}
 use Rattle.cl_model.specs.Content.{Content, content_at}
 use Rattle.cl_model.specs.Homes.{World, home}
-use Rattle.cl_model.specs.Classes.{class, is_among, Error, NoClassDef, is_own, named, read_found, HasFile, IsAtHome, Role, Above, supers}
+use Rattle.cl_model.specs.Classes.{class, is_among, Error, NoClassDef, is_own, file_if_named, read_found, HasFile, IsAtHome, Role, Above, supers}
 use Rattle.cl_model.specs.Classes as classes
 use Rattle.cl_model.specs.Frames.{AcceptsFirst, IsFrame, Judged}
 use Rattle.cl_model.specs.Worlds.{seen_file}
@@ -21,19 +21,19 @@ use Rattle.cl_hierarchy.specs.Paths.{fresh}
 use Rattle.cl_hierarchy.proofs.Frames.{none_yet}
 
 -- the bytes of a class that is at home are read
-pub file_found : (w : World) (c : Class) (bytes : List ℕ) → IsAtHome w c → content_at w.content c.loader c.name ≡ Some bytes → classes.read_class w c ≡ named c (w.read bytes)
+pub file_found : (w : World) (c : Class) (bytes : List ℕ) → IsAtHome w c → content_at w.content c.loader c.name ≡ Some bytes → classes.read_class w c ≡ file_if_named c (w.read bytes)
 file_found w c bytes at stored =
     ap (λ (o : Option ℕ). read_found w c (if is_own c.loader o then content_at w.content c.loader c.name else None)) at
     ∙ ap (λ (b : Bool). read_found w c (if b then content_at w.content c.loader c.name else None)) (nat_eq_equiv.refl c.loader)
     ∙ ap (read_found w c) stored
 
-pub named_so : (c : Class) (f : File) → f.name ≡ c.name → named c (Ok f) ≡ Ok f
+pub named_so : (c : Class) (f : File) → f.name ≡ c.name → file_if_named c (Ok f) ≡ Ok f
 named_so c f e = ap (λ (b : Bool). if b then Ok f else Err (NoClassDef c)) (ap (λ (n : List ℕ). same_name n c.name) e ∙ nat_list_eq_equiv.refl c.name)
 
 -- a class that is at home has the file that its bytes spell
 pub spelt_file : (c : Configured) (content : Content) (t : Class) (f : Structure) → IsAtHome (world_of c content) t → IsSpelt (Some content) t f → HasFile (world_of c content) t (file_of f)
 spelt_file c content t f at spelt =
-    file_found (world_of c content) t spelt.bytes at spelt.told_so ∙ ap (λ r. named t (seen_file r)) (grammar_read spelt.bytes f spelt.spells) ∙ named_so t (file_of f) spelt.named
+    file_found (world_of c content) t spelt.bytes at spelt.told_so ∙ ap (λ r. file_if_named t (seen_file r)) (grammar_read spelt.bytes f spelt.spells) ∙ named_so t (file_of f) spelt.named
 
 -- and is judged by it
 pub spelt_judged : (c : Configured) (content : Content) (one t : Class) (role : Role) (wrong : Option Error) (f : Structure) → IsSpelt (Some content) t f → classes.misfit one role t (file_of f) ≡ wrong

@@ -9,13 +9,13 @@ use Rattle.cl_model.specs.declared.class.Class.{Class}
 use Rattle.cl_model.specs.Content.{Content}
 use Rattle.cl_model.specs.Homes.{World}
 use Rattle.cl_model.specs.Classes.{class, Above, AsSuperclass, AsSuperinterface, misfit, superinterfaces_of, supers}
-use Rattle.cl_model.specs.Frames.{wanted, AcceptsFirst, IsFrames, Judged}
+use Rattle.cl_model.specs.Frames.{wanted_supertype, AcceptsFirst, IsFrames, Judged}
 use Rattle.cl_model.proofs.Stacks.{frame_pop}
 use Rattle.cl_config.specs.Views.{Configured}
 use Rattle.cl_delegation.specs.Worlds.{world_of}
 use Rattle.cl_hierarchy.specs.Drafts.{IsSpelt}
 use Rattle.cl_hierarchy.specs.Frames.{Framed, accepted_of, frame_of}
-use Rattle.cl_hierarchy.specs.Kept.{frames_in, pathed}
+use Rattle.cl_hierarchy.specs.Kept.{frames_in, kept_path}
 use Rattle.cl_hierarchy.specs.Paths.{Pathed, Accepts as accepts, Completes, IsPath, at_loader, at_name, misfit_in, misfit_under, name_of, sought}
 use Rattle.cl_hierarchy.specs.Repeats.{AcceptsAgain, CompletesAgain, FitsLast, FitsNext, Repeats, RepeatsLast}
 use Rattle.cl_hierarchy.proofs.Ends.{frames_push, last_split, sought_push, under_last}
@@ -26,7 +26,7 @@ use Rattle.cl_hierarchy.proofs.Tables.{snoc_same}
 
 -- ---- a row that fits
 
-pub suits_next : (told : Option Content) (c : Configured) (x : Framed) (t : Class) (f : Structure) → IsSpelt told t f → t.name ≡ name_of (wanted (frame_of x)) → misfit_in x (wanted (frame_of x)) t (file_of f) ≡ None → FitsNext told c x t.loader
+pub suits_next : (told : Option Content) (c : Configured) (x : Framed) (t : Class) (f : Structure) → IsSpelt told t f → t.name ≡ name_of (wanted_supertype (frame_of x)) → misfit_in x (wanted_supertype (frame_of x)) t (file_of f) ≡ None → FitsNext told c x t.loader
 suits_next None c x t f spelt named fits = tt
 suits_next (Some content) c x t f spelt named fits = λ a want.
     let fit : misfit x.draft.class a.role t (file_of f) ≡ None = subst (λ (o : Option Above). misfit_in x o t (file_of f) ≡ None) want fits in
@@ -71,7 +71,7 @@ repeats_at x y len first place same counted few at is =
     (record { first = first; accepted = at; same = same ∙ ap (λ (n : ℕ). slice_get others n) (counted ∙ sym (as_many others x.places few)) })
 
 -- the last of a table's frames accepted it
-pub last_repeats : (c : Configured) (loader : ℕ) (at : List ℕ) (es : List (Class × Framed)) (k : Class) (x : Framed) (p : Pathed) (o : Option ℕ) → slice_get es (length es - 1) ≡ Some (k, x) → IfSome o (Repeats x) → pathed c loader at es ≡ p → IfSome o (RepeatsLast p)
+pub last_repeats : (c : Configured) (loader : ℕ) (at : List ℕ) (es : List (Class × Framed)) (k : Class) (x : Framed) (p : Pathed) (o : Option ℕ) → slice_get es (length es - 1) ≡ Some (k, x) → IfSome o (Repeats x) → kept_path c loader at es ≡ p → IfSome o (RepeatsLast p)
 last_repeats c loader at es k x p None h r is = tt
 last_repeats c loader at es k x p (Some place) h r is =
     let s = last_split es (k, x) h in

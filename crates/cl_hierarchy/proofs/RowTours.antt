@@ -15,7 +15,7 @@ use Rattle.cl_hierarchy.specs.Lineages.{IsRowIn, row_of}
 use Rattle.cl_hierarchy.specs.NamedBefore.{AreNamedBefore, IsNamedBefore}
 use Rattle.cl_hierarchy.specs.Rows.{Rowed}
 use Rattle.cl_hierarchy.specs.Trees.{SupersBefore, forest, in_front, interfaces_in, kin_named, kin_under, kins, superclass_in}
-use Rattle.cl_hierarchy.specs.Tours.{Comes, Leaves, Marked, Stop, TakesStep, Toured, first_row, inner, interface_row, marked, marks, opened, over_from, size, step, steps_left, steps_to_go, stops, stops_left, stops_of, telling, tells, tells_after, tells_before, told_at, up_first, upwards_of, with_class}
+use Rattle.cl_hierarchy.specs.Tours.{Comes, Leaves, Marked, Stop, TakesStep, Toured, first_row, inner, interface_row, plain_step, marks, opening_steps, over_from, size, step, steps_left, steps_to_go, stops, stops_left, stops_of, after_telling, tells, tells_after, tells_before, told_at, up_first, upwards_of, with_class}
 use Rattle.cl_hierarchy.proofs.Ancestry.{row_kin}
 use Rattle.cl_hierarchy.proofs.Skipped.{onwards}
 use Rattle.cl_hierarchy.proofs.Stages.{AreRowsOf, IsRowOf, IsStage, IsTold, first_stage, kin_is, left_both, one_more, opened_stops, over_here, over_stops, preserved_by, rows_before, smaller_by, steps_both, stops_front, telling_stack, told_before}
@@ -88,7 +88,7 @@ module _ (rows : List Rowed) (o : Order) where
   ready_up seen None = tt
   ready_up seen (Some x) = (tt, tt)
 
-  ready_opened : (seen : List Class) (r : Rowed) → AllReady seen (opened o rows r)
+  ready_opened : (seen : List Class) (r : Rowed) → AllReady seen (opening_steps o rows r)
   ready_opened seen r = (tt, at (up_first o) (first_row rows (superclass_in r)))
     where
       over : Marked
@@ -231,17 +231,17 @@ module _ (rows : List Rowed) (ordered : SupersBefore [] rows) (o : Order) (r : R
   abbrev mark : Task → Marked
   mark task = record { row = r; task = task }
 
-  telling_grows : (t : Toured) (b : Bool) → Within t.seen (telling b t r).seen
+  telling_grows : (t : Toured) (b : Bool) → Within t.seen (after_telling b t r).seen
   telling_grows t true = with_grows t.seen r.class
   telling_grows t false = λ c e. e
 
-  telling_has : (t : Toured) (b : Bool) (ks : List Kin) → ks ≡ (if b then k ∷ [] else []) → Within (classes ks) (telling b t r).seen
+  telling_has : (t : Toured) (b : Bool) (ks : List Kin) → ks ≡ (if b then k ∷ [] else []) → Within (classes ks) (after_telling b t r).seen
   telling_has t true ks e =
       subst (λ (x : List Kin). Within (classes x) (with_class t.seen r.class)) (sym e)
       (with_one [] (with_class t.seen r.class) r.class (λ c i. absurd cc) (with_has t.seen r.class))
   telling_has t false ks e = subst (λ (x : List Kin). Within (classes x) t.seen) (sym e) (λ c i. absurd cc)
 
-  telling_left : (t : Toured) (b : Bool) → (telling b t r).left ≡ t.left
+  telling_left : (t : Toured) (b : Bool) → (after_telling b t r).left ≡ t.left
   telling_left t true = refl
   telling_left t false = refl
 
@@ -257,13 +257,13 @@ module _ (rows : List Rowed) (ordered : SupersBefore [] rows) (o : Order) (r : R
   ready_off ms m seen new w h = subst (λ (ns : List Marked). AllReady rows o new ns) (append-nil ms) (ready_swap rows o ms (m ∷ []) [] seen new w h tt)
 
   came : (wanted : Bool) (ms : List Marked) (seen new : List Class) (b : Bool) → Within seen new → Within (classes (tells o (Comes k wanted))) new → (b ≡ true → Within above seen) → AllReady rows o seen (ms ++ mark (tasks.Come wanted) ∷ [])
-      → AllReady rows o new (if b then ms else ms ++ opened o rows r)
+      → AllReady rows o new (if b then ms else ms ++ opening_steps o rows r)
   came wanted ms seen new true grows told left h =
       ready_off ms (mark (tasks.Come wanted)) seen new (come_within wanted seen new told (λ c e. grows c (left refl c e)) grows) h
   came wanted ms seen new false grows told left h =
-      let all = told_for rows o (opened o rows r) in
+      let all = told_for rows o (opening_steps o rows r) in
       let is : above ≡ all = ap (λ (ss : List Stop). classes (told_at o ss)) (sym (opened_stops rows ordered o r)) in
-      ready_swap rows o ms (mark (tasks.Come wanted) ∷ []) (opened o rows r) seen new
+      ready_swap rows o ms (mark (tasks.Come wanted) ∷ []) (opening_steps o rows r) seen new
       (come_within wanted seen (all ++ new) (λ c e. within_right all new c (told c e)) (subst (λ (xs : List Class). Within above (xs ++ new)) is (within_left above new)) (λ c e. within_right all new c (grows c e)))
       h (ready_opened rows o new r)
 
@@ -298,15 +298,15 @@ module _ (rows : List Rowed) (ordered : SupersBefore [] rows) (o : Order) (r : R
   pub ready_step : (t : Toured) (task : Task) → (is_among t.left r.class ≡ true → Within above t.seen) → AllReady rows o t.seen (t.stack ++ mark task ∷ []) → AllReady rows o (step o rows t r task).seen (step o rows t r task).stack
   ready_step t (tasks.Come wanted) done h =
       let b = tells_before o wanted in
-      let new = telling b t r in
-      subst (λ (ms : List Marked). AllReady rows o new.seen (if is_among new.left r.class then ms else ms ++ opened o rows r)) (sym (telling_stack t b r)) (
+      let new = after_telling b t r in
+      subst (λ (ms : List Marked). AllReady rows o new.seen (if is_among new.left r.class then ms else ms ++ opening_steps o rows r)) (sym (telling_stack t b r)) (
       came wanted t.stack t.seen new.seen (is_among new.left r.class) (telling_grows t b) (telling_has t b (tells o (Comes k wanted)) refl)
       (λ e. done (ap (λ (cs : List Class). is_among cs r.class) (sym (telling_left t b)) ∙ e)) h
       )
   ready_step t (tasks.Over at) done h = went_over t.stack t.seen at h
   ready_step t tasks.Leave done h =
       let b = tells_after o in
-      let new = telling b t r in
+      let new = after_telling b t r in
       subst (λ (ms : List Marked). AllReady rows o new.seen ms) (sym (telling_stack t b r))
       (left_off t.stack t.seen new.seen (telling_grows t b) (telling_has t b (tells o (Leaves k)) refl) h)
 
@@ -382,11 +382,11 @@ module _ (rows : List Rowed) (ordered : SupersBefore [] rows) (o : Order) (goal 
 
 module _ {A : Type 0} (rows : List Rowed) (ordered : SupersBefore [] rows) (o : Order) (goal : List Kin) (told : List Rowed) (seen left : List Class) (stack rest : List (Step A)) (next : Step A) (popped : stack ≡ rest ++ next ∷ []) (new : Toured)
     (h : IsUnderWay o rows goal (record { told = told; seen = seen; left = left; stack = marks stack })) (e : TakesStep o rows (record { told = told; seen = seen; left = left; stack = marks rest }) next.row.value next.task new) where
-  pushed : marks stack ≡ marks rest ++ marked next ∷ []
-  pushed = ap (λ (ss : List (Step A)). marks ss) popped ∙ map_push (λ (s : Step A). marked s) rest next
+  pushed : marks stack ≡ marks rest ++ plain_step next ∷ []
+  pushed = ap (λ (ss : List (Step A)). marks ss) popped ∙ map_push (λ (s : Step A). plain_step s) rest next
 
   gone : IsUnderWay o rows goal new × (steps_left (kins rows) new.stack < steps_left (kins rows) (marks stack))
-  gone = went rows ordered o goal told seen left (marks stack) (marks rest) (marked next) pushed h next.task new refl e
+  gone = went rows ordered o goal told seen left (marks stack) (marks rest) (plain_step next) pushed h next.task new refl e
 
   pub preserved : IsUnderWay o rows goal new
   preserved = gone.0

@@ -17,7 +17,7 @@ use Rattle.cl_hierarchy.specs.Frames.{accepted_of}
 use Rattle.cl_hierarchy.specs.Lineages.{IsRowIn, row_of}
 use Rattle.cl_hierarchy.specs.Rows.{Rowed}
 use Rattle.cl_hierarchy.specs.Trees.{AllKnown, SupersBefore, forest, in_front, interfaces_in, kin_named, kin_under, kins, superclass_in}
-use Rattle.cl_hierarchy.specs.Tours.{Comes, Leaves, Marked, Stop, Toured, first_row, inner, interface_row, marks, opened, opening_unless_left, over_from, size, step, steps_left, steps_to_go, stops, stops_left, stops_of, telling, tells, tells_after, tells_before, told_at, up_first, upwards_of, wants_up, with_class, with_row}
+use Rattle.cl_hierarchy.specs.Tours.{Comes, Leaves, Marked, Stop, Toured, first_row, inner, interface_row, marks, opening_steps, opening_unless_left, over_from, size, step, steps_left, steps_to_go, stops, stops_left, stops_of, after_telling, tells, tells_after, tells_before, told_at, up_first, upwards_of, wants_up, with_class, with_row}
 use Rattle.cl_hierarchy.proofs.Ancestry.{no_row, row_kin}
 use Rattle.cl_hierarchy.proofs.Tours.{Goes, goes_first, goes_on, goes_past, goes_tell, told_both, with_has, with_one, within_join, classes_both, with_either, with_grows}
 use Rattle.cl_hierarchy.proofs.Ends.{all_push}
@@ -103,21 +103,21 @@ module _ (rows : List Rowed) (ordered : SupersBefore [] rows) (o : Order) (r : R
   parts true = ap (λ (x : List Stop). x ++ stops o kin.interfaces true) (up rows ordered o r).stops_are
   parts false = left_both o (kins rows) ups (overs ∷ []) ∙ ap (λ (x : List Stop). stops o kin.interfaces true ++ x) (up rows ordered o r).stops_are
 
-  pub opened_stops : stops_left o (kins rows) (opened o rows r) ≡ inner o kin ++ Leaves kin ∷ []
+  pub opened_stops : stops_left o (kins rows) (opening_steps o rows r) ≡ inner o kin ++ Leaves kin ∷ []
   opened_stops = ap (λ (x : List Stop). x ++ Leaves kin ∷ []) (parts (up_first o))
 
   part_steps : (b : Bool) → steps_left (kins rows) (if b then overs ∷ ups else ups ++ overs ∷ []) ≤ 4 * size kin.superclass + 4 * size kin.interfaces + 1
   part_steps true = let u = (up rows ordered o r).steps_are in omega arith
   part_steps false = let u = (up rows ordered o r).steps_are in let e = steps_both (kins rows) ups (overs ∷ []) in omega arith
 
-  pub opened_steps : steps_left (kins rows) (opened o rows r) < 4 * size kin.superclass + 4 * size kin.interfaces + 3
+  pub opened_steps : steps_left (kins rows) (opening_steps o rows r) < 4 * size kin.superclass + 4 * size kin.interfaces + 3
   opened_steps = let h = part_steps (up_first o) in omega arith
 
   part_rows : (b : Bool) → IsRowIn rows r → AreRowsOf rows (if b then overs ∷ ups else ups ++ overs ∷ [])
   part_rows true h = (h, (up rows ordered o r).rows_are)
   part_rows false h = all_both (IsRowOf rows) ups (overs ∷ []) (up rows ordered o r).rows_are (h, tt)
 
-  pub opened_rows : IsRowIn rows r → AreRowsOf rows (opened o rows r)
+  pub opened_rows : IsRowIn rows r → AreRowsOf rows (opening_steps o rows r)
   opened_rows h = (h, part_rows (up_first o) h)
 
 -- ---- superinterfaces
@@ -190,14 +190,14 @@ row_joins rows seen told r h i = at (is_among seen r.class)
 
 module _ (o : Order) (rows : List Rowed) (goal : List Kin) (r : Rowed) (is_row : IsRowIn rows r) where
   pub telling_on : (t : Toured) (s : Stop) (b : Bool) (rest : List Stop) → tells o s ≡ (if b then kin_under (kins rows) r ∷ [] else []) → IsTold o rows goal t (s ∷ (rest ++ stops_left o (kins rows) t.stack))
-      → IsTold o rows goal (telling b t r) (rest ++ stops_left o (kins rows) (telling b t r).stack)
+      → IsTold o rows goal (after_telling b t r) (rest ++ stops_left o (kins rows) (after_telling b t r).stack)
   telling_on t s true rest e h = record {
     goes = goes_tell o (kins rows) goal t.told t.seen t.left r s (rest ++ stops_left o (kins rows) t.stack) e h.goes;
     told_are = row_joins rows t.seen t.told r h.told_are is_row;
   }
   telling_on t s false rest e h = record { goes = goes_on o (kins rows) goal t.told t.seen t.left s (rest ++ stops_left o (kins rows) t.stack) e h.goes; told_are = h.told_are }
 
-pub telling_stack : (t : Toured) (b : Bool) (r : Rowed) → (telling b t r).stack ≡ t.stack
+pub telling_stack : (t : Toured) (b : Bool) (r : Rowed) → (after_telling b t r).stack ≡ t.stack
 telling_stack t true r = refl
 telling_stack t false r = refl
 
@@ -206,7 +206,7 @@ module _ (rows : List Rowed) (ordered : SupersBefore [] rows) (o : Order) (goal 
   found = kin_is rows ordered r.class r is_row
 
   opening_on : (t : Toured) (b : Bool) → is_among t.left r.class ≡ b → IsTold o rows goal t ((inner o (kin_under (kins rows) r) ++ Leaves (kin_under (kins rows) r) ∷ []) ++ stops_left o (kins rows) t.stack) → AreRowsOf rows t.stack
-      → IsStage o rows goal (record t { stack = if b then t.stack else t.stack ++ opened o rows r })
+      → IsStage o rows goal (record t { stack = if b then t.stack else t.stack ++ opening_steps o rows r })
   opening_on t true e h a = record {
     goes = goes_past o (kins rows) goal t.told t.seen t.left (inner o (kin_under (kins rows) r) ++ Leaves (kin_under (kins rows) r) ∷ []) (stops_left o (kins rows) t.stack) (h.goes.done (kin_under (kins rows) r) found e) h.goes;
     told_are = h.told_are;
@@ -215,9 +215,9 @@ module _ (rows : List Rowed) (ordered : SupersBefore [] rows) (o : Order) (goal 
   opening_on t false e h a = record {
     goes =
         subst (λ (x : List Stop). Goes o (kins rows) goal t.told t.seen t.left x)
-        (sym (left_both o (kins rows) t.stack (opened o rows r) ∙ ap (λ (x : List Stop). x ++ stops_left o (kins rows) t.stack) (opened_stops rows ordered o r))) h.goes;
+        (sym (left_both o (kins rows) t.stack (opening_steps o rows r) ∙ ap (λ (x : List Stop). x ++ stops_left o (kins rows) t.stack) (opened_stops rows ordered o r))) h.goes;
     told_are = h.told_are;
-    stack_is = all_both (IsRowOf rows) t.stack (opened o rows r) a (opened_rows rows ordered o r is_row);
+    stack_is = all_both (IsRowOf rows) t.stack (opening_steps o rows r) a (opened_rows rows ordered o r is_row);
   }
 
   came : (t : Toured) (wanted : Bool) → IsTold o rows goal t (stops o (alone (kin_under (kins rows) r)) wanted ++ stops_left o (kins rows) t.stack) → AreRowsOf rows t.stack
@@ -225,7 +225,7 @@ module _ (rows : List Rowed) (ordered : SupersBefore [] rows) (o : Order) (goal 
   came t wanted h a =
       let k = kin_under (kins rows) r in
       let b = tells_before o wanted in
-      opening_on (telling b t r) (is_among (telling b t r).left r.class) refl (telling_on o rows goal r is_row t (Comes k wanted) b (inner o k ++ Leaves k ∷ []) refl h)
+      opening_on (after_telling b t r) (is_among (after_telling b t r).left r.class) refl (telling_on o rows goal r is_row t (Comes k wanted) b (inner o k ++ Leaves k ∷ []) refl h)
       (subst (λ (ms : List Marked). AreRowsOf rows ms) (sym (telling_stack t b r)) a)
 
   went_over : (t : Toured) (place : ℕ) → IsTold o rows goal t (stops_of o (kins rows) r (tasks.Over place) ++ stops_left o (kins rows) t.stack) → AreRowsOf rows t.stack
@@ -242,7 +242,7 @@ module _ (rows : List Rowed) (ordered : SupersBefore [] rows) (o : Order) (goal 
       }
 
   all_told_of : (t : Toured) (b : Bool) → tells o (Leaves (kin_under (kins rows) r)) ≡ (if b then kin_under (kins rows) r ∷ [] else []) → Within (classes (told_at o (inner o (kin_under (kins rows) r)))) t.seen
-      → Within (classes (told_at o (inner o (kin_under (kins rows) r))) ++ classes (tells o (Leaves (kin_under (kins rows) r)) ++ [])) (telling b t r).seen
+      → Within (classes (told_at o (inner o (kin_under (kins rows) r))) ++ classes (tells o (Leaves (kin_under (kins rows) r)) ++ [])) (after_telling b t r).seen
   all_told_of t true e h =
       let above = classes (told_at o (inner o (kin_under (kins rows) r))) in
       subst (λ (ks : List Kin). Within (above ++ classes (ks ++ [])) (with_class t.seen r.class)) (sym e)
@@ -272,7 +272,7 @@ module _ (rows : List Rowed) (ordered : SupersBefore [] rows) (o : Order) (goal 
   went t h a =
       let k = kin_under (kins rows) r in
       let b = tells_after o in
-      let x = telling b t r in
+      let x = after_telling b t r in
       let i = telling_on o rows goal r is_row t (Leaves k) b [] refl h in
       leaving x (record { goes = i.goes; told_are = i.told_are; stack_is = subst (λ (ms : List Marked). AreRowsOf rows ms) (sym (telling_stack t b r)) a })
       (subst (λ (cs : List Class). Within cs x.seen) (sym (ap (λ (ks : List Kin). classes ks) (told_both o (inner o k) (Leaves k ∷ [])) ∙ classes_both (told_at o (inner o k)) (tells o (Leaves k) ++ []))) (all_told_of t b refl h.goes.ready.0))
@@ -295,15 +295,15 @@ stepped rows ordered o goal t r tasks.Leave i h a = went rows ordered o goal r i
 
 -- and it comes nearer to the end
 opening_less : (rows : List Rowed) → SupersBefore [] rows → (o : Order) (t : Toured) (r : Rowed) (b : Bool) (wanted : Bool)
-    → steps_left (kins rows) (if b then t.stack else t.stack ++ opened o rows r) < steps_left (kins rows) t.stack + steps_to_go (kins rows) r (tasks.Come wanted)
+    → steps_left (kins rows) (if b then t.stack else t.stack ++ opening_steps o rows r) < steps_left (kins rows) t.stack + steps_to_go (kins rows) r (tasks.Come wanted)
 opening_less rows ordered o t r true wanted = omega arith
-opening_less rows ordered o t r false wanted = let s = opened_steps rows ordered o r in let e = steps_both (kins rows) t.stack (opened o rows r) in omega arith
+opening_less rows ordered o t r false wanted = let s = opened_steps rows ordered o r in let e = steps_both (kins rows) t.stack (opening_steps o rows r) in omega arith
 
 nearer : (rows : List Rowed) → SupersBefore [] rows → (o : Order) (t : Toured) (r : Rowed) (k : Task) → IsRowIn rows r → steps_left (kins rows) (step o rows t r k).stack < steps_left (kins rows) t.stack + steps_to_go (kins rows) r k
 nearer rows ordered o t r (tasks.Come wanted) i =
     let b = tells_before o wanted in
-    subst (λ (ms : List Marked). steps_left (kins rows) (opening_unless_left o rows (telling b t r) r).stack < steps_left (kins rows) ms + steps_to_go (kins rows) r (tasks.Come wanted)) (telling_stack t b r)
-    (opening_less rows ordered o (telling b t r) r (is_among (telling b t r).left r.class) wanted)
+    subst (λ (ms : List Marked). steps_left (kins rows) (opening_unless_left o rows (after_telling b t r) r).stack < steps_left (kins rows) ms + steps_to_go (kins rows) r (tasks.Come wanted)) (telling_stack t b r)
+    (opening_less rows ordered o (after_telling b t r) r (is_among (after_telling b t r).left r.class) wanted)
 nearer rows ordered o t r (tasks.Over place) i =
     let x = interface_row rows r place in
     let s = over_steps rows o r place x (over_here rows ordered (interfaces_in r) place (row_kin [] rows r.class r ordered i).interfaces x refl) in
@@ -311,7 +311,7 @@ nearer rows ordered o t r (tasks.Over place) i =
     omega arith
 nearer rows ordered o t r tasks.Leave i = at (tells_after o)
   where
-    at : (b : Bool) → steps_left (kins rows) (telling b t r).stack < steps_left (kins rows) t.stack + 1
+    at : (b : Bool) → steps_left (kins rows) (after_telling b t r).stack < steps_left (kins rows) t.stack + 1
     at true = omega arith
     at false = omega arith
 

@@ -14,11 +14,11 @@ use Rattle.cl_model.specs.Content.{Content}
 use Rattle.cl_model.specs.Classes.{class, same_class, Above, Error, Role, misfit}
 use Rattle.cl_model.specs.Views.{error_of}
 use Rattle.cl_model.specs.declared.verdict.ErrorKind.{ErrorKind}
-use Rattle.cl_model.specs.Frames.{wanted, asking}
+use Rattle.cl_model.specs.Frames.{wanted_supertype, asking_loader}
 use Rattle.cl_config.specs.Views.{Configured}
 use Rattle.cl_hierarchy.specs.Drafts.{Drafted, IsDraft}
 use Rattle.cl_hierarchy.specs.Frames.{Framed, frame_of, with_place}
-use Rattle.cl_hierarchy.specs.Kept.{first_name, frames_in, pathed, KeepsPath, last_wants, name_after, LastAccepts}
+use Rattle.cl_hierarchy.specs.Kept.{first_name, frames_in, kept_path, KeepsPath, last_wants, name_after, LastAccepts}
 use Rattle.cl_hierarchy.specs.Paths.{Pathed, fresh, name_of, at_loader, at_name, is_on, IsPath, with_frame, with_frames, misfit_in, misfit_under, Accepts, Completes}
 use Rattle.cl_hierarchy.specs.Repeats.{FitsLast}
 use Rattle.cl_hierarchy.proofs.Ends.{Ends, last_split, set_last, frames_push, last_wants_of, asking_push, sought_push, first_push, under_last}
@@ -50,12 +50,12 @@ stands_not c es keys h = none_of (lookup (same_class c) es) (stands c es keys �
 
 -- ---- the last entry
 
-pub at_last : (es : List (Class × Framed)) (k : Class) (x : Framed) (loader : ℕ) → slice_get es (length es - 1) ≡ Some (k, x) → asking loader (map frame_of (frames_in es)) ≡ x.draft.class.loader
+pub at_last : (es : List (Class × Framed)) (k : Class) (x : Framed) (loader : ℕ) → slice_get es (length es - 1) ≡ Some (k, x) → asking_loader loader (map frame_of (frames_in es)) ≡ x.draft.class.loader
 at_last es k x loader h =
     let s = last_split es (k, x) h in
-    ap (λ (l : List (Class × Framed)). asking loader (map frame_of (frames_in l))) s.split ∙ ap (λ (xs : List Framed). asking loader (map frame_of xs)) (frames_push s.before k x) ∙ asking_push loader (frames_in s.before) x
+    ap (λ (l : List (Class × Framed)). asking_loader loader (map frame_of (frames_in l))) s.split ∙ ap (λ (xs : List Framed). asking_loader loader (map frame_of xs)) (frames_push s.before k x) ∙ asking_push loader (frames_in s.before) x
 
-pub under_entry : (es : List (Class × Framed)) (k : Class) (x : Framed) (t : Class) (f : File) → slice_get es (length es - 1) ≡ Some (k, x) → misfit_under (frames_in es) t f ≡ misfit_in x (wanted (frame_of x)) t f
+pub under_entry : (es : List (Class × Framed)) (k : Class) (x : Framed) (t : Class) (f : File) → slice_get es (length es - 1) ≡ Some (k, x) → misfit_under (frames_in es) t f ≡ misfit_in x (wanted_supertype (frame_of x)) t f
 under_entry es k x t f h =
     let s = last_split es (k, x) h in
     ap (λ (l : List (Class × Framed)). misfit_under (frames_in l) t f) s.split ∙ ap (λ (xs : List Framed). misfit_under xs t f) (frames_push s.before k x) ∙ under_last (frames_in s.before) x t f
@@ -67,7 +67,7 @@ entry_of x (Some e) h = let same : x ≡ e.1 = cc in (e.0, ap (λ (y : Framed). 
 pub last_entry : (es : List (Class × Framed)) (x : Framed) → Some x ≡ slice_get (frames_in es) (length es - 1) → (k : Class) × (slice_get es (length es - 1) ≡ Some (k, x))
 last_entry es x h = entry_of x (slice_get es (length es - 1)) (h ∙ slice_get-map (λ (e : Class × Framed). e.1) es (length es - 1))
 
-pub wants_here : (es : List (Class × Framed)) (k : Class) (x : Framed) → slice_get es (length es - 1) ≡ Some (k, x) → last_wants es ≡ wanted (frame_of x)
+pub wants_here : (es : List (Class × Framed)) (k : Class) (x : Framed) → slice_get es (length es - 1) ≡ Some (k, x) → last_wants es ≡ wanted_supertype (frame_of x)
 wants_here es k x h = let s = last_split es (k, x) h in last_wants_of es s.before k x s.split
 
 -- what the last frame did with the next supertype's loader
@@ -92,7 +92,7 @@ same_path c loader n m xs ys p q = cc
 
 -- the path of a table that ends in a frame
 ends_in : (c : Configured) (loader : ℕ) (at : List ℕ) (es : List (Class × Framed)) (k : Class) (x : Framed)
-    → pathed c loader at (es ++ (k, x) ∷ []) ≡ record { config = c; loader = loader; name = first_name (frames_in es) x.draft.class.name; frames = frames_in es ++ x ∷ [] }
+    → kept_path c loader at (es ++ (k, x) ∷ []) ≡ record { config = c; loader = loader; name = first_name (frames_in es) x.draft.class.name; frames = frames_in es ++ x ∷ [] }
 ends_in c loader at es k x =
     same_path c loader _ _ _ _ (ap (λ (xs : List Framed). first_name xs at) (frames_push es k x) ∙ first_push (frames_in es) x at) (frames_push es k x)
 
@@ -115,15 +115,15 @@ short xs es n same counted h = subst (λ (ys : List Framed). length ys < 2 ^ 64)
 module _ (told : Option Content) (c : Configured) (loader : ℕ) where
   -- the path and its table with one frame more
   pub held_push : (n : ℕ) (at next : List ℕ) (es new : List (Class × Framed)) (d : Drafted) → KeepsPath told c loader at es → new ≡ es ++ (class at d.class.loader, fresh d) ∷ [] → IsDraft told d → d.home.config ≡ c
-      → d.home.asked ≡ at_loader (pathed c loader at es) → d.class.name ≡ at_name (pathed c loader at es) → IsSome (wanted (frame_of (fresh d))) → is_on (pathed c loader at es) d.class ≡ false → next ≡ name_of (wanted (frame_of (fresh d)))
-      → n ≡ length new → n < 2 ^ 64 → KeepsPath told c loader next new × (pathed c loader next new ≡ with_frame (pathed c loader at es) (fresh d))
+      → d.home.asked ≡ at_loader (kept_path c loader at es) → d.class.name ≡ at_name (kept_path c loader at es) → IsSome (wanted_supertype (frame_of (fresh d))) → is_on (kept_path c loader at es) d.class ≡ false → next ≡ name_of (wanted_supertype (frame_of (fresh d)))
+      → n ≡ length new → n < 2 ^ 64 → KeepsPath told c loader next new × (kept_path c loader next new ≡ with_frame (kept_path c loader at es) (fresh d))
   held_push n at next es new d kept e draft config asked name waits absent wants counted small =
       let k = class at d.class.loader in
       let x = fresh d in
-      let p = pathed c loader at es in
+      let p = kept_path c loader at es in
       let named : d.class.name ≡ at = name ∙ sym kept.at_name in
-      let is : pathed c loader next (es ++ (k, x) ∷ []) ≡ with_frame p x = ends_in c loader next es k x ∙ same_path c loader _ _ _ _ (ap (first_name (frames_in es)) named) refl in
-      let whole : pathed c loader next new ≡ with_frame p x = ap (pathed c loader next) e ∙ is in
+      let is : kept_path c loader next (es ++ (k, x) ∷ []) ≡ with_frame p x = ends_in c loader next es k x ∙ same_path c loader _ _ _ _ (ap (first_name (frames_in es)) named) refl in
+      let whole : kept_path c loader next new ≡ with_frame p x = ap (kept_path c loader next) e ∙ is in
       let many : length (frames_in es ++ x ∷ []) < 2 ^ 64 = short _ new n (ap frames_in e ∙ frames_push es k x) counted small in
       let path = path_push told p d kept.path draft config asked name waits absent many in
       let same : k ≡ d.class = ap (λ (m : List ℕ). class m d.class.loader) (sym named) in (
@@ -136,8 +136,8 @@ module _ (told : Option Content) (c : Configured) (loader : ℕ) where
       )
 
   -- the class that is pushed has no frame yet
-  pub absent_push : (at n : List ℕ) (l : ℕ) (es same : List (Class × Framed)) (d : Drafted) → KeepsPath told c loader at es → same ≡ es → n ≡ at → l ≡ d.class.loader → d.class.name ≡ at_name (pathed c loader at es)
-      → is_on (pathed c loader at es) d.class ≡ false → lookup (same_class (class n l)) same ≡ None
+  pub absent_push : (at n : List ℕ) (l : ℕ) (es same : List (Class × Framed)) (d : Drafted) → KeepsPath told c loader at es → same ≡ es → n ≡ at → l ≡ d.class.loader → d.class.name ≡ at_name (kept_path c loader at es)
+      → is_on (kept_path c loader at es) d.class ≡ false → lookup (same_class (class n l)) same ≡ None
   absent_push at n l es same d kept e p q name absent =
       let named : n ≡ d.class.name = p ∙ kept.at_name ∙ sym name in
       let is : class n l ≡ d.class = ap (λ (m : List ℕ). class m l) named ∙ ap (class d.class.name) q in
@@ -189,8 +189,8 @@ end_of {A} x (y ∷ ys) = let r = end_of y ys in (r.0, record { before = x ∷ r
 
 -- the path of a table that ends so
 ends_as : (c : Configured) (loader : ℕ) (at : List ℕ) (es before : List (Class × Framed)) (k : Class) (x : Framed) → es ≡ before ++ (k, x) ∷ []
-    → pathed c loader at es ≡ record { config = c; loader = loader; name = first_name (frames_in before) x.draft.class.name; frames = frames_in before ++ x ∷ [] }
-ends_as c loader at es before k x e = ap (pathed c loader at) e ∙ ends_in c loader at before k x
+    → kept_path c loader at es ≡ record { config = c; loader = loader; name = first_name (frames_in before) x.draft.class.name; frames = frames_in before ++ x ∷ [] }
+ends_as c loader at es before k x e = ap (kept_path c loader at) e ∙ ends_in c loader at before k x
 
 module _ (told : Option Content) (c : Configured) (loader : ℕ) (at : List ℕ) (es : List (Class × Framed)) where
   -- where a class is being derived, the last one wants a supertype
@@ -208,8 +208,8 @@ module _ (told : Option Content) (c : Configured) (loader : ℕ) (at : List ℕ)
   waits_last kept some = last_waits es kept some
 
   -- the last frame goes on
-  pub held_accept : (next : List ℕ) (new : List (Class × Framed)) (place : ℕ) → KeepsPath told c loader at es → FitsLast told (pathed c loader at es) place → LastAccepts es new place (Some next)
-      → KeepsPath told c loader next new × Accepts (pathed c loader at es) (pathed c loader next new) place
+  pub held_accept : (next : List ℕ) (new : List (Class × Framed)) (place : ℕ) → KeepsPath told c loader at es → FitsLast told (kept_path c loader at es) place → LastAccepts es new place (Some next)
+      → KeepsPath told c loader next new × Accepts (kept_path c loader at es) (kept_path c loader next new) place
   held_accept next new place kept fits a =
       let x = a.last in
       let y = with_place x place in
@@ -217,7 +217,7 @@ module _ (told : Option Content) (c : Configured) (loader : ℕ) (at : List ℕ)
       let name = first_name xs x.draft.class.name in
       let p = ends_as c loader at es a.before a.key x a.split in
       let q = ends_as c loader next new a.before a.key y a.now in
-      let wants = next_of (wanted (frame_of y)) next a.wants in
+      let wants = next_of (wanted_supertype (frame_of y)) next a.wants in
       let path = path_accept told c loader name xs x place (subst (IsPath told) p kept.path) (fits xs x (ap (λ (z : Pathed). z.frames) p)) wants.0 in
       let keys = keys_pop a.before a.key x (subst (λ (l : List (Class × Framed)). map (λ e. e.0) l ≡ map (λ e. e.1.draft.class) l) a.split kept.keys) in (
         record {
@@ -236,7 +236,7 @@ module _ (told : Option Content) (c : Configured) (loader : ℕ) (at : List ℕ)
 
   -- the last frame ends
   pub held_end : (new rest : List (Class × Framed)) (k : Class) (x : Framed) (place : ℕ) → KeepsPath told c loader at es → LastAccepts es new place None → new ≡ rest ++ (k, x) ∷ []
-      → KeepsPath told c loader k.name rest × Completes (pathed c loader at es) (pathed c loader k.name rest) place x
+      → KeepsPath told c loader k.name rest × Completes (kept_path c loader at es) (kept_path c loader k.name rest) place x
   held_end new rest k x place kept a popped =
       let was = a.last in
       let xs = frames_in a.before in
@@ -248,7 +248,7 @@ module _ (told : Option Content) (c : Configured) (loader : ℕ) (at : List ℕ)
       let keys = keys_pop a.before a.key was (subst (λ (l : List (Class × Framed)). map (λ e. e.0) l ≡ map (λ e. e.1.draft.class) l) a.split kept.keys) in
       let key : k ≡ was.draft.class = ap (λ (e : Class × Framed). e.0) last.1 ∙ keys.1 in
       let whole_is : x ≡ with_place was place = ap (λ (e : Class × Framed). e.1) last.1 in
-      let below : pathed c loader k.name rest ≡ record { config = c; loader = loader; name = name; frames = xs } =
+      let below : kept_path c loader k.name rest ≡ record { config = c; loader = loader; name = name; frames = xs } =
       same_path c loader _ _ _ _ (ap (λ (l : List (Class × Framed)). first_name (frames_in l) k.name) last.0 ∙ ap (λ (z : Class). first_name xs z.name) key) (ap frames_in last.0) in (
         record {
           path = subst (IsPath told) (sym below) (path_pop told c loader name xs was whole);
@@ -261,6 +261,6 @@ module _ (told : Option Content) (c : Configured) (loader : ℕ) (at : List ℕ)
           split = ap (λ (z : Pathed). z.frames) p;
           now = below ∙ ap (λ (z : Pathed). with_frames z xs) (sym p);
           whole_is = whole_is;
-          complete = ap (λ (y : Framed). wanted (frame_of y)) whole_is ∙ last_next (wanted (frame_of (with_place was place))) a.wants;
+          complete = ap (λ (y : Framed). wanted_supertype (frame_of y)) whole_is ∙ last_next (wanted_supertype (frame_of (with_place was place))) a.wants;
         },
       )

@@ -22,7 +22,7 @@ use Rattle.cl_classfile.specs.Files.{File}
 use Rattle.cl_model.specs.declared.class.Class.{Class}
 use Rattle.cl_model.specs.Content.{Content}
 use Rattle.cl_model.specs.Classes.{class, same_class, Above, Error, misfit}
-use Rattle.cl_model.specs.Frames.{Frame, wanted, asking, IsFrames}
+use Rattle.cl_model.specs.Frames.{Frame, wanted_supertype, asking_loader, IsFrames}
 use Rattle.cl_config.specs.Views.{Configured}
 use Rattle.cl_delegation.specs.Worlds.{world_of}
 use Rattle.cl_hierarchy.specs.Drafts.{Drafted, IsDraft}
@@ -53,11 +53,11 @@ name_of (Some a) = a.name
 -- (5.3.5, steps 3 and 4)
 abbrev pub sought : List ℕ → List Framed → List ℕ
 sought name [] = name
-sought name (x ∷ xs) = sought (name_of (wanted (frame_of x))) xs
+sought name (x ∷ xs) = sought (name_of (wanted_supertype (frame_of x))) xs
 
 -- the loader that is asked now: that of the last class, or the request's (5.3.5, steps 3 and 4)
 abbrev pub at_loader : Pathed → ℕ
-at_loader p = asking p.loader (frames_of p)
+at_loader p = asking_loader p.loader (frames_of p)
 
 -- the name that it is asked for (5.3.5, steps 3 and 4)
 abbrev pub at_name : Pathed → List ℕ
@@ -77,13 +77,14 @@ pub record FrameStands (c : Configured) (loader : ℕ) (name : List ℕ) (x : Fr
   pub config : x.draft.home.config ≡ c
   pub asked : x.draft.home.asked ≡ loader
   pub named : x.draft.class.name ≡ name
-  pub waits : IsSome (wanted (frame_of x))
+  pub waits : IsSome (wanted_supertype (frame_of x))
 
 -- and each of these is of what the one before it wants (5.3.5, steps 3 and 4)
 abbrev pub AllStand : Configured → ℕ → List ℕ → List Framed → Type 0
 AllStand c loader name [] = Unit {0}
 AllStand c loader name (x ∷ xs) =
-    FrameStands c loader name x × AllStand c x.draft.class.loader (name_of (wanted (frame_of x))) xs
+    FrameStands c loader name x
+    × AllStand c x.draft.class.loader (name_of (wanted_supertype (frame_of x))) xs
 
 -- where a content is told, they are frames as the rules have them (5.3.5, steps 3 and 4)
 abbrev pub KeepsRules : Option Content → Pathed → Type 0
@@ -116,7 +117,7 @@ misfit_in x (Some a) t f = misfit x.draft.class a.role t f
 -- always (5.3.5, steps 3 and 4)
 abbrev pub misfit_under : List Framed → Class → File → Option Error
 misfit_under [] t f = None
-misfit_under (x ∷ []) t f = misfit_in x (wanted (frame_of x)) t f
+misfit_under (x ∷ []) t f = misfit_in x (wanted_supertype (frame_of x)) t f
 misfit_under (x ∷ (y ∷ xs)) t f = misfit_under (y ∷ xs) t f
 
 -- the last class accepted a supertype that this loader defined, and wants another
@@ -126,7 +127,7 @@ pub record Accepts (old new : Pathed) (place : ℕ) : Type 0 where
   pub last : Framed
   pub split : old.frames ≡ before ++ last ∷ []
   pub now : new ≡ with_frames old (before ++ with_place last place ∷ [])
-  pub waits : IsSome (wanted (frame_of (with_place last place)))
+  pub waits : IsSome (wanted_supertype (frame_of (with_place last place)))
 
 -- the last class accepted the last of its supertypes, which this loader defined, and is derived no
 -- longer: its whole frame (5.3.5, step 5)
@@ -136,4 +137,4 @@ pub record Completes (old new : Pathed) (place : ℕ) (whole : Framed) : Type 0 
   pub split : old.frames ≡ before ++ last ∷ []
   pub now : new ≡ with_frames old before
   pub whole_is : whole ≡ with_place last place
-  pub complete : wanted (frame_of whole) ≡ None
+  pub complete : wanted_supertype (frame_of whole) ≡ None

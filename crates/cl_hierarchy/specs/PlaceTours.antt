@@ -11,7 +11,7 @@ use Rattle.cl_hierarchy.specs.declared.tour.Task.{Task}
 use Rattle.cl_hierarchy.specs.declared.tour.Task.TheVariants as tasks
 use Rattle.cl_hierarchy.specs.Rows.{Rowed}
 use Rattle.cl_hierarchy.specs.Supers.{AreAllSupers, HasRow, place_in}
-use Rattle.cl_hierarchy.specs.Tours.{Marked, Toured, opened, passing, step, telling, telling_all}
+use Rattle.cl_hierarchy.specs.Tours.{Marked, Toured, opening_steps, after_passing, step, after_telling, telling_all}
 use Rattle.cl_hierarchy.specs.Trees.{SupersBefore, kin_under, kins}
 use Rattle.cl_hierarchy.specs.declared.supers.Supers.{Supers}
 
@@ -86,13 +86,13 @@ Does table old place does new =
 
 -- the class at a place is told, where that is wanted and it was not
 abbrev pub IsToldAt : List Supers → Placed → ℕ → Bool → Placed → Type 0
-IsToldAt table old place wanted new = Does table old place (λ rows t r. telling wanted t r) new
+IsToldAt table old place wanted new = Does table old place (λ rows t r. after_telling wanted t r) new
 
 -- what stands above the class at a place is to be come to, and then the class to be left
 abbrev pub IsOpened : List Supers → Placed → ℕ → Placed → Type 0
 IsOpened table old place new =
     Does table old place
-    (λ rows t r. record t { stack = t.stack ++ opened orders.Superinterfaces rows r }) new
+    (λ rows t r. record t { stack = t.stack ++ opening_steps orders.Superinterfaces rows r }) new
 
 -- one step
 abbrev pub TourSteps : List Supers → Placed → ℕ → Task → Placed → Type 0
@@ -146,7 +146,7 @@ PassesAt table old place wanted over new =
     → AreAllSupers rows rows table → AllByRecursion (HasRow rows) over
     → slice_get rows place ≡ Some r → TourIsPlaced rows left old
     → IsTour rows
-    (passing orders.Superinterfaces rows (toured_at rows left old) r wanted (rows_at rows over)) new
+    (after_passing orders.Superinterfaces rows (toured_at rows left old) r wanted (rows_at rows over)) new
 
 -- one step, or the class is passed of which these are known
 abbrev pub Moves : List Supers → Placed → Spot → Option OverAt → Placed → Type 0

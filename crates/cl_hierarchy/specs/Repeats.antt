@@ -3,7 +3,7 @@ use Rattle.std.specs.Prelude.{◌≡◌, ℕ, List, [], ◌∷◌, ◌++◌, Opt
 use Rattle.cl_classfile.specs.Files.{file_of}
 use Rattle.cl_model.specs.Content.{Content}
 use Rattle.cl_model.specs.Classes.{class, Above, supers}
-use Rattle.cl_model.specs.Frames.{wanted, Judged}
+use Rattle.cl_model.specs.Frames.{wanted_supertype, Judged}
 use Rattle.cl_config.specs.Views.{Configured}
 use Rattle.cl_delegation.specs.Worlds.{world_of}
 use Rattle.cl_hierarchy.specs.Frames.{Framed, frame_of}
@@ -16,7 +16,7 @@ use Rattle.cl_hierarchy.specs.declared.path.Again.TheVariants as again
 pub record Repeats (x : Framed) (place : ℕ) : Type 0 where
   pub first : ℕ
   pub accepted : slice_get x.places first ≡ Some place
-  pub same : slice_get (supers (file_of x.draft.file)) first ≡ wanted (frame_of x)
+  pub same : slice_get (supers (file_of x.draft.file)) first ≡ wanted_supertype (frame_of x)
 
 -- the same of the last class of a path (5.3.5, step 4)
 pub record RepeatsLast (p : Pathed) (place : ℕ) : Type 0 where
@@ -50,7 +50,7 @@ Goes old new (again.Whole x) = CompletesAgain old new x
 abbrev pub FitsNext : Option Content → Configured → Framed → ℕ → Type 0
 FitsNext None c x place = Unit {0}
 FitsNext (Some content) c x place =
-    (a : Above) → wanted (frame_of x) ≡ Some a
+    (a : Above) → wanted_supertype (frame_of x) ≡ Some a
     → Judged (world_of c content) x.draft.class a.role None (class a.name place)
 
 -- the same of the supertype that the last class of a path wants (5.3.5, steps 3 and 4)

@@ -82,12 +82,12 @@ pub record Marked : Type 0 where
   pub task : Task
 
 -- the same, without where the row lies in memory
-abbrev pub marked : {A : Type 0} → Step A → Marked
-marked s = record { row = s.row.value; task = s.task }
+abbrev pub plain_step : {A : Type 0} → Step A → Marked
+plain_step s = record { row = s.row.value; task = s.task }
 
 -- the same of each
 abbrev pub marks : {A : Type 0} → List (Step A) → List Marked
-marks ss = map (λ s. marked s) ss
+marks ss = map (λ s. plain_step s) ss
 
 -- the stops that it has
 abbrev pub stops_of : Order → List Kin → Rowed → Task → List Stop
@@ -113,8 +113,8 @@ upwards_of o None = []
 upwards_of o (Some r) = record { row = r; task = tasks.Come (wants_up o) } ∷ []
 
 -- to come to all that stands above a class, and then to leave it
-abbrev pub opened : Order → List Rowed → Rowed → List Marked
-opened o rows r =
+abbrev pub opening_steps : Order → List Rowed → Rowed → List Marked
+opening_steps o rows r =
     record { row = r; task = tasks.Leave }
     ∷ (if up_first o
     then record { row = r; task = tasks.Over 0 } ∷ upwards_of o (first_row rows (superclass_in r))
@@ -169,8 +169,8 @@ pub record Toured : Type 0 where
   pub stack : List Marked
 
 -- the same, without where it lies in memory
-abbrev pub toured : {A : Type 0} → Tour A → Toured
-toured t =
+abbrev pub plain_tour : {A : Type 0} → Tour A → Toured
+plain_tour t =
     record {
       told = map (λ r. r.value) t.told.items;
       seen = t.seen.keys;
@@ -179,27 +179,27 @@ toured t =
     }
 
 -- a row is told
-abbrev pub telling : Bool → Toured → Rowed → Toured
-telling false t r = t
-telling true t r = record t { told = with_row t.seen t.told r; seen = with_class t.seen r.class }
+abbrev pub after_telling : Bool → Toured → Rowed → Toured
+after_telling false t r = t
+after_telling true t r = record t { told = with_row t.seen t.told r; seen = with_class t.seen r.class }
 
 -- these rows are told, one after another
 abbrev pub telling_all : Toured → List Rowed → Toured
 telling_all t [] = t
-telling_all t (r ∷ rs) = telling_all (telling true t r) rs
+telling_all t (r ∷ rs) = telling_all (after_telling true t r) rs
 
 -- what is left to do, once the tour came to a class that it left before, or not
 abbrev pub opening_unless_left : Order → List Rowed → Toured → Rowed → Toured
 opening_unless_left o rows t r =
-    record t { stack = if is_among t.left r.class then t.stack else t.stack ++ opened o rows r }
+    record t { stack = if is_among t.left r.class then t.stack else t.stack ++ opening_steps o rows r }
 
 -- one step
 abbrev pub step : Order → List Rowed → Toured → Rowed → Task → Toured
-step o rows t r (tasks.Come wanted) = opening_unless_left o rows (telling (tells_before o wanted) t r) r
+step o rows t r (tasks.Come wanted) = opening_unless_left o rows (after_telling (tells_before o wanted) t r) r
 step o rows t r (tasks.Over place) =
     record t { stack = t.stack ++ over_from r place (interface_row rows r place) }
 step o rows t r tasks.Leave =
-    let x = telling (tells_after o) t r in record x { left = with_class x.left r.class }
+    let x = after_telling (tells_after o) t r in record x { left = with_class x.left r.class }
 
 -- the same, where it may pass superinterfaces that were named before: to come to them again would
 -- change nothing
@@ -210,6 +210,6 @@ TakesStep o rows old r task new = new ≡ step o rows old r task
 
 -- a class is told, where that is wanted, then these rows, which are of all that stands above it, and it
 -- is left
-abbrev pub passing : Order → List Rowed → Toured → Rowed → Bool → List Rowed → Toured
-passing o rows t r wanted over =
-    step o rows (telling_all (telling wanted t r) over) r tasks.Leave
+abbrev pub after_passing : Order → List Rowed → Toured → Rowed → Bool → List Rowed → Toured
+after_passing o rows t r wanted over =
+    step o rows (telling_all (after_telling wanted t r) over) r tasks.Leave

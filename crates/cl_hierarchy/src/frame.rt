@@ -4,7 +4,7 @@ ghost use Rattle.std.specs.Prelude.{◌≡◌, [], OnOk, IfErr, IfOk, IfSome, Is
 ghost use Rattle.std.specs.Option.{option_map};
 ghost use Rattle.cl_classfile.specs.Files.{file_of};
 ghost use Rattle.cl_model.specs.Classes.{class, supers};
-ghost use Rattle.cl_model.specs.Frames.{NamedAs, accepting, wanted};
+ghost use Rattle.cl_model.specs.Frames.{NamedAs, with_accepted, wanted_supertype};
 ghost use Rattle.cl_hierarchy.specs.Frames.{frame_of, with_place};
 ghost use Rattle.cl_hierarchy.specs.Kept.{name_after};
 ghost use Rattle.cl_hierarchy.specs.Repeats.{Repeats};
@@ -75,7 +75,7 @@ impl<T: Told> Frame<T> {
 
     /// The supertype that comes next, if one is left.
     pub fn next_supertype(&self) -> Option<Supertype<'_>>
-        ensures { option_map plain_supertype result ≡ wanted (frame_of self.now) }
+        ensures { option_map plain_supertype result ≡ wanted_supertype (frame_of self.now) }
     {
         self.draft.supertype(self.places.len())
     }
@@ -92,10 +92,10 @@ impl<T: Told> Frame<T> {
 
     /// Accepts the supertype that comes next, of which this loader defined the class.
     pub fn accept(&mut self, place: LoaderId) -> Result<(), AllocError>
-        requires { IsSome (wanted (frame_of self.old)) }
+        requires { IsSome (wanted_supertype (frame_of self.old)) }
         ensures accepted { OnOk result (self.new ≡ with_place self.old place) }
-        ensures frame { OnOk result (IfSome (wanted (frame_of self.old)) (λ a. frame_of self.new
-            ≡ accepting (frame_of self.old) (class a.name place))) }
+        ensures frame { OnOk result (IfSome (wanted_supertype (frame_of self.old))
+            (λ a. frame_of self.new ≡ with_accepted (frame_of self.old) (class a.name place))) }
         ensures unchanged { IfErr result (λ e. self.new ≡ self.old) }
     {
         self.places.push(place)?;
@@ -109,7 +109,7 @@ impl<T: Told> Frame<T> {
         alloc: Global,
         place: LoaderId,
     ) -> Result<Option<Name>, AllocError>
-        requires { IsSome (wanted (frame_of self.old)) }
+        requires { IsSome (wanted_supertype (frame_of self.old)) }
         ensures accepted { OnOk result (self.new ≡ with_place self.old place) }
         ensures next { IfOk result (λ o. o ≡ name_after self.old place) }
         ensures unchanged { IfErr result (λ e. self.new ≡ self.old) }

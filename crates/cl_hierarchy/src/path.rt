@@ -5,7 +5,7 @@ ghost use Rattle.std.specs.Option.{option_map};
 ghost use Rattle.indexmap.specs.IndexMap.{get, spare};
 ghost use Rattle.cl_classfile.specs.Files.{file_of};
 ghost use Rattle.cl_model.specs.Classes.{same_class};
-ghost use Rattle.cl_model.specs.Frames.{wanted};
+ghost use Rattle.cl_model.specs.Frames.{wanted_supertype};
 ghost use Rattle.cl_model.specs.Views.{error_of};
 ghost use Rattle.cl_hierarchy.specs.Frames.{frame_of};
 ghost use Rattle.cl_hierarchy.specs.Kept.{LastAccepts, last_wants};
@@ -63,20 +63,20 @@ impl<T: Told> Drop for Path<T> {
 }
 
 impl<T: Told> Model for Path<T> {
-    ghost use Rattle.cl_hierarchy.specs.Kept.{KeepsPath, pathed};
+    ghost use Rattle.cl_hierarchy.specs.Kept.{KeepsPath, kept_path};
     ghost use Rattle.cl_hierarchy.specs.Paths.{Pathed};
 
     ghost Value = { Pathed };
 
-    ghost view = { λ p. pathed p.config.value p.loader p.at p.frames.entries };
+    ghost view = { λ p. kept_path p.config.value p.loader p.at p.frames.entries };
 
     ghost invariant = { λ p. KeepsPath T.told p.config.value p.loader p.at p.frames.entries };
 }
 
 /// The name of a class's first supertype, once there is room for its frame.
 fn prepare<T: Told>(frames: &mut Frames<T>, draft: &Draft<T>) -> Result<Name, AllocError>
-    requires { IsSome (wanted (frame_of (fresh draft.now))) }
-    ensures name { IfOk result (λ n. n ≡ name_of (wanted (frame_of (fresh draft.now)))) }
+    requires { IsSome (wanted_supertype (frame_of (fresh draft.now))) }
+    ensures name { IfOk result (λ n. n ≡ name_of (wanted_supertype (frame_of (fresh draft.now)))) }
     ensures room { OnOk result (0 < spare frames.new) }
     ensures unchanged { frames.new.entries ≡ frames.old.entries }
 {

@@ -7,7 +7,7 @@ ghost use Rattle.cl_model.specs.Classes.{class, is_among};
 ghost use Rattle.cl_model.specs.Lineages.{alone, once};
 ghost use Rattle.cl_hierarchy.specs.Lineages.{IsRowIn, row_of};
 ghost use Rattle.cl_hierarchy.specs.Rows.{Rowed};
-ghost use Rattle.cl_hierarchy.specs.Tours.{TakesStep, first_row, interface_row, marks, opened, opening_unless_left, over_from, step, stops, telling, tells_after, tells_before, told_at, toured, up_first, upwards_of, wants_up, with_class, with_row};
+ghost use Rattle.cl_hierarchy.specs.Tours.{TakesStep, first_row, interface_row, marks, opening_steps, opening_unless_left, over_from, step, stops, after_telling, tells_after, tells_before, told_at, plain_tour, up_first, upwards_of, wants_up, with_class, with_row};
 ghost use Rattle.cl_hierarchy.specs.declared.tour.Task.TheVariants as tasks;
 ghost use Rattle.cl_hierarchy.specs.Trees.{SupersBefore, kin_under, kins, superclass_in};
 
@@ -210,7 +210,7 @@ fn open<T: Told, F: Finds<T>>(
     stack: &mut Vec<Step<T>>,
     row: &Arc<ClassRow<T>>,
 ) -> Result<(), AllocError>
-    ensures { OnOk result (marks stack.new.items ≡ marks stack.old.items ++ opened order
+    ensures { OnOk result (marks stack.new.items ≡ marks stack.old.items ++ opening_steps order
         (F.rows table.now) row.now.value) }
 {
     push(stack, row, Task::Leave)?;
@@ -263,7 +263,8 @@ impl<T: Told> Tour<T> {
         is_told: bool,
         row: &Arc<ClassRow<T>>,
     ) -> Result<(), AllocError>
-        ensures { OnOk result (toured self.new ≡ telling is_told (toured self.old) row.now.value) }
+        ensures { OnOk result (plain_tour self.new
+            ≡ after_telling is_told (plain_tour self.old) row.now.value) }
     {
         if is_told {
             tell(alloc, &mut self.told, &mut self.seen, row)?;
@@ -280,8 +281,8 @@ impl<T: Told> Tour<T> {
         row: &Arc<ClassRow<T>>,
         wanted: bool,
     ) -> Result<(), AllocError>
-        ensures { OnOk result (toured self.new ≡ opening_unless_left order (F.rows table.now)
-            (telling (tells_before order wanted) (toured self.old) row.now.value) row.now.value) }
+        ensures { OnOk result (plain_tour self.new ≡ opening_unless_left order (F.rows table.now)
+            (after_telling (tells_before order wanted) (plain_tour self.old) row.now.value) row.now.value) }
     {
         self.tell_if(alloc, order.tells_before(wanted), row)?;
         if self.left.contains(row.class()) {
@@ -297,8 +298,8 @@ impl<T: Told> Tour<T> {
         order: Order,
         row: &Arc<ClassRow<T>>,
     ) -> Result<(), AllocError>
-        ensures { OnOk result (toured self.new ≡ step order [] (toured self.old) row.now.value
-            tasks.Leave) }
+        ensures { OnOk result (plain_tour self.new
+            ≡ step order [] (plain_tour self.old) row.now.value tasks.Leave) }
     {
         self.tell_if(alloc, order.tells_after(), row)?;
         note(alloc, &mut self.left, row.class())?;
@@ -313,8 +314,8 @@ impl<T: Told> Tour<T> {
         table: &F,
         next: &Step<T>,
     ) -> Result<(), AllocError>
-        ensures { OnOk result (TakesStep order (F.rows table.now) (toured self.old)
-            next.now.row.value next.now.task (toured self.new)) }
+        ensures { OnOk result (TakesStep order (F.rows table.now) (plain_tour self.old)
+            next.now.row.value next.now.task (plain_tour self.new)) }
     {
         match next.task {
             Task::Come(wanted) => self.come(alloc, order, table, &next.row, wanted),

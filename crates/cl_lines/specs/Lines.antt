@@ -57,8 +57,8 @@ pub record Numbered : Type 0 where
   pub text : List ℕ
 
 -- a line that the code cuts, without where it lies
-abbrev pub numbered : Line → Numbered
-numbered line = record { number = line.number; text = line.text.now }
+abbrev pub plain_line : Line → Numbered
+plain_line line = record { number = line.number; text = line.text.now }
 
 -- the first line is cut off a text whose first line has this number
 pub record CutsLine (old line new : Numbered) : Type 0 where

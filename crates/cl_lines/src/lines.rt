@@ -1,7 +1,7 @@
 ghost use Rattle.std.specs.Prelude.{◌≡◌, ◌<◌, ◌==◌, ⊤, [], length, IfSome, IfNone};
 ghost use Rattle.std.specs.List.{before_first, after_first};
 ghost use Rattle.std.specs.Iterator.{MakesProgress, YieldsFirstBy, YieldsFirstRef, item_count};
-ghost use Rattle.cl_lines.specs.Lines.{lines_of, words_of, is_skipped, is_remark, numbered, numbered_from, stated_from, CutsLine, Numbered};
+ghost use Rattle.cl_lines.specs.Lines.{lines_of, words_of, is_skipped, is_remark, plain_line, numbered_from, stated_from, CutsLine, Numbered};
 
 use std::marker::Model;
 
@@ -52,16 +52,16 @@ impl<'a> Lines<'a> {
 impl<'a> Iterator for Lines<'a> {
     type Item = Line<'a>;
 
-    ghost next_gives = { YieldsFirstBy numbered (λ s. numbered_from s.number (lines_of s.text)) };
+    ghost next_gives = { YieldsFirstBy plain_line (λ s. numbered_from s.number (lines_of s.text)) };
 
     ghost remaining = { item_count (λ s. numbered_from s.number (lines_of s.text)) };
 
     fn next(&mut self) -> Option<Line<'a>>
-        ensures steps { YieldsFirstBy numbered
+        ensures steps { YieldsFirstBy plain_line
             (λ s. numbered_from s.number (lines_of s.text)) self.old result self.new }
         ensures goes { MakesProgress (λ _. ⊤)
             (item_count (λ s. numbered_from s.number (lines_of s.text))) self.old result self.new }
-        ensures cut { IfSome result (λ l. CutsLine self.old (numbered l) self.new) }
+        ensures cut { IfSome result (λ l. CutsLine self.old (plain_line l) self.new) }
         ensures end { IfNone result (self.old.text ≡ []) }
     {
         if self.rest.is_empty() {
@@ -110,7 +110,7 @@ impl<'a> Stated<'a> {
 impl<'a> Iterator for Stated<'a> {
     type Item = Line<'a>;
 
-    ghost next_gives = { YieldsFirstBy numbered (λ s. stated_from s.number s.text) };
+    ghost next_gives = { YieldsFirstBy plain_line (λ s. stated_from s.number s.text) };
 
     ghost remaining = { item_count (λ s. stated_from s.number s.text) };
 

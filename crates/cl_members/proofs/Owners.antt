@@ -3,7 +3,7 @@ use Rattle.std.proofs.Common.{◌≡◌, ℕ, Bool, true, false, if◌then◌els
 use Rattle.std.specs.Prelude.{filter, find, option_map, option_and_then}
 use Rattle.std.specs.Option.{option_or}
 use Rattle.cl_classfile.specs.Files.{Key, Member}
-use Rattle.cl_model.specs.Lineages.{Kin, first, if_declared, only, superclasses, superinterfaces, from_superinterfaces, is_default, is_offered, is_public_instance, lookup_interface_method, lookup_method, maximally_specific, method_of, offering, has_public}
+use Rattle.cl_model.specs.Lineages.{Kin, first, if_declared, only, superclasses, superinterfaces, from_superinterfaces, is_default, is_offered, is_public_instance, lookup_interface_method, lookup_method, maximally_specific, method_of, offering_superinterfaces, has_public}
 use Rattle.cl_members.specs.Members.{method_in}
 use Rattle.cl_members.proofs.Lists.{either_some, find_passes}
 use Rattle.std.proofs.lemmas.Option.{same_Some}
@@ -68,7 +68,7 @@ Declares key a = is_some (method_in key a.file) ≡ true
 interface_declares : (key : Key) (k a : Kin) → from_superinterfaces k key ≡ Some a → Declares (Some key) a
 unfolding Declares
 interface_declares key k a e =
-    either_some (only (filter (is_default key) (maximally_specific k key))) (first (offering k key)) a (Declares (Some key)) e
+    either_some (only (filter (is_default key) (maximally_specific k key))) (first (offering_superinterfaces k key)) a (Declares (Some key)) e
     (λ f. declared_is (method_of a key) _ (first_passes (is_default key) (maximally_specific k key) a (only_first (filter (is_default key) (maximally_specific k key)) a f)))
     (λ f. declared_is (method_of a key) _ (first_passes (is_offered key) (superinterfaces k) a f))
 

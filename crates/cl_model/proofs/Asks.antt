@@ -13,7 +13,7 @@ use Rattle.cl_model.specs.Preparation.{class_names, constraints_of, equals_of}
 use Rattle.cl_model.specs.Ancestors.{EachClassOnce}
 use Rattle.cl_model.specs.States.{Need, Entry, Equal, Verdict, IsField, IsMethod, IsLinked, Wrong}
 use Rattle.cl_model.specs.Works.{Work, Made, Ask, done, need, ask, or_fail, unless_wrong, of_result, after_made, go_on, ◌>>=◌}
-use Rattle.cl_model.specs.Plans.{initiating, load_by, loads_above, derive_new, derive, load, class_named, inaccessible, resolve_found, resolve_field, resolve_method, resolve_in, through, resolve_named, flags_of, Request, Load, Resolve, Link, loaded_by, go_on_with, Plan, plan_after, plan_from, plan_needs, same_ask, distinct}
+use Rattle.cl_model.specs.Plans.{initiating_needs, load_by, loads_above, derive_new, derive, load, class_named, inaccessible, resolve_found, resolve_field, resolve_method, resolve_in, through, resolve_named, flags_of, Request, Load, Resolve, Link, loaded_by, go_on_with, Plan, plan_after, plan_from, plan_needs, same_ask, distinct}
 use Rattle.cl_model.specs.Machine.{HasLineage, IsPlan}
 use Rattle.cl_model.proofs.Bind.{some_same, ok_same, step_is}
 use Rattle.cl_model.proofs.Heights.{loaded, found, sought, grown, others_after, checked, finished, interfaces_next, superclass_next, circle_or}
@@ -95,8 +95,8 @@ load_covers w d ih before absent loader name =
     let two = one ++ y.asked in
     covers_then two (d (class name place)) (loaded w loader name place) (ih two (class name place)) (λ k z hz ez.
     let three = two ++ z.asked in
-    covers_then three (need (initiating loader name place)) (λ (b : Unit {0}). done k)
-    (need_covers three (initiating loader name place) (initiating_asked three loader place name (loader == place)
+    covers_then three (need (initiating_needs loader name place)) (λ (b : Unit {0}). done k)
+    (need_covers three (initiating_needs loader name place) (initiating_asked three loader place name (loader == place)
     (subst (λ (l : List Ask). In a (((before ++ l) ++ y.asked) ++ z.asked)) (ap (λ (v : Made (Unit {0})). v.asked) (some_same _ x hx)) (asked_there before y.asked z.asked a))))
     (λ b v hv ev. none_covers (three ++ v.asked) _ refl))))
 
@@ -224,7 +224,7 @@ above_owns w d ih c (a ∷ others) m fs h e =
     let first : AllByRecursion (OwnIn m.needs) (before ++ k ∷ []) =
     subst (λ (ns : List Need). AllByRecursion (OwnIn ns) (before ++ k ∷ [])) (sym one.needs)
     (owns_left one.one.needs (one.rest.needs ++ []) (before ++ k ∷ [])
-    (subst (λ (ns : List Need). AllByRecursion (OwnIn ns) (before ++ k ∷ [])) (sym one.load.needs) (owns_left one.load.below.needs (initiating c.loader a.name one.load.place ++ []) (before ++ k ∷ []) below))) in
+    (subst (λ (ns : List Need). AllByRecursion (OwnIn ns) (before ++ k ∷ [])) (sym one.load.needs) (owns_left one.load.below.needs (initiating_needs c.loader a.name one.load.place ++ []) (before ++ k ∷ []) below))) in
     let rest : AllByRecursion (OwnIn m.needs) (postorder one.forest) =
     subst (λ (ns : List Need). AllByRecursion (OwnIn ns) (postorder one.forest)) (sym one.needs)
     (owns_right one.one.needs (one.rest.needs ++ []) (postorder one.forest) (owns_left one.rest.needs [] (postorder one.forest) (above_owns w d ih c others one.rest one.forest one.made one.ends))) in
@@ -259,7 +259,7 @@ reached_asked w q p d k is r lin =
     let i = load_ok w (derive w n []) ClassNotFound (loaded_by q).loader (loaded_by q).name x.loading x.kin x.loaded x.ends in
     let below = derive_owns w n [] (class (loaded_by q).name i.place) i.below x.kin i.made i.ends in
     let same : x.kin ≡ k = one_lineage w d x.kin k x.lineage lin in
-    let in_load : AllByRecursion (OwnIn x.loading.needs) (postorder (alone x.kin)) = subst (λ (ns : List Need). AllByRecursion (OwnIn ns) (postorder (alone x.kin))) (sym i.needs) (owns_left i.below.needs (initiating (loaded_by q).loader (loaded_by q).name i.place ++ []) (postorder (alone x.kin)) below) in
+    let in_load : AllByRecursion (OwnIn x.loading.needs) (postorder (alone x.kin)) = subst (λ (ns : List Need). AllByRecursion (OwnIn ns) (postorder (alone x.kin))) (sym i.needs) (owns_left i.below.needs (initiating_needs (loaded_by q).loader (loaded_by q).name i.place ++ []) (postorder (alone x.kin)) below) in
     let in_plan : AllByRecursion (OwnIn (plan_needs p)) (postorder (alone x.kin)) = owns_left p.own p.more (postorder (alone x.kin)) (subst (λ (y : Plan). AllByRecursion (OwnIn y.own) (postorder (alone x.kin))) (sym x.is) in_load) in
     let asked = plan_covers w q p is in
     subst (λ (y : Kin). AllByRecursion (AskedFor p.asked) (lineage y)) same (once_kept (AskedFor p.asked) [] (postorder (alone x.kin)) (each asked (postorder (alone x.kin)) in_plan))

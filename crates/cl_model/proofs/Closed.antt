@@ -6,9 +6,9 @@ use Rattle.cl_model.specs.Homes.{World, home}
 use Rattle.cl_model.specs.declared.class.Class.{Class}
 use Rattle.cl_model.specs.Classes.{class, Above, superclass_of, superinterfaces_of, supers, HasFile, AtHome, IsGood}
 use Rattle.cl_model.specs.Lineages.{Forest, Kin}
-use Rattle.cl_model.specs.States.{State, start, Record, Need, Entry, Met, Keeps, AllMet, recorded, IsRecorded, added}
+use Rattle.cl_model.specs.States.{State, start, Record, Need, Entry, Met, Keeps, AllMet, recorded_definer, IsRecorded, with_need}
 use Rattle.cl_model.specs.Works.{Work, Made}
-use Rattle.cl_model.specs.Plans.{initiating, loads_above, derive}
+use Rattle.cl_model.specs.Plans.{initiating_needs, loads_above, derive}
 use Rattle.cl_model.specs.Machine.{Setting, Step, Define, Initiate, Constrain, Settle, Prepare, Post, NextRound, Stray, May, after, state_after, Run, IsClosed}
 use Rattle.cl_model.proofs.Derived.{above_ok, derive_ok}
 use Rattle.cl_model.proofs.Runs.{IsLater, after_later, recorded_added}
@@ -39,10 +39,10 @@ above_met w s d closed ih c [] m fs h e all = subst (λ (x : Made Forest). AllMe
 above_met w s d closed ih c (a ∷ others) m fs h e all =
     let one = above_ok w d c a others m fs h e in
     let place : all.0.place ≡ one.load.place = some_same _ _ (sym all.0.found ∙ one.load.found) in
-    let stands : recorded s.records c.loader a.name ≡ Some one.load.place = all.0.holds ∙ ap (λ (x : ℕ). Some x) place in
+    let stands : recorded_definer s.records c.loader a.name ≡ Some one.load.place = all.0.holds ∙ ap (λ (x : ℕ). Some x) place in
     let own = closed.own c.loader one.load.place a.name stands in
     let below = ih (class a.name one.load.place) one.load.below one.kin own one.load.made one.load.ends in
-    let first : AllMet s one.one.needs = subst (λ (x : List Need). AllMet s x) (sym one.load.needs) (met_both s one.load.below.needs (initiating c.loader a.name one.load.place ++ []) below (initiating_met s c.loader one.load.place a.name (c.loader == one.load.place) stands)) in
+    let first : AllMet s one.one.needs = subst (λ (x : List Need). AllMet s x) (sym one.load.needs) (met_both s one.load.below.needs (initiating_needs c.loader a.name one.load.place ++ []) below (initiating_met s c.loader one.load.place a.name (c.loader == one.load.place) stands)) in
     let rest = above_met w s d closed ih c others one.rest one.forest one.made one.ends all.1 in
     subst (λ (x : List Need). AllMet s x) (sym one.needs) (met_both s one.one.needs (one.rest.needs ++ []) first (met_both s one.rest.needs [] rest tt))
 
@@ -70,22 +70,22 @@ class_is c name place p q = ap (λ (n : Name). class n place) p ∙ ap (λ (l : 
 home_moved : (w : World) (loader place l p : ℕ) (name n : Name) → loader ≡ l → name ≡ n → place ≡ p → home w loader name ≡ Some place → home w l n ≡ Some p
 home_moved w loader place l p name n a b c h = subst (λ (x : ℕ). home w x n ≡ Some p) a (subst (λ (x : Name). home w loader x ≡ Some p) b (h ∙ ap (λ (x : ℕ). Some x) c))
 
-record_moved : (rs : List Record) (place p : ℕ) (name n : Name) → name ≡ n → place ≡ p → recorded rs place name ≡ Some place → recorded rs p n ≡ Some p
-record_moved rs place p name n b c h = subst (λ (x : ℕ). recorded rs x n ≡ Some x) c (subst (λ (x : Name). recorded rs place x ≡ Some place) b h)
+record_moved : (rs : List Record) (place p : ℕ) (name n : Name) → name ≡ n → place ≡ p → recorded_definer rs place name ≡ Some place → recorded_definer rs p n ≡ Some p
+record_moved rs place p name n b c h = subst (λ (x : ℕ). recorded_definer rs x n ≡ Some x) c (subst (λ (x : Name). recorded_definer rs place x ≡ Some place) b h)
 
-pub own_moved : (s t : State) → IsLater s t → (loader place l p : ℕ) (name n : Name) → (loader ≡ place ⊎ (recorded s.records place name ≡ Some place)) → loader ≡ l → name ≡ n → place ≡ p → recorded t.records l n ≡ Some p → recorded t.records p n ≡ Some p
-own_moved s t later loader place l p name n (inl e) a b c h = subst (λ (x : ℕ). recorded t.records x n ≡ Some p) (sym a ∙ e ∙ c) h
+pub own_moved : (s t : State) → IsLater s t → (loader place l p : ℕ) (name n : Name) → (loader ≡ place ⊎ (recorded_definer s.records place name ≡ Some place)) → loader ≡ l → name ≡ n → place ≡ p → recorded_definer t.records l n ≡ Some p → recorded_definer t.records p n ≡ Some p
+own_moved s t later loader place l p name n (inl e) a b c h = subst (λ (x : ℕ). recorded_definer t.records x n ≡ Some p) (sym a ∙ e ∙ c) h
 own_moved s t later loader place l p name n (inr q) a b c h = record_moved t.records place p name n b c (later.records place place name q)
 
 -- a record that agrees with its home is added
 closed_added : (w : World) (s : State) (loader place : ℕ) (name : Name) → IsClosed w s → home w loader name ≡ Some place
-    → (loader ≡ place ⊎ (recorded s.records place name ≡ Some place))
-    → IsLater s (added s (Entry loader name place))
+    → (loader ≡ place ⊎ (recorded_definer s.records place name ≡ Some place))
+    → IsLater s (with_need s (Entry loader name place))
     → (loader ≡ place → IsGood w (class name place))
     → (loader ≡ place → (f : File) → HasFile w (class name place) f → AllByRecursion (Stands w s (class name place)) (supers f))
-    → IsClosed w (added s (Entry loader name place))
+    → IsClosed w (with_need s (Entry loader name place))
 closed_added w s loader place name closed at_home own later good above =
-    let t = added s (Entry loader name place) in
+    let t = with_need s (Entry loader name place) in
     let r : Record = record { loader = loader; name = name; place = place } in
     record {
       homes = λ l p n h. elim (recorded_added s.records r l p n h) [ inl k ↦ closed.homes l p n k | inr k ↦ home_moved w loader place l p name n k.0 k.1 k.2 at_home ];

@@ -8,7 +8,7 @@ use Rattle.cl_model.specs.Classes.{class, Error, Above, is_among, NoClassDef, Cl
 use Rattle.cl_model.specs.Lineages.{Forest, Tree, Kin}
 use Rattle.cl_model.specs.States.{Need, Entry}
 use Rattle.cl_model.specs.Works.{Work, Made, done, need, ask, or_fail, unless_wrong, of_result}
-use Rattle.cl_model.specs.Plans.{initiating, load_by, loads_above, derive_new, derive}
+use Rattle.cl_model.specs.Plans.{initiating_needs, load_by, loads_above, derive_new, derive}
 use Rattle.cl_model.proofs.Bind.{ok_same, bind_ok, ok_not_err, step_is, or_fail_ok, unless_ok, result_ok, done_is, needs_two}
 use Rattle.cl_model.proofs.Heights.{loaded, found, sought, grown, others_after, checked, finished, interfaces_next, superclass_next, circle_or}
 
@@ -31,7 +31,7 @@ pub record IsLoad (w : World) (d : Class → Work Kin) (loader : ℕ) (name : Na
   pub below : Made Kin
   pub made : d (class name place) ≡ Some below
   pub ends : below.ends ≡ Ok k
-  pub needs : m.needs ≡ below.needs ++ (initiating loader name place ++ [])
+  pub needs : m.needs ≡ below.needs ++ (initiating_needs loader name place ++ [])
 
 joined_needs : (m a b : List Need) → m ≡ a ++ b → a ≡ [] → m ≡ b
 joined_needs m a b h e = cc
@@ -41,17 +41,17 @@ load_ok w d absent loader name m k h e =
     let asked = bind_ok (ask loader name) (sought w d absent loader name) m k h e in
     let at = bind_ok (or_fail (absent (class name loader)) (home w loader name)) (found w d loader name) asked.second k asked.next asked.ends in
     let derived = bind_ok (d (class name at.value)) (loaded w loader name at.value) at.second k at.next at.ends in
-    let recorded_at = bind_ok (need (initiating loader name at.value)) (λ (b : Unit {0}). done derived.value) derived.second k derived.next derived.ends in
+    let recorded_at = bind_ok (need (initiating_needs loader name at.value)) (λ (b : Unit {0}). done derived.value) derived.second k derived.next derived.ends in
     let same = done_is derived.value k recorded_at.second recorded_at.next recorded_at.ends in
     let place = or_fail_ok (absent (class name loader)) (home w loader name) at.first at.value at.made at.ended in
-    let last : derived.second.needs ≡ initiating loader name at.value ++ [] = needs_two derived.second.needs recorded_at.first.needs recorded_at.second.needs (initiating loader name at.value) [] recorded_at.needs (step_is _ recorded_at.first recorded_at.made).0 same.1 in
+    let last : derived.second.needs ≡ initiating_needs loader name at.value ++ [] = needs_two derived.second.needs recorded_at.first.needs recorded_at.second.needs (initiating_needs loader name at.value) [] recorded_at.needs (step_is _ recorded_at.first recorded_at.made).0 same.1 in
     record {
       place = at.value;
       found = place.0;
       below = derived.first;
       made = derived.made;
       ends = derived.ended ∙ ap (λ (x : Kin). Ok x) same.0;
-      needs = load_needs m.needs asked.first.needs asked.second.needs at.first.needs at.second.needs derived.first.needs derived.second.needs (initiating loader name at.value ++ []) asked.needs (step_is _ asked.first asked.made).0 at.needs place.1 derived.needs last;
+      needs = load_needs m.needs asked.first.needs asked.second.needs at.first.needs at.second.needs derived.first.needs derived.second.needs (initiating_needs loader name at.value ++ []) asked.needs (step_is _ asked.first asked.made).0 at.needs place.1 derived.needs last;
     }
 
 -- the loads of supertypes that end well: the first, and those of the others

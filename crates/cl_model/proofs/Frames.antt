@@ -11,10 +11,10 @@ use Rattle.cl_model.specs.Classes.{class, Error, Above, is_among, ClassNotFound,
 use Rattle.cl_model.specs.Lineages.{Bare, Kin}
 use Rattle.cl_model.specs.States.{State, Need, Entry, Verdict, Wrong, Met, Keeps, AllMet, IsNext, IsRecorded}
 use Rattle.cl_model.specs.Works.{Work, Made, Ask, ask, need, done, or_fail, unless_wrong, of_result, ◌>>=◌}
-use Rattle.cl_model.specs.Plans.{initiating, load_by, loads_above, derive_new, derive, load, Request, loaded_by, go_on_with, Plan, plan_after, plan_from, plan_needs, class_named, through, resolve_named, resolve, Resolve, ending}
+use Rattle.cl_model.specs.Plans.{initiating_needs, load_by, loads_above, derive_new, derive, load, Request, loaded_by, go_on_with, Plan, plan_after, plan_from, plan_needs, class_named, through, resolve_named, resolve, Resolve, ending_verdict}
 use Rattle.cl_model.specs.Machine.{Setting, IsPlan, AnswersPlan, IsClosed}
 use Rattle.cl_model.specs.Service.{IsNextNeed}
-use Rattle.cl_model.specs.Frames.{Frame, wanted, Judged, AcceptsFirst, KeepsAccepted, AllKept, IsFrame, IsFrames, path_of, absent_under, EndsHere, OfReference, Starts, Under}
+use Rattle.cl_model.specs.Frames.{Frame, wanted_supertype, Judged, AcceptsFirst, KeepsAccepted, AllKept, IsFrame, IsFrames, path_of, absent_under, EndsHere, OfReference, Starts, Under}
 use Rattle.cl_model.proofs.Bind.{some_same, ok_same, err_same, ok_not_err}
 use Rattle.cl_model.proofs.Heights.{loaded, found, sought, grown, others_after, checked, finished, interfaces_next, superclass_next, circle_or}
 use Rattle.cl_model.proofs.Derived.{derive_yields}
@@ -85,7 +85,7 @@ load_well w s d absent loader name place P at met h =
     then_well s (or_fail (absent (class name loader)) (home w loader name)) (found w d loader name) (λ y. y ≡ place) P (or_fail_well s (absent (class name loader)) (home w loader name) place at) (λ y e.
     subst (λ (z : ℕ). Every (found w d loader name z) (Well s P)) (sym e)
     (then_well s (d (class name place)) (loaded w loader name place) P P h (λ k p.
-    then_well s (need (initiating loader name place)) (λ (b : Unit {0}). done k) Any P (well_once s Any _ tt refl (initiating_well s loader place name (loader == place) met) tt) (λ b v.
+    then_well s (need (initiating_needs loader name place)) (λ (b : Unit {0}). done k) Any P (well_once s Any _ tt refl (initiating_well s loader place name (loader == place) met) tt) (λ b v.
     well_once s P _ k refl tt p)))))
 
 derive_hits : (w : World) (s : State) (g : Aim) (n : ℕ) (path : List Class) (c : Class) → is_among path c ≡ false → ((j : ℕ) → Every (derive_new w (derive w j (c ∷ path)) c) (Hits s g)) → Every (derive w n path c) (Hits s g)
@@ -300,7 +300,7 @@ plan_on w s g r P p is h on =
   where
     rest : (b : Aim) (m : Made Kin) (k : Kin) (x : Made Verdict) → AllMet s m.needs → Hits s b x → PlanHits s b (plan_after m k x)
     rest (NextIs n) m k x met c = next_right s m.needs x.needs n met c
-    rest (EndsIn e) m k x met c = (met_both s m.needs x.needs met c.0, ap (λ (y : Result Verdict Error). ending y) c.1)
+    rest (EndsIn e) m k x met c = (met_both s m.needs x.needs met c.0, ap (λ (y : Result Verdict Error). ending_verdict y) c.1)
     rest (AsksFor a) m k x met c = in_right a m.asked x.asked c
 
     at : (n : ℕ) (m : Made Kin) → Well s P m → (e : Result Kin Error) → m.ends ≡ e → (elim e as (λ x. Option Plan) [
@@ -364,7 +364,7 @@ sought_asked w s r p absent xs al an closed is u =
 -- ---- what comes next
 
 -- all supertypes of what is loaded now are accepted: its own record is next
-pub complete_is_next : (w : World) (s : State) (r : Request) (absent : Class → Error) (xs : List Frame) (x : Frame) (al : ℕ) → IsClosed w s → Under w s r absent xs al x.class.name → IsFrame w (path_of [] xs) al x.class.name x → KeepsAccepted s x → wanted x ≡ None → IsNextNeed w s r (Entry x.class.loader x.class.name x.class.loader)
+pub complete_is_next : (w : World) (s : State) (r : Request) (absent : Class → Error) (xs : List Frame) (x : Frame) (al : ℕ) → IsClosed w s → Under w s r absent xs al x.class.name → IsFrame w (path_of [] xs) al x.class.name x → KeepsAccepted s x → wanted_supertype x ≡ None → IsNextNeed w s r (Entry x.class.loader x.class.name x.class.loader)
 complete_is_next w s r absent xs x al closed u f kept none =
     let c = x.class in
     let path = path_of [] xs in
@@ -386,7 +386,7 @@ defined_is_next w s r absent xs al place an closed u at rec other =
     next_at w s (Entry al an place) r absent xs al an closed u (λ n here.
     load_hits w s g (derive w n path) (absent_under absent xs) al an place at
     (then_hits s g (derive w n path t) (loaded w al an place) (OfClass w t) (derive_well w s n path t closed rec (here place at)) (λ k o.
-    first_hits s g (need (initiating al an place)) (λ (b : Unit {0}). done k)
+    first_hits s g (need (initiating_needs al an place)) (λ (b : Unit {0}). done k)
     (subst (λ (b : Bool). Every (need (if b then [] else Entry al an place ∷ [])) (Hits s g)) (sym (differ al place other (al == place) refl)) (need_next s (Entry al an place))))))
 
 -- ---- where it ends
@@ -431,7 +431,7 @@ refused_hits w s n path c e closed here a more q =
     then_hits s g (load_by w d NoClassDef c.loader a.name) (checked w d c a more) (OfClass w t) (recorded_load w s n path c a q.0.place closed here q.1 q.0.found q.0.holds.0) (λ k o.
     first_hits s g (unless_wrong (misfit c a.role k.class k.file)) (others_after w d c more k) (unless_hits s (misfit c a.role k.class k.file) e (judged_still w c a t k (Some e) q.0.holds.1 o.0 o.1)))
 
-pub misfit_ends : (w : World) (s : State) (r : Request) (absent : Class → Error) (xs : List Frame) (x : Frame) (al : ℕ) (a : Above) (t : Class) (e : Error) → IsClosed w s → Under w s r absent xs al x.class.name → IsFrame w (path_of [] xs) al x.class.name x → KeepsAccepted s x → wanted x ≡ Some a → t.name ≡ a.name → Judged w x.class a.role (Some e) t → Keeps s x.class.loader t → EndsHere w s r (Wrong e)
+pub misfit_ends : (w : World) (s : State) (r : Request) (absent : Class → Error) (xs : List Frame) (x : Frame) (al : ℕ) (a : Above) (t : Class) (e : Error) → IsClosed w s → Under w s r absent xs al x.class.name → IsFrame w (path_of [] xs) al x.class.name x → KeepsAccepted s x → wanted_supertype x ≡ Some a → t.name ≡ a.name → Judged w x.class a.role (Some e) t → Keeps s x.class.loader t → EndsHere w s r (Wrong e)
 misfit_ends w s r absent xs x al a t e closed u f acc want named wrong kept =
     let c = x.class in
     let path = path_of [] xs in

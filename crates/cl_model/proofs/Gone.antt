@@ -9,9 +9,9 @@ use Rattle.cl_model.specs.declared.class.Class.{Class}
 use Rattle.cl_model.specs.Classes.{class, same_class, is_among, Error, ClassNotFound}
 use Rattle.cl_model.specs.Lineages.{Kin, classes, lineage}
 use Rattle.cl_model.specs.Preparation.{constraints_of}
-use Rattle.cl_model.specs.States.{State, Need, Entry, Verdict, IsClass, IsLinked, Wrong, Linkage, recorded, Met, AllMet, MayAdd, IsNext, Refused}
+use Rattle.cl_model.specs.States.{State, Need, Entry, Verdict, IsClass, IsLinked, Wrong, Linkage, recorded_definer, Met, AllMet, MayAdd, IsNext, Refused}
 use Rattle.cl_model.specs.Works.{Made}
-use Rattle.cl_model.specs.Plans.{load, Request, Load, Resolve, Link, loaded_by, go_on_with, Plan, plan_after, plan_from, plan_needs, ending}
+use Rattle.cl_model.specs.Plans.{load, Request, Load, Resolve, Link, loaded_by, go_on_with, Plan, plan_after, plan_from, plan_needs, ending_verdict}
 use Rattle.cl_model.specs.Machine.{Setting, HasLineage, IsPlan, IsClosed, Answers, AnswersPlan, MaySay, RestsOn, step_for}
 use Rattle.cl_model.specs.Service.{Want, ToStand, ToPrepare, FulfilsAll, IsFirst, to_stand, to_link, WantsPast, HasWants, IsNextNeed, IsNextStep, IsLinkedIn, ComesTo}
 use Rattle.cl_model.specs.Frames.{EndsHere}
@@ -34,7 +34,7 @@ use Rattle.cl_model.proofs.Derived.{all_both}
 
 -- ---- plans whose request's class is recorded
 
-pub load_goes_on : (w : World) (s : State) (loader place : ℕ) (name : Name) → IsClosed w s → recorded s.records loader name ≡ Some place → PlanGoesOn w s (Load loader name) (class name place) [] (IsClass (class name place))
+pub load_goes_on : (w : World) (s : State) (loader place : ℕ) (name : Name) → IsClosed w s → recorded_definer s.records loader name ≡ Some place → PlanGoesOn w s (Load loader name) (class name place) [] (IsClass (class name place))
 load_goes_on w s loader place name closed rec =
     let q = Load loader name in
     let p = plan_exists w q in
@@ -48,11 +48,11 @@ load_goes_on w s loader place name closed rec =
       before = [];
       met = tt;
       more = ap (λ (y : Plan). y.more) x.is ∙ rest.0;
-      ends = ap (λ (y : Plan). y.ends) x.is ∙ ap (λ (e : Result Verdict Error). ending e) rest.1 ∙ ap (λ (c : Class). IsClass c) x.class_is;
+      ends = ap (λ (y : Plan). y.ends) x.is ∙ ap (λ (e : Result Verdict Error). ending_verdict e) rest.1 ∙ ap (λ (c : Class). IsClass c) x.class_is;
     }
 
-pub resolve_goes_on : (w : World) (s : State) (loader place i : ℕ) (name : Name) (m : Made Verdict) → IsClosed w s → recorded s.records loader name ≡ Some place → GoesThrough w s (class name place) i m
-    → PlanGoesOn w s (Resolve loader name i) (class name place) m.needs (ending m.ends)
+pub resolve_goes_on : (w : World) (s : State) (loader place i : ℕ) (name : Name) (m : Made Verdict) → IsClosed w s → recorded_definer s.records loader name ≡ Some place → GoesThrough w s (class name place) i m
+    → PlanGoesOn w s (Resolve loader name i) (class name place) m.needs (ending_verdict m.ends)
 resolve_goes_on w s loader place i name m closed rec goes =
     let q = Resolve loader name i in
     let d = class name place in
@@ -67,10 +67,10 @@ resolve_goes_on w s loader place i name m closed rec goes =
       before = goes.before;
       met = goes.met;
       more = ap (λ (y : Plan). y.more) x.is ∙ ap (λ (y : Made Verdict). y.needs) same ∙ goes.needs;
-      ends = ap (λ (y : Plan). y.ends) x.is ∙ ap (λ (y : Made Verdict). ending y.ends) same ∙ ap (λ (e : Result Verdict Error). ending e) goes.ends;
+      ends = ap (λ (y : Plan). y.ends) x.is ∙ ap (λ (y : Made Verdict). ending_verdict y.ends) same ∙ ap (λ (e : Result Verdict Error). ending_verdict e) goes.ends;
     }
 
-pub link_goes_on : (w : World) (s : State) (loader place : ℕ) (name : Name) (k : Kin) → IsClosed w s → recorded s.records loader name ≡ Some place → HasLineage w (class name place) k
+pub link_goes_on : (w : World) (s : State) (loader place : ℕ) (name : Name) (k : Kin) → IsClosed w s → recorded_definer s.records loader name ≡ Some place → HasLineage w (class name place) k
     → PlanGoesOn w s (Link loader name) (class name place) (flat_map constraints_of (lineage k)) (IsLinked (class name place))
 link_goes_on w s loader place name k closed rec lin =
     let q = Link loader name in
@@ -87,7 +87,7 @@ link_goes_on w s loader place name k closed rec lin =
       before = [];
       met = tt;
       more = ap (λ (y : Plan). y.more) x.is ∙ rest.0 ∙ append-nil (flat_map constraints_of (lineage x.kin)) ∙ ap (λ (y : Kin). flat_map constraints_of (lineage y)) same;
-      ends = ap (λ (y : Plan). y.ends) x.is ∙ ap (λ (e : Result Verdict Error). ending e) rest.1 ∙ ap (λ (c : Class). IsLinked c) x.class_is;
+      ends = ap (λ (y : Plan). y.ends) x.is ∙ ap (λ (e : Result Verdict Error). ending_verdict e) rest.1 ∙ ap (λ (c : Class). IsLinked c) x.class_is;
     }
 
 -- ---- where they end, and how they go on
@@ -138,7 +138,7 @@ link_wants w s loader name p c k is reach lin = record {
   whole = refl;
 }
 
-pub link_comes : (g : Setting) (s : State) (loader place : ℕ) (name : Name) (k : Kin) → IsClosed g.world s → recorded s.records loader name ≡ Some place → HasLineage g.world (class name place) k → AllByRecursion (IsLinkedIn s) (lineage k)
+pub link_comes : (g : Setting) (s : State) (loader place : ℕ) (name : Name) (k : Kin) → IsClosed g.world s → recorded_definer s.records loader name ≡ Some place → HasLineage g.world (class name place) k → AllByRecursion (IsLinkedIn s) (lineage k)
     → ComesTo g s (Link loader name) (IsLinked (class name place))
 link_comes g s loader place name k closed rec lin all =
     let w = g.world in
@@ -172,7 +172,7 @@ next_linking : (s : State) (before behind : List Kin) (k : Kin) (n : Need) → A
 next_linking s [] behind k n all h = next_left s (constraints_of k) (flat_map constraints_of behind) n h
 next_linking s (b ∷ before) behind k n all h = next_right s (constraints_of b) (flat_map constraints_of (before ++ k ∷ behind)) n all.0.imposed (next_linking s before behind k n all.1 h)
 
-pub link_refusal_comes : (g : Setting) (s : State) (loader place : ℕ) (name : Name) (l k : Kin) (before behind : List Kin) (n : Need) → IsClosed g.world s → recorded s.records loader name ≡ Some place → HasLineage g.world (class name place) l
+pub link_refusal_comes : (g : Setting) (s : State) (loader place : ℕ) (name : Name) (l k : Kin) (before behind : List Kin) (n : Need) → IsClosed g.world s → recorded_definer s.records loader name ≡ Some place → HasLineage g.world (class name place) l
     → lineage l ≡ before ++ k ∷ behind → AllByRecursion (IsLinkedIn s) before → IsNext s (constraints_of k) n → Refused s n → ComesTo g s (Link loader name) (Linkage n)
 link_refusal_comes g s loader place name l k before behind n closed rec lin parts all h refused =
     let w = g.world in
@@ -321,12 +321,12 @@ borne_said g s (Resolve loader name i) v bears a = record {
 }
 borne_said g s (Link loader name) v bears a = record { answers = a; rests = λ c e. (bears c e).1 }
 
-pub unrecorded_bears : (g : Setting) (s : State) (r : Request) (v : Verdict) → recorded s.records (loaded_by r).loader (loaded_by r).name ≡ None → AnswersPlan g s r v → Bears s r v
+pub unrecorded_bears : (g : Setting) (s : State) (r : Request) (v : Verdict) → recorded_definer s.records (loaded_by r).loader (loaded_by r).name ≡ None → AnswersPlan g s r v → Bears s r v
 unrecorded_bears g s (Load loader name) v none a = λ c e.
     answered_records g.world s (Load loader name) a.plan (λ (d : Class). IsClass d) v c (refused_no_class c) (wrong_no_class c) (one_class c) a.planned
     (ends_for g.world (Load loader name) a.plan (λ (d : Class). IsClass d) (λ n k r h. (step_is _ r h).1) a.planned) a.answered e
-unrecorded_bears g s (Resolve loader name i) v none a = λ d rec. absurd (none_not_some (recorded s.records loader name) none rec.1)
+unrecorded_bears g s (Resolve loader name i) v none a = λ d rec. absurd (none_not_some (recorded_definer s.records loader name) none rec.1)
 unrecorded_bears g s (Link loader name) v none a = λ c e.
     let rec : Records s loader name c = answered_records g.world s (Link loader name) a.plan (λ (d : Class). IsLinked d) v c (refused_not_linked c) (wrong_not_linked c) (one_linked c) a.planned
     (ends_for g.world (Link loader name) a.plan (λ (d : Class). IsLinked d) (λ n k r h. (step_is _ r h).1) a.planned) a.answered e in
-    absurd (none_not_some (recorded s.records loader name) none rec.1)
+    absurd (none_not_some (recorded_definer s.records loader name) none rec.1)

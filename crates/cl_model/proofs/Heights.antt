@@ -8,7 +8,7 @@ use Rattle.cl_model.specs.Classes.{class, Error, Above, is_among, NoClassDef, Cl
 use Rattle.cl_model.specs.Lineages.{Forest, Tree, Kin}
 use Rattle.cl_model.specs.States.{Need, Entry}
 use Rattle.cl_model.specs.Works.{Work, Made, Ask, done, fail, need, ask, or_fail, unless_wrong, of_result, after_made, go_on, ◌>>=◌}
-use Rattle.cl_model.specs.Plans.{initiating, load_by, loads_above, derive_new, derive}
+use Rattle.cl_model.specs.Plans.{initiating_needs, load_by, loads_above, derive_new, derive}
 
 -- what the first reaches, the second reaches
 abbrev pub Reaches : {A : Type 0} → Work A → Work A → Type 0
@@ -36,7 +36,7 @@ first_reaches a b f r = bind_reaches a b f f r (λ x m h. h)
 
 -- what follows a derivation in a load
 abbrev pub loaded : World → ℕ → Name → ℕ → Kin → Work Kin
-loaded w loader name place k = need (initiating loader name place) >>= λ b. done k
+loaded w loader name place k = need (initiating_needs loader name place) >>= λ b. done k
 
 abbrev pub found : World → (Class → Work Kin) → ℕ → Name → ℕ → Work Kin
 found w d loader name place = d (class name place) >>= loaded w loader name place

@@ -5,7 +5,7 @@ use Rattle.std.specs.Option.{option_or}
 use Rattle.std.proofs.lemmas.Bool.Decides.{nat_tests}
 use Rattle.std.proofs.lemmas.Cmp.{nat_eq_equiv}
 use Rattle.cl_classfile.specs.Files.{Name}
-use Rattle.cl_model.specs.Homes.{World, WorldLoader, Order, ParentFirst, ChildFirst, own_home, first_home, in_order, undecided, decisive, home_by_earlier, home_below, home, is_java, is_loader}
+use Rattle.cl_model.specs.Homes.{World, WorldLoader, Order, ParentFirst, ChildFirst, own_home, first_home, in_order, home_without_import, decisive, home_by_earlier, home_below, home, is_java, is_loader}
 use Rattle.cl_model.specs.Content.{content_at}
 
 or_is : (a b : Option ℕ) (m : ℕ) → option_or a b ≡ Some m → (a ≡ Some m) ⊎ (b ≡ Some m)
@@ -28,11 +28,11 @@ order_is : (earlier : ℕ → Option ℕ) (o : Order) (above own : Option ℕ) (
 order_is earlier ParentFirst above own n m f g h = elim (or_is above own m h) [ inl k ↦ inl (f k) | inr k ↦ inr (g k) ]
 order_is earlier ChildFirst above own n m f g h = elim (or_is own above m h) [ inl k ↦ inr (g k) | inr k ↦ inl (f k) ]
 
-undecided_is : (w : World) (name : Name) (earlier : ℕ → Option ℕ) (n : ℕ) (l : WorldLoader) (m : ℕ) → undecided w name earlier n l ≡ Some m → From earlier n m
+undecided_is : (w : World) (name : Name) (earlier : ℕ → Option ℕ) (n : ℕ) (l : WorldLoader) (m : ℕ) → home_without_import w name earlier n l ≡ Some m → From earlier n m
 undecided_is w name earlier n l m h =
     order_is earlier l.order (first_home earlier l.parents) (own_home w n name) n m (first_is earlier l.parents m) (if_is (is_some (content_at w.content n name)) n m) h
 
-decided_is : (w : World) (name : Name) (earlier : ℕ → Option ℕ) (n : ℕ) (l : WorldLoader) (m : ℕ) (d : Option ℕ) → (elim d as (λ x. Option ℕ) [ Some target ↦ earlier target | None ↦ undecided w name earlier n l ]) ≡ Some m → From earlier n m
+decided_is : (w : World) (name : Name) (earlier : ℕ → Option ℕ) (n : ℕ) (l : WorldLoader) (m : ℕ) (d : Option ℕ) → (elim d as (λ x. Option ℕ) [ Some target ↦ earlier target | None ↦ home_without_import w name earlier n l ]) ≡ Some m → From earlier n m
 decided_is w name earlier n l m (Some target) h = inl (target, h)
 decided_is w name earlier n l m None h = undecided_is w name earlier n l m h
 

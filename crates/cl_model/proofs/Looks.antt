@@ -6,9 +6,9 @@ use Rattle.cl_model.specs.Homes.{World, home}
 use Rattle.cl_model.specs.declared.class.Class.{Class}
 use Rattle.cl_model.specs.Classes.{class, Error, ClassNotFound}
 use Rattle.cl_model.specs.Lineages.{Kin}
-use Rattle.cl_model.specs.States.{State, Need, Entry, Verdict, IsClass, Wrong, Met, AllMet, recorded, IsRecorded}
+use Rattle.cl_model.specs.States.{State, Need, Entry, Verdict, IsClass, Wrong, Met, AllMet, recorded_definer, IsRecorded}
 use Rattle.cl_model.specs.Works.{Made}
-use Rattle.cl_model.specs.Plans.{initiating, derive, load, Request, Load, Plan, plan_from}
+use Rattle.cl_model.specs.Plans.{initiating_needs, derive, load, Request, Load, Plan, plan_from}
 use Rattle.cl_model.specs.Machine.{Setting, Answers, AnswersPlan, IsClosed}
 use Rattle.cl_model.proofs.Bind.{ok_not_err, ok_same, some_same, none_not_some}
 use Rattle.cl_model.proofs.Derived.{load_ok}
@@ -26,7 +26,7 @@ pub record LoadStands (s : State) (name : Name) (place : ℕ) (m : Made Kin) : T
   pub is_class : kin.class ≡ class name place
   pub met : AllMet s m.needs
 
-pub load_stands : (w : World) (s : State) (n : ℕ) (absent : Class → Error) (loader place : ℕ) (name : Name) (m : Made Kin) → IsClosed w s → recorded s.records loader name ≡ Some place → load w n absent loader name ≡ Some m → LoadStands s name place m
+pub load_stands : (w : World) (s : State) (n : ℕ) (absent : Class → Error) (loader place : ℕ) (name : Name) (m : Made Kin) → IsClosed w s → recorded_definer s.records loader name ≡ Some place → load w n absent loader name ≡ Some m → LoadStands s name place m
 load_stands w s n absent loader place name m closed h e =
     let own : IsRecorded s (class name place) = closed.own loader place name h in
     let good = closed.good (class name place) own in
@@ -42,8 +42,8 @@ load_stands w s n absent loader place name m closed h e =
           kin = k;
           ends = r;
           is_class = (derive_gives w n [] (class name place) l.below k made l.ends).0;
-          met = subst (λ (z : List Need). AllMet s z) (sym (l.needs ∙ ap (λ (z : ℕ). l.below.needs ++ (initiating loader name z ++ [])) same))
-              (met_both s l.below.needs (initiating loader name place ++ []) (recorded_is_met w s n [] (class name place) l.below k closed own made l.ends) (initiating_met s loader place name (loader == place) h));
+          met = subst (λ (z : List Need). AllMet s z) (sym (l.needs ∙ ap (λ (z : ℕ). l.below.needs ++ (initiating_needs loader name z ++ [])) same))
+              (met_both s l.below.needs (initiating_needs loader name place ++ []) (recorded_is_met w s n [] (class name place) l.below k closed own made l.ends) (initiating_met s loader place name (loader == place) h));
         }
     at (Err x) r own d k g p q = elim (load_err w (derive w n []) absent loader name m x e r) [
       | inl z ↦ absurd (none_not_some (home w loader name) z.0 (closed.homes loader place name h))
@@ -76,7 +76,7 @@ loads w n loader name m k h = at m.ends h
     at (Ok x) h = let same : x ≡ k = ok_same x k (Ok x) refl h in ap (λ (z : Kin). Some (loading m z.class)) same
 
 -- the class that a loader records is the answer of the load
-pub recorded_answers : (g : Setting) (s : State) (loader place : ℕ) (name : Name) → IsClosed g.world s → recorded s.records loader name ≡ Some place → AnswersPlan g s (Load loader name) (IsClass (class name place))
+pub recorded_answers : (g : Setting) (s : State) (loader place : ℕ) (name : Name) → IsClosed g.world s → recorded_definer s.records loader name ≡ Some place → AnswersPlan g s (Load loader name) (IsClass (class name place))
 recorded_answers g s loader place name closed h =
     let w = g.world in
     let d = load_done w (derive w (enough w) []) (derive_enough w) ClassNotFound loader name in
@@ -88,9 +88,9 @@ recorded_answers g s loader place name closed h =
     }
 
 -- a record that is wanted with its home and does not stand is fresh
-pub unmet_is_fresh : (w : World) (s : State) (loader place : ℕ) (name : Name) → IsClosed w s → home w loader name ≡ Some place → (Met s (Entry loader name place) → ⊥) → recorded s.records loader name ≡ None
-unmet_is_fresh w s loader place name closed f unmet = at (recorded s.records loader name) refl
+pub unmet_is_fresh : (w : World) (s : State) (loader place : ℕ) (name : Name) → IsClosed w s → home w loader name ≡ Some place → (Met s (Entry loader name place) → ⊥) → recorded_definer s.records loader name ≡ None
+unmet_is_fresh w s loader place name closed f unmet = at (recorded_definer s.records loader name) refl
   where
-    at : (o : Option ℕ) → recorded s.records loader name ≡ o → o ≡ None
+    at : (o : Option ℕ) → recorded_definer s.records loader name ≡ o → o ≡ None
     at None h = refl
     at (Some p) h = absurd (unmet (h ∙ sym (closed.homes loader p name h) ∙ f))

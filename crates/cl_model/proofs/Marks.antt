@@ -8,7 +8,7 @@ use Rattle.std.proofs.lemmas.Cmp.{nat_eq_equiv, nat_list_eq_equiv}
 use Rattle.cl_classfile.specs.Files.{Name, same_name}
 use Rattle.cl_model.specs.declared.class.Class.{Class}
 use Rattle.cl_model.specs.Classes.{same_class, is_among}
-use Rattle.cl_model.specs.States.{State, Equality, Settled, Need, Entry, Equal, Verdict, recorded, settled_to, MayAdd}
+use Rattle.cl_model.specs.States.{State, Equality, Settled, Need, Entry, Equal, Verdict, recorded_definer, settled_to, MayAdd}
 use Rattle.cl_model.specs.Works.{Ask}
 use Rattle.cl_model.specs.Machine.{Step, Define, Initiate, Constrain, Settle, Prepare, Post, NextRound, Stray, after, step_for}
 use Rattle.cl_model.proofs.Complete.{is_class}
@@ -117,7 +117,7 @@ pub imposed : List Equality → Name → ℕ → ℕ → Bool
 imposed ks name a b = list_any (λ (e : Equality). same_name e.name name && ((e.one == a) && (e.other == b))) ks
 
 abbrev pub open_in : State → Mark → Bool
-open_in s (OfAsk a) = not (is_some (recorded s.records a.loader a.name))
+open_in s (OfAsk a) = not (is_some (recorded_definer s.records a.loader a.name))
 open_in s (OfClass c) = not (is_among s.prepared c)
 open_in s (OfEqual name a b) = not (imposed s.equalities name a b)
 open_in s (OfReference d i) = not (is_some (settled_to s.settled d i))
@@ -182,8 +182,8 @@ some_stays (Some x) p h k = ap is_some (h x refl)
 
 pub open_before : (s : State) (e : Step) (m : Mark) → open_in (after s e) m ≡ true → open_in s m ≡ true
 open_before s e (OfAsk a) h =
-    stays_closed (is_some (recorded s.records a.loader a.name)) (is_some (recorded (after s e).records a.loader a.name))
-    (some_stays (recorded s.records a.loader a.name) (recorded (after s e).records a.loader a.name) (λ p k. (after_later s e).records a.loader p a.name k)) h
+    stays_closed (is_some (recorded_definer s.records a.loader a.name)) (is_some (recorded_definer (after s e).records a.loader a.name))
+    (some_stays (recorded_definer s.records a.loader a.name) (recorded_definer (after s e).records a.loader a.name) (λ p k. (after_later s e).records a.loader p a.name k)) h
 open_before s e (OfClass c) h = stays_closed (is_among s.prepared c) (is_among (after s e).prepared c) (prepared_more s e c) h
 open_before s e (OfEqual name a b) h = stays_closed (imposed s.equalities name a b) (imposed (after s e).equalities name a b) (imposed_more s e name a b) h
 open_before s e (OfReference d i) h =
@@ -231,8 +231,8 @@ imposed_last ks name a b =
 
 pub need_closes : (s : State) (n : Need) → MayAdd s n → Closes s (step_for n) (mark_of n)
 need_closes s (Entry loader name place) may = record {
-  before = none_open (recorded s.records loader name) (no_record s loader place name may (recorded s.records loader name) refl);
-  after_it = some_closed (recorded (after s (step_for (Entry loader name place))).records loader name) place (made_met s (Entry loader name place) may);
+  before = none_open (recorded_definer s.records loader name) (no_record s loader place name may (recorded_definer s.records loader name) refl);
+  after_it = some_closed (recorded_definer (after s (step_for (Entry loader name place))).records loader name) place (made_met s (Entry loader name place) may);
 }
 need_closes s (Equal name a b) may = record {
   before = false_open (imposed s.equalities name a b) (unimposed s name a b may);

@@ -4,7 +4,7 @@ use Rattle.std.proofs.Math.Nat.{mul-le-mul_left, mul-le-mul_right}
 use Rattle.std.proofs.lemmas.Option.{slice_get_within}
 use Rattle.cl_model.specs.declared.class.Class.{Class}
 use Rattle.cl_model.specs.Classes.{Above, supers}
-use Rattle.cl_model.specs.Frames.{Frame, wanted, accepting}
+use Rattle.cl_model.specs.Frames.{Frame, wanted_supertype, with_accepted}
 use Rattle.cl_model.specs.Measures.{whole, supers_behind, left, left_loading, left_ended}
 
 -- the last frame alone decides which is less
@@ -33,7 +33,7 @@ pushed_less : (most r : ℕ) (x : Frame) → supers_behind x + 1 ≤ most → 1 
 pushed_less most zero x h k = absurd (omega arith)
 pushed_less most (suc r) x h k = times_less (supers_behind x) (whole most r) most h
 
-pub push_falls : (most room : ℕ) (xs : List Frame) (x : Frame) (a : Above) → length xs < room → length (supers x.file) ≤ most → x.accepted ≡ [] → wanted x ≡ Some a → left_loading most room (xs ++ x ∷ []) < left_loading most room xs
+pub push_falls : (most room : ℕ) (xs : List Frame) (x : Frame) (a : Above) → length xs < room → length (supers x.file) ≤ most → x.accepted ≡ [] → wanted_supertype x ≡ Some a → left_loading most room (xs ++ x ∷ []) < left_loading most room xs
 push_falls most room xs x a h k z want =
     let within : length x.accepted < length (supers x.file) = slice_get_within (supers x.file) (length x.accepted) a want in
     let none : length x.accepted ≡ 0 = ap length z in
@@ -43,7 +43,7 @@ whole_more : (most r : ℕ) → 3 ≤ whole most r
 whole_more most zero = omega arith
 whole_more most (suc r) = omega arith
 
-behind_none : (x : Frame) → wanted x ≡ None → supers_behind x ≡ 0
+behind_none : (x : Frame) → wanted_supertype x ≡ None → supers_behind x ≡ 0
 behind_none x h = past (supers x.file) (length x.accepted) h
   where
     past : {A : Type 0} (ys : List A) (k : ℕ) → slice_get ys k ≡ None → length ys - suc k ≡ 0
@@ -58,7 +58,7 @@ rooted_less most (suc r) x h k = none_less (supers_behind x) (whole most r) (mos
     none_less : (b w y : ℕ) → b ≡ 0 → suc (b * w) + 1 < 3 + y
     none_less b w y h = let e : b * w ≡ 0 * w = ap (λ (z : ℕ). z * w) h in omega arith
 
-pub root_falls : (most room : ℕ) (xs : List Frame) (x : Frame) → length xs < room → wanted x ≡ None → left_ended most room (xs ++ x ∷ []) < left_loading most room xs
+pub root_falls : (most room : ℕ) (xs : List Frame) (x : Frame) → length xs < room → wanted_supertype x ≡ None → left_ended most room (xs ++ x ∷ []) < left_loading most room xs
 root_falls most room xs x h none = less_than most (λ n. 1) (whole most) xs (x ∷ []) room (omega arith) (λ r e. rooted_less most r x (behind_none x none) (omega arith))
 
 pub load_falls : (most room : ℕ) (xs : List Frame) → length xs ≤ room → left_ended most room xs < left_loading most room xs
@@ -73,11 +73,11 @@ accepted_less : (most r : ℕ) (x y : Frame) → supers_behind x ≡ supers_behi
 accepted_less most zero x y h k = absurd (omega arith)
 accepted_less most (suc r) x y h k = next_less (supers_behind y) (supers_behind x) (whole most r) h
 
-pub accept_falls : (most room : ℕ) (xs : List Frame) (x : Frame) (t : Class) (b : Above) → length xs < room → wanted (accepting x t) ≡ Some b → left_loading most room (xs ++ accepting x t ∷ []) < left_ended most room (xs ++ x ∷ [])
+pub accept_falls : (most room : ℕ) (xs : List Frame) (x : Frame) (t : Class) (b : Above) → length xs < room → wanted_supertype (with_accepted x t) ≡ Some b → left_loading most room (xs ++ with_accepted x t ∷ []) < left_ended most room (xs ++ x ∷ [])
 accept_falls most room xs x t b h want =
     let within : length (x.accepted ++ t ∷ []) < length (supers x.file) = slice_get_within (supers x.file) (length (x.accepted ++ t ∷ [])) b want in
     let more : length (x.accepted ++ t ∷ []) ≡ length x.accepted + 1 = length-append x.accepted (t ∷ []) in
-    left_less most (whole most) (λ n. 1) xs (accepting x t ∷ []) (x ∷ []) room (omega arith) (λ r e. accepted_less most r x (accepting x t) (omega arith) (omega arith))
+    left_less most (whole most) (λ n. 1) xs (with_accepted x t ∷ []) (x ∷ []) room (omega arith) (λ r e. accepted_less most r x (with_accepted x t) (omega arith) (omega arith))
 
 popped_less : (most r : ℕ) (x : Frame) → 1 ≤ r → 1 < left most (λ n. 1) r (x ∷ [])
 popped_less most zero x h = absurd (omega arith)

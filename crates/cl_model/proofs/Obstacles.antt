@@ -8,7 +8,7 @@ use Rattle.cl_model.specs.Classes.{class, Error, Above, is_among, NoClassDef, Cl
 use Rattle.cl_model.specs.Lineages.{Forest, Bare, Kin}
 use Rattle.cl_model.specs.States.{Entry}
 use Rattle.cl_model.specs.Works.{Work, Made, ask, or_fail, unless_wrong, of_result}
-use Rattle.cl_model.specs.Plans.{initiating, load_by, loads_above, derive_new, derive}
+use Rattle.cl_model.specs.Plans.{initiating_needs, load_by, loads_above, derive_new, derive}
 use Rattle.cl_model.proofs.Bind.{bind_err, ok_not_err, err_same, step_is, or_fail_ok, or_fail_err, unless_ok, unless_err, result_ok, result_err, then_done_not}
 use Rattle.cl_model.proofs.Heights.{loaded, found, sought, grown, others_after, checked, finished, interfaces_next, superclass_next, circle_or}
 use Rattle.cl_model.proofs.Derived.{load_ok, above_good, derive_yields, Yields}
@@ -29,7 +29,7 @@ load_err w d absent loader name m e h k =
         | inr s ↦ inl (or_fail_err (absent (class name loader)) (home w loader name) s.first e s.made s.ended)
         | inl at ↦ elim (bind_err (d (class name at.value)) (loaded w loader name at.value) at.second e at.next at.ends) [
           | inr s ↦ inr (record { place = at.value; found = (or_fail_ok (absent (class name loader)) (home w loader name) at.first at.value at.made at.ended).0; below = s.first; made = s.made; ends = s.ended })
-          | inl b ↦ absurd (then_done_not (initiating loader name at.value) [] b.value b.second e b.next b.ends)
+          | inl b ↦ absurd (then_done_not (initiating_needs loader name at.value) [] b.value b.second e b.next b.ends)
         ]
       ]
     ]

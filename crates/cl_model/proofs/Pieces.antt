@@ -9,7 +9,7 @@ use Rattle.cl_model.specs.Classes.{class, same_class, is_among, Above, AllAtHome
 use Rattle.cl_model.specs.Lineages.{Kin, lineage}
 use Rattle.cl_model.specs.Preparation.{constraints_of}
 use Rattle.cl_model.specs.Ancestors.{SupersFirst}
-use Rattle.cl_model.specs.States.{State, Need, Verdict, IsSettling, AllMet, Refused, IsNext, IsRecorded, recorded, MayAdd}
+use Rattle.cl_model.specs.States.{State, Need, Verdict, IsSettling, AllMet, Refused, IsNext, IsRecorded, recorded_definer, MayAdd}
 use Rattle.cl_model.specs.Plans.{Request, Load, Resolve, Link, Plan, plan_needs}
 use Rattle.cl_model.specs.Machine.{Setting, Step, Settle, IsPlan, IsPastLoad, Answers, AnswersReference, MaySay, May, after, Run, IsClosed, Scheduled, Prepare, NextRound, HasLineage, MaySettle, MayGoOn, state_after, step_for}
 use Rattle.cl_model.specs.Service.{Want, ToStand, ToPrepare, Fulfils, FulfilsAll, IsFirst, MayServe, serving_step, to_stand, to_link, WantsPast, HasWants, SettlesByStep, IsNextStep, IsOver, ComesTo, IsBegun, IsLinkedIn, PassesRounds, AllServed}
@@ -145,7 +145,7 @@ past_may g s (Link loader name) p (Some c) past wants x closed is reach follows 
           let k = follows.0 in
           let at = lineage_of g.world c k follows.1 in
           let rec = reached_records g.world s (Link loader name) p c is reach (met_of s p.own a.0) in
-          let own : IsRecorded s c = subst (λ (n : Name). recorded s.records c.loader n ≡ Some c.loader) (sym rec.0) (closed.own loader c.loader name rec.1) in
+          let own : IsRecorded s c = subst (λ (n : Name). recorded_definer s.records c.loader n ≡ Some c.loader) (sym rec.0) (closed.own loader c.loader name rec.1) in
           let kept = lineage_kept g.world s k closed (subst (λ (d : Class). IsRecorded s d) (sym at.0) own) at.1 in
           links_may g s [] (lineage k) x kept (lineage_first g.world k at.1) (λ d e. absurd cc) (subst (λ (ws : List Want). IsFirst s ws x) follows.2 a.1) may
     ]

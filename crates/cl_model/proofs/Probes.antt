@@ -9,7 +9,7 @@ use Rattle.std.proofs.lemmas.Cmp.{nat_eq_equiv}
 use Rattle.std.proofs.lemmas.Bool.Decides.{nat_tests}
 use Rattle.std.proofs.Common.{arith}
 use Rattle.cl_classfile.specs.Files.{Name}
-use Rattle.cl_model.specs.Homes.{World, WorldLoader, Order, ParentFirst, ChildFirst, own_home, first_home, in_order, undecided, decisive, home_by_earlier, home_below, home, is_java, is_loader}
+use Rattle.cl_model.specs.Homes.{World, WorldLoader, Order, ParentFirst, ChildFirst, own_home, first_home, in_order, home_without_import, decisive, home_by_earlier, home_below, home, is_java, is_loader}
 use Rattle.cl_model.specs.Probes.{in_turn, route_at, route_below, route_from, route, is_in, first_places, probes, has_own, EachOnce}
 use Rattle.cl_model.proofs.Homes.{first_is_loader}
 use Rattle.cl_model.proofs.Derived.{all_both}
@@ -54,7 +54,7 @@ first_finds hit homes earlier h (p ∷ ps) =
     ∙ sym (find-append hit (earlier p) (flat_map earlier ps))
 
 at_finds : (w : World) (name : Name) (homes : ℕ → Option ℕ) (routes : ℕ → List ℕ) (n : ℕ) (l : WorldLoader) (d : Option ℕ) → ((m : ℕ) → homes m ≡ find (has_own w name) (routes m))
-    → elim d [ Some target ↦ homes target | None ↦ undecided w name homes n l ] ≡ find (has_own w name) (elim d [ Some target ↦ routes target | None ↦ in_turn l.order (flat_map routes l.parents) (n ∷ []) ])
+    → elim d [ Some target ↦ homes target | None ↦ home_without_import w name homes n l ] ≡ find (has_own w name) (elim d [ Some target ↦ routes target | None ↦ in_turn l.order (flat_map routes l.parents) (n ∷ []) ])
 at_finds w name homes routes n l (Some target) same = same target
 at_finds w name homes routes n l None same =
     turn_finds (has_own w name) l.order (first_home homes l.parents) (own_home w n name) (flat_map routes l.parents) (n ∷ []) (first_finds (has_own w name) homes routes same l.parents) refl

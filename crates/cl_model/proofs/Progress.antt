@@ -10,10 +10,10 @@ use Rattle.cl_model.specs.Homes.{World, home}
 use Rattle.cl_model.specs.declared.class.Class.{Class}
 use Rattle.cl_model.specs.Classes.{class, Error, Above, is_among, ClassNotFound, NoClassDef, NoSuchField, NoSuchMethod, IllegalAccess, read_class, misfit, superclass_of, superinterfaces_of, FitsAt, Good}
 use Rattle.cl_model.specs.Lineages.{Forest, Bare, Tree, Kin, StandsFor, IsLineage, alone, postorder, once_after, lineage, field_of, method_of, lookup_field, member_accessible, superinterfaces}
-use Rattle.cl_model.specs.Preparation.{equal_between, equals_of, equals_with, class_names, takes_part, overridden, for_declared, for_inherited, inherited_from, with_inherited, constraints_of}
-use Rattle.cl_model.specs.States.{State, Need, Entry, Equal, Verdict, IsField, IsMethod, Met, AllMet, Wrong, IsNext, MayAdd, recorded, IsRecorded, added}
+use Rattle.cl_model.specs.Preparation.{equal_between, equals_of, equals_with, class_names, takes_part, overridden_superclasses, for_declared, for_inherited, inherited_from, with_inherited, constraints_of}
+use Rattle.cl_model.specs.States.{State, Need, Entry, Equal, Verdict, IsField, IsMethod, Met, AllMet, Wrong, IsNext, MayAdd, recorded_definer, IsRecorded, with_need}
 use Rattle.cl_model.specs.Works.{Work, Made, done, need, ask, or_fail, unless_wrong, of_result, ◌>>=◌}
-use Rattle.cl_model.specs.Plans.{initiating, load_by, loads_above, derive_new, derive, load, class_named, inaccessible, resolve_found, resolve_field, resolve_method, resolve_in, through, resolve_named, resolve, flags_of, Request, Load, Resolve, Link, loaded_by, go_on_with, Plan, plan_after, plan_from, plan_needs}
+use Rattle.cl_model.specs.Plans.{initiating_needs, load_by, loads_above, derive_new, derive, load, class_named, inaccessible, resolve_found, resolve_field, resolve_method, resolve_in, through, resolve_named, resolve, flags_of, Request, Load, Resolve, Link, loaded_by, go_on_with, Plan, plan_after, plan_from, plan_needs}
 use Rattle.cl_model.specs.Machine.{Setting, Define, Initiate, May, IsClosed, HasLineage, IsPlan, step_for, after}
 use Rattle.cl_model.proofs.Bind.{pieces, some_same, or_fail_ok, result_ok, value_same}
 use Rattle.cl_model.proofs.Heights.{loaded, found, sought, grown, others_after, checked, finished, interfaces_next, superclass_next, circle_or}
@@ -93,12 +93,12 @@ derive_records w s (suc n) path c m k h e met =
 
 -- a load whose needs are met has its record
 asked_met : (s : State) (loader place : ℕ) (name : Name) (b : Bool) → (loader == place) ≡ b → Met s (Entry place name place) → AllMet s ((if b then [] else Entry loader name place ∷ []) ++ []) → Met s (Entry loader name place)
-asked_met s loader place name true e d h = subst (λ (x : ℕ). recorded s.records x name ≡ Some place) (sym (eqb-true loader place e)) d
+asked_met s loader place name true e d h = subst (λ (x : ℕ). recorded_definer s.records x name ≡ Some place) (sym (eqb-true loader place e)) d
 asked_met s loader place name false e d h = h.0
 
 pub load_records : (w : World) (s : State) (d : Class → Work Kin) → Records s d → (loader : ℕ) (name : Name) (m : Made Kin) (k : Kin) → (l : IsLoad w d loader name m k) → AllMet s m.needs → Met s (Entry loader name l.place) × Met s (Entry l.place name l.place)
 load_records w s d r loader name m k l met =
-    let both = met_split s l.below.needs (initiating loader name l.place ++ []) (subst (λ (x : List Need). AllMet s x) l.needs met) in
+    let both = met_split s l.below.needs (initiating_needs loader name l.place ++ []) (subst (λ (x : List Need). AllMet s x) l.needs met) in
     let own = r (class name l.place) l.below k l.made l.ends both.0 in
     (asked_met s loader l.place name (loader == l.place) refl own both.1, own)
 
@@ -109,7 +109,7 @@ load_makes g s P d r ih absent loader name =
     makes_then g s P (ask loader name) (sought g.world d absent loader name) (none_next g s P _ refl) (λ a x hx ex mx.
     makes_then g s P (or_fail (absent (class name loader)) (home g.world loader name)) (found g.world d loader name) (or_fail_makes g s P (absent (class name loader)) (home g.world loader name)) (λ place y hy ey my.
     makes_then g s P (d (class name place)) (loaded g.world loader name place) (ih (class name place)) (λ k z hz ez mz.
-    makes_then g s P (need (initiating loader name place)) (λ (b : Unit {0}). done k)
+    makes_then g s P (need (initiating_needs loader name place)) (λ (b : Unit {0}). done k)
     (λ m h n p next may. initiate_may g s loader place name (loader == place) refl (or_fail_ok (absent (class name loader)) (home g.world loader name) y place hy ey).0 (r (class name place) z k hz ez mz) n (subst (λ (q : List Need). IsNext s q n) (ap (λ (q : Made (Unit {0})). q.needs) (sym (some_same _ m h))) next) may)
     (λ b u hu eu mu. none_next g s P _ refl))))
 
@@ -269,8 +269,8 @@ inherited_are key j (Some a) = equals_are (class_names key.descriptor) a.class.l
 pub constraints_are : (c : Kin) → AllByRecursion IsEquality (constraints_of c)
 constraints_are c =
     all_both IsEquality (flat_map (for_declared c) c.file.methods) (if is_interface c.file then [] else flat_map (λ j. flat_map (for_inherited c j) j.file.methods) (superinterfaces c))
-    (flat_are (for_declared c) (λ m. if_are (takes_part m.key c) _ [] (all_both IsEquality (if is_interface c.file then [] else equals_with m.key c.class.loader (overridden m.key c)) (equals_with m.key c.class.loader (filter (takes_part m.key) (superinterfaces c)))
-    (if_are (is_interface c.file) [] _ tt (equals_with_are m.key c.class.loader (overridden m.key c)))
+    (flat_are (for_declared c) (λ m. if_are (takes_part m.key c) _ [] (all_both IsEquality (if is_interface c.file then [] else equals_with m.key c.class.loader (overridden_superclasses m.key c)) (equals_with m.key c.class.loader (filter (takes_part m.key) (superinterfaces c)))
+    (if_are (is_interface c.file) [] _ tt (equals_with_are m.key c.class.loader (overridden_superclasses m.key c)))
     (equals_with_are m.key c.class.loader (filter (takes_part m.key) (superinterfaces c)))) tt) c.file.methods)
     (if_are (is_interface c.file) [] _ tt (flat_are (λ j. flat_map (for_inherited c j) j.file.methods) (λ j. flat_are (for_inherited c j) (λ m. if_are (takes_part m.key j && not (is_some (method_of c m.key))) _ [] (inherited_are m.key j (inherited_from c m.key)) tt) j.file.methods) (superinterfaces c)))
 
@@ -374,11 +374,11 @@ next_may g s q p n closed is next may =
               on_next g s is.height q k on.0 n closed (subst (λ (x : Class). IsRecorded s x) (sym c.0) rec) (lineage_is_derived g.world k c.1) on.1 y.1 may
         ]
 
-step_at : (s : State) (loader place : ℕ) (name : Name) (b : Bool) → (loader == place) ≡ b → after s (if b then Define (class name place) else Initiate name place loader) ≡ added s (Entry loader name place)
-step_at s loader place name true e = ap (λ (x : ℕ). added s (Entry x name place)) (sym (eqb-true loader place e))
+step_at : (s : State) (loader place : ℕ) (name : Name) (b : Bool) → (loader == place) ≡ b → after s (if b then Define (class name place) else Initiate name place loader) ≡ with_need s (Entry loader name place)
+step_at s loader place name true e = ap (λ (x : ℕ). with_need s (Entry x name place)) (sym (eqb-true loader place e))
 step_at s loader place name false e = refl
 
 -- the step adds the need
-pub step_adds : (s : State) (n : Need) → after s (step_for n) ≡ added s n
+pub step_adds : (s : State) (n : Need) → after s (step_for n) ≡ with_need s n
 step_adds s (Entry loader name place) = step_at s loader place name (loader == place) refl
 step_adds s (Equal name a b) = refl

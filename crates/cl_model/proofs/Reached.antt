@@ -6,11 +6,11 @@ use Rattle.cl_classfile.specs.Files.{Name, File, same_name, FileFault}
 use Rattle.cl_model.specs.Content.{content_at}
 use Rattle.cl_model.specs.Homes.{World, home}
 use Rattle.cl_model.specs.declared.class.Class.{Class}
-use Rattle.cl_model.specs.Classes.{class, Error, ClassNotFound, NoClassDef, named, is_own, bytes_of, read_found, HasFile}
+use Rattle.cl_model.specs.Classes.{class, Error, ClassNotFound, NoClassDef, file_if_named, is_own, bytes_of, read_found, HasFile}
 use Rattle.cl_model.specs.Lineages.{Kin}
 use Rattle.cl_model.specs.States.{State, Need, Verdict, Wrong, Said, answer_to, AllMet}
 use Rattle.cl_model.specs.Works.{Made}
-use Rattle.cl_model.specs.Plans.{derive, load, Request, Resolve, loaded_by, go_on_with, Plan, ending, plan_after, plan_from, plan, plan_needs}
+use Rattle.cl_model.specs.Plans.{derive, load, Request, Resolve, loaded_by, go_on_with, Plan, ending_verdict, plan_after, plan_from, plan, plan_needs}
 use Rattle.cl_model.specs.Machine.{Setting, HasLineage, IsPlan, Answers, AnswersPlan, AnswersReference, IsSound, Scheduled}
 use Rattle.cl_model.proofs.Bind.{some_same}
 use Rattle.cl_model.proofs.Derived.{load_ok}
@@ -88,7 +88,7 @@ pub reference_is_plan : (g : Setting) (s : State) (loader : ℕ) (name : Name) (
 reference_is_plan g s loader name i p d v is r met a =
     let x = reached g.world is.height (Resolve loader name i) p d is.planned r in
     let same : a.made ≡ x.rest = one_resolution g.world d i a.made x.rest a.resolved (record { kin = x.kin; above = x.lineage; height = is.height; made = x.goes_on }) in
-    let more : Answers s x.rest.needs (ending x.rest.ends) v = subst (λ (m : Made Verdict). Answers s m.needs (ending m.ends) v) same a.answered in
+    let more : Answers s x.rest.needs (ending_verdict x.rest.ends) v = subst (λ (m : Made Verdict). Answers s m.needs (ending_verdict m.ends) v) same a.answered in
     record { plan = p; planned = is; answered = answers_before s p.own p.more p.ends v met (subst (λ (y : Plan). Answers s y.more y.ends v) (sym x.is) more) }
 
 pub plan_is_reference : (g : Setting) (s : State) (loader : ℕ) (name : Name) (i : ℕ) (p : Plan) (d : Class) (v : Verdict) → IsPlan g.world (Resolve loader name i) p → p.reached ≡ Some d → AllMet s p.own → AnswersPlan g s (Resolve loader name i) v → AnswersReference g s d i v
@@ -124,7 +124,7 @@ if_ok : (b : Bool) (f x : File) (e : Error) → (if b then Ok f else Err e) ≡ 
 if_ok true f x e h = (refl, cc)
 if_ok false f x e h = absurd cc
 
-named_ok : (c : Class) (r : Result File FileFault) (f : File) → named c r ≡ Ok f → (r ≡ Ok f) × (f.name ≡ c.name)
+named_ok : (c : Class) (r : Result File FileFault) (f : File) → file_if_named c r ≡ Ok f → (r ≡ Ok f) × (f.name ≡ c.name)
 named_ok c (Err fault) f h = absurd cc
 named_ok c (Ok x) f h =
     let both = if_ok (same_name x.name c.name) x f (NoClassDef c) h in

@@ -8,7 +8,7 @@ use Rattle.std.proofs.lemmas.Bool.{eqb-true, and_parts}
 use Rattle.std.proofs.Common.{nat_eq, ◌≢◌, ◌<◌, arith, slice_index_or}
 use Rattle.std.proofs.lemmas.Cmp.{nat_eq_equiv, nat_list_eq_equiv}
 use Rattle.cl_classfile.specs.Files.{Name, same_name}
-use Rattle.cl_model.specs.States.{State, start, Record, Equality, Need, Entry, Equal, Verdict, recorded, Linked, IsPathBetween, Joined, Violated, Met, Clashes, Refused, added, IsFresh}
+use Rattle.cl_model.specs.States.{State, start, Record, Equality, Need, Entry, Equal, Verdict, recorded_definer, Linked, IsPathBetween, Joined, Violated, Met, Clashes, Refused, with_need, IsFresh}
 use Rattle.cl_model.specs.Machine.{Setting, Step, Define, Initiate, Constrain, Settle, Prepare, Post, NextRound, Stray, May, after, state_after, Run, Answers}
 
 pub run_goes_on : (g : Setting) (s : State) (es : List Step) (e : Step) → Run g s es → May g (state_after s es) e → Run g s (es ++ e ∷ [])
@@ -17,14 +17,14 @@ run_goes_on g s (f ∷ es) e run may = (run.0, run_goes_on g (after s f) es e ru
 
 -- a later state has all records and equalities of an earlier one
 pub record IsLater (s t : State) : Type 0 where
-  pub records : (loader place : ℕ) (name : Name) → recorded s.records loader name ≡ Some place → recorded t.records loader name ≡ Some place
+  pub records : (loader place : ℕ) (name : Name) → recorded_definer s.records loader name ≡ Some place → recorded_definer t.records loader name ≡ Some place
   pub equalities : (e : Equality) → Contains s.equalities e → Contains t.equalities e
 
 pub or_map : {A B : Type 0} (f : A → B) (a b : Option A) (y : B) → option_map f a ≡ Some y → option_map f (option_or a b) ≡ Some y
 or_map f None b y h = absurd cc
 or_map f (Some x) b y h = h
 
-recorded_more : (rs more : List Record) (loader place : ℕ) (name : Name) → recorded rs loader name ≡ Some place → recorded (rs ++ more) loader name ≡ Some place
+recorded_more : (rs more : List Record) (loader place : ℕ) (name : Name) → recorded_definer rs loader name ≡ Some place → recorded_definer (rs ++ more) loader name ≡ Some place
 recorded_more rs more loader place name h =
     let p = λ (r : Record). (r.loader == loader) && same_name r.name name in
     rw (find-append p rs more) (or_map (λ (r : Record). r.place) (find p rs) (find p more) place h)
@@ -35,7 +35,7 @@ same_later s = record { records = λ l p n h. h; equalities = λ e h. h }
 later_later : (s t u : State) → IsLater s t → IsLater t u → IsLater s u
 later_later s t u a b = record { records = λ l p n h. b.records l p n (a.records l p n h); equalities = λ e h. b.equalities e (a.equalities e h) }
 
-pub added_later : (s : State) (n : Need) → IsLater s (added s n)
+pub added_later : (s : State) (n : Need) → IsLater s (with_need s n)
 added_later s (Entry loader name place) = record { records = λ l p n h. recorded_more s.records (record { loader = loader; name = name; place = place } ∷ []) l p n h; equalities = λ e h. h }
 added_later s (Equal name a b) = record { records = λ l p n h. h; equalities = λ e h. Contains-append_left s.equalities (record { name = name; one = a; other = b } ∷ []) e h }
 
@@ -53,7 +53,7 @@ pub run_later : (s : State) (es : List Step) → IsLater s (state_after s es)
 run_later s [] = same_later s
 run_later s (e ∷ es) = later_later s (after s e) (state_after s (e ∷ es)) (after_later s e) (run_later (after s e) es)
 
-pub records_stay : (s : State) (es : List Step) (loader place : ℕ) (name : Name) → recorded s.records loader name ≡ Some place → recorded (state_after s es).records loader name ≡ Some place
+pub records_stay : (s : State) (es : List Step) (loader place : ℕ) (name : Name) → recorded_definer s.records loader name ≡ Some place → recorded_definer (state_after s es).records loader name ≡ Some place
 records_stay s es loader place name h = (run_later s es).records loader place name h
 
 path_later : (s t : State) → IsLater s t → (name : Name) (a : ℕ) (path : List ℕ) (b : ℕ) → IsPathBetween s.equalities name a path b → IsPathBetween t.equalities name a path b
@@ -78,12 +78,12 @@ violated_as s t r e v =
       name = v.name;
       one = v.one;
       place = v.place;
-      first = subst (λ (x : List Record). recorded x v.one v.name ≡ Some v.place) (sym r) v.first;
+      first = subst (λ (x : List Record). recorded_definer x v.one v.name ≡ Some v.place) (sym r) v.first;
       differs = record {
         other = v.differs.other;
         other_place = v.differs.other_place;
         joined = subst (λ (x : List Equality). Joined x v.name v.one v.differs.other) (sym e) v.differs.joined;
-        recorded_there = subst (λ (x : List Record). recorded x v.differs.other v.name ≡ Some v.differs.other_place) (sym r) v.differs.recorded_there;
+        recorded_there = subst (λ (x : List Record). recorded_definer x v.differs.other v.name ≡ Some v.differs.other_place) (sym r) v.differs.recorded_there;
         differ = v.differs.differ;
       };
     }
@@ -178,23 +178,23 @@ or_found : (r : Record) (loader place : ℕ) (name : Name) (a : Option Record) �
 or_found r loader place name None h = inr (found_added r loader place name ((r.loader == loader) && same_name r.name name) refl h)
 or_found r loader place name (Some x) h = inl h
 
-pub recorded_added : (rs : List Record) (r : Record) (loader place : ℕ) (name : Name) → recorded (rs ++ r ∷ []) loader name ≡ Some place → (recorded rs loader name ≡ Some place) ⊎ ((r.loader ≡ loader) × (r.name ≡ name) × (r.place ≡ place))
+pub recorded_added : (rs : List Record) (r : Record) (loader place : ℕ) (name : Name) → recorded_definer (rs ++ r ∷ []) loader name ≡ Some place → (recorded_definer rs loader name ≡ Some place) ⊎ ((r.loader ≡ loader) × (r.name ≡ name) × (r.place ≡ place))
 recorded_added rs r loader place name h =
     let test = λ (x : Record). (x.loader == loader) && same_name x.name name in
     or_found r loader place name (find test rs) (rw (find-append test rs (r ∷ [])) at h)
 
 -- the same loader, name and place, in other words
-moved : (s : State) (name m : Name) (x y p q : ℕ) → x ≡ y → name ≡ m → p ≡ q → (other other_place : ℕ) → Joined s.equalities m y other → recorded s.records other m ≡ Some other_place → q ≢ other_place → Clashes s (Entry x name p)
+moved : (s : State) (name m : Name) (x y p q : ℕ) → x ≡ y → name ≡ m → p ≡ q → (other other_place : ℕ) → Joined s.equalities m y other → recorded_definer s.records other m ≡ Some other_place → q ≢ other_place → Clashes s (Entry x name p)
 moved s name m x y p q ex em ep other other_place j r d =
     record {
       other = other;
       other_place = other_place;
       joined = subst (λ (n : Name). Joined s.equalities n x other) (sym em) (subst (λ (z : ℕ). Joined s.equalities m z other) (sym ex) j);
-      recorded_there = subst (λ (n : Name). recorded s.records other n ≡ Some other_place) (sym em) r;
+      recorded_there = subst (λ (n : Name). recorded_definer s.records other n ≡ Some other_place) (sym em) r;
       differ = λ e. d (sym ep ∙ e);
     }
 
-entry_kept : (s : State) (loader place : ℕ) (name : Name) → Violated (added s (Entry loader name place)) → Violated s ⊎ Clashes s (Entry loader name place)
+entry_kept : (s : State) (loader place : ℕ) (name : Name) → Violated (with_need s (Entry loader name place)) → Violated s ⊎ Clashes s (Entry loader name place)
 entry_kept s loader place name v =
     elim (recorded_added s.records (record { loader = loader; name = name; place = place }) v.one v.place v.name v.first) [
       | inl a ↦ elim (recorded_added s.records (record { loader = loader; name = name; place = place }) v.differs.other v.differs.other_place v.name v.differs.recorded_there) [
@@ -273,17 +273,17 @@ path_added ks e name x (c ∷ cs) y h =
     ]
 
 -- what an equality would join divides two records
-divided : (s : State) (name m : Name) (a b x y p q : ℕ) → name ≡ m → Joined s.equalities m x a → Joined s.equalities m b y → recorded s.records x m ≡ Some p → recorded s.records y m ≡ Some q → p ≢ q → Clashes s (Equal name a b)
+divided : (s : State) (name m : Name) (a b x y p q : ℕ) → name ≡ m → Joined s.equalities m x a → Joined s.equalities m b y → recorded_definer s.records x m ≡ Some p → recorded_definer s.records y m ≡ Some q → p ≢ q → Clashes s (Equal name a b)
 divided s name m a b x y p q e j k r t d =
     record {
       one = x;
       place = p;
       joined = subst (λ (n : Name). Joined s.equalities n a x) (sym e) (joined_back s.equalities m x a j);
-      recorded_there = subst (λ (n : Name). recorded s.records x n ≡ Some p) (sym e) r;
+      recorded_there = subst (λ (n : Name). recorded_definer s.records x n ≡ Some p) (sym e) r;
       differs = moved s name m b b p p refl e refl y q k t d;
     }
 
-equal_kept_at : (s : State) (name : Name) (a b : ℕ) → (v : Violated (added s (Equal name a b))) → Through s.equalities (record { name = name; one = a; other = b }) v.name v.one v.differs.other → Violated s ⊎ Clashes s (Equal name a b)
+equal_kept_at : (s : State) (name : Name) (a b : ℕ) → (v : Violated (with_need s (Equal name a b))) → Through s.equalities (record { name = name; one = a; other = b }) v.name v.one v.differs.other → Violated s ⊎ Clashes s (Equal name a b)
 equal_kept_at s name a b v (inl j) = inl (record { name = v.name; one = v.one; place = v.place; first = v.first; differs = record { other = v.differs.other; other_place = v.differs.other_place; joined = j; recorded_there = v.differs.recorded_there; differ = v.differs.differ } })
 equal_kept_at s name a b v (inr h) =
     elim (h.1) [
@@ -295,11 +295,11 @@ equal_kept_at s name a b v (inr h) =
     ]
 
 -- where adding a need violates, it clashes, or something was violated before
-pub violation_clashes : (s : State) (n : Need) → Violated (added s n) → Violated s ⊎ Clashes s n
+pub violation_clashes : (s : State) (n : Need) → Violated (with_need s n) → Violated s ⊎ Clashes s n
 violation_clashes s (Entry loader name place) v = entry_kept s loader place name v
 violation_clashes s (Equal name a b) v = equal_kept_at s name a b v (path_added s.equalities (record { name = name; one = a; other = b }) v.name v.one v.differs.joined.path v.differs.other v.differs.joined.along)
 
-pub adds : (s : State) (n : Need) → (Clashes s n → ⊥) → (Violated s → ⊥) → Violated (added s n) → ⊥
+pub adds : (s : State) (n : Need) → (Clashes s n → ⊥) → (Violated s → ⊥) → Violated (with_need s n) → ⊥
 adds s n fits u v = elim (violation_clashes s n v) [ inl k ↦ u k | inr k ↦ fits k ]
 
 pub keeps : (g : Setting) (s : State) (e : Step) → May g s e → (Violated s → ⊥) → Violated (after s e) → ⊥
@@ -335,14 +335,14 @@ answers_stay g s es ns ends v u run h = answers_later s (state_after s es) (run_
 
 -- ---- what clashes would violate
 
-pub record_found : (rs : List Record) (r : Record) → recorded rs r.loader r.name ≡ None → recorded (rs ++ r ∷ []) r.loader r.name ≡ Some r.place
+pub record_found : (rs : List Record) (r : Record) → recorded_definer rs r.loader r.name ≡ None → recorded_definer (rs ++ r ∷ []) r.loader r.name ≡ Some r.place
 record_found [] r h = ap (λ (b : Bool). option_map (λ (x : Record). x.place) (if b then Some r else None)) (self r.loader r.name)
   where
     self : (l : ℕ) (n : Name) → ((l == l) && same_name n n) ≡ true
     self l n = rw (nat_eq_equiv.refl l) (nat_list_eq_equiv.refl n)
 record_found (x ∷ rs) r h = at ((x.loader == r.loader) && same_name x.name r.name) (λ q. record_found rs r q) h
   where
-    at : (b : Bool) → (recorded rs r.loader r.name ≡ None → recorded (rs ++ r ∷ []) r.loader r.name ≡ Some r.place) → option_map (λ (y : Record). y.place) (if b then Some x else find (λ (y : Record). (y.loader == r.loader) && same_name y.name r.name) rs) ≡ None → option_map (λ (y : Record). y.place) (if b then Some x else find (λ (y : Record). (y.loader == r.loader) && same_name y.name r.name) (rs ++ r ∷ [])) ≡ Some r.place
+    at : (b : Bool) → (recorded_definer rs r.loader r.name ≡ None → recorded_definer (rs ++ r ∷ []) r.loader r.name ≡ Some r.place) → option_map (λ (y : Record). y.place) (if b then Some x else find (λ (y : Record). (y.loader == r.loader) && same_name y.name r.name) rs) ≡ None → option_map (λ (y : Record). y.place) (if b then Some x else find (λ (y : Record). (y.loader == r.loader) && same_name y.name r.name) (rs ++ r ∷ [])) ≡ Some r.place
     at true ih k = absurd cc
     at false ih k = ih k
 
@@ -350,10 +350,10 @@ pub last_linked : (ks : List Equality) (name : Name) (a b : ℕ) → Linked (ks 
 last_linked ks name a b = record { equality = record { name = name; one = a; other = b }; imposed = Contains-append_right ks (record { name = name; one = a; other = b } ∷ []) (record { name = name; one = a; other = b }) (0, omega arith, refl); named = refl; ends = inl (refl, refl) }
 
 -- a fresh need that clashes would violate, if it were added
-pub clash_violates : (s : State) (n : Need) → IsFresh s n → Clashes s n → Violated (added s n)
+pub clash_violates : (s : State) (n : Need) → IsFresh s n → Clashes s n → Violated (with_need s n)
 clash_violates s (Entry loader name place) fresh h =
     let n = Entry loader name place in
-    met_clash (added s n) n (record_found s.records (record { loader = loader; name = name; place = place }) fresh) (clash_later s (added s n) (added_later s n) n h)
+    met_clash (with_need s n) n (record_found s.records (record { loader = loader; name = name; place = place }) fresh) (clash_later s (with_need s n) (added_later s n) n h)
 clash_violates s (Equal name a b) fresh h =
     let n = Equal name a b in
-    met_clash (added s n) n (joined_link (added s n).equalities name a b (last_linked s.equalities name a b)) (clash_later s (added s n) (added_later s n) n h)
+    met_clash (with_need s n) n (joined_link (with_need s n).equalities name a b (last_linked s.equalities name a b)) (clash_later s (with_need s n) (added_later s n) n h)

@@ -6,7 +6,7 @@ use Rattle.cl_model.specs.declared.class.Class.{Class}
 use Rattle.cl_model.specs.Homes.{World}
 use Rattle.cl_model.specs.Classes.{class, Error, ClassNotFound, IsGood}
 use Rattle.cl_model.specs.Lineages.{Kin, Bare, alone}
-use Rattle.cl_model.specs.States.{State, Verdict, Need, Met, Said, Entry, Equal, Equality, Joined, IsPathBetween, MayAdd, answer_to, recorded, settled_to, start}
+use Rattle.cl_model.specs.States.{State, Verdict, Need, Met, Said, Entry, Equal, Equality, Joined, IsPathBetween, MayAdd, answer_to, recorded_definer, settled_to, start}
 use Rattle.cl_model.specs.Works.{Made}
 use Rattle.cl_model.specs.Plans.{derive, resolve, Plan, Request}
 use Rattle.cl_model.specs.Machine.{HasLineage, IsResolution, Answers, Setting, Scheduled, IsPlan, RestsOn, MayPost, MaySay, NextRound, Prepare, state_after}
@@ -31,17 +31,17 @@ joined_alone ks name a b none h = along h.path (subst (λ (es : List Equality). 
     along (c ∷ cs) h = absurd (no_equality h.0.equality h.0.imposed)
 
 -- without an equality a record may be added where there is none
-pub free_entry : (s : State) (name : Name) (loader place : ℕ) → s.equalities ≡ [] → recorded s.records loader name ≡ None → MayAdd s (Entry loader name place)
+pub free_entry : (s : State) (name : Name) (loader place : ℕ) → s.equalities ≡ [] → recorded_definer s.records loader name ≡ None → MayAdd s (Entry loader name place)
 free_entry s name loader place none fresh = record {
   unmet = λ h. missing (sym fresh ∙ h);
-  fits = λ d. missing (sym fresh ∙ subst (λ (l : ℕ). recorded s.records l name ≡ Some d.other_place) (sym (joined_alone s.equalities name loader d.other none d.joined)) d.recorded_there);
+  fits = λ d. missing (sym fresh ∙ subst (λ (l : ℕ). recorded_definer s.records l name ≡ Some d.other_place) (sym (joined_alone s.equalities name loader d.other none d.joined)) d.recorded_there);
 }
 
 -- the first equality may be imposed where one of its loaders has no record
-pub free_equal : (s : State) (name : Name) (a b : ℕ) → s.equalities ≡ [] → a ≢ b → recorded s.records a name ≡ None → MayAdd s (Equal name a b)
+pub free_equal : (s : State) (name : Name) (a b : ℕ) → s.equalities ≡ [] → a ≢ b → recorded_definer s.records a name ≡ None → MayAdd s (Equal name a b)
 free_equal s name a b none differ fresh = record {
   unmet = λ h. differ (joined_alone s.equalities name a b none h);
-  fits = λ d. missing (sym fresh ∙ subst (λ (l : ℕ). recorded s.records l name ≡ Some d.place) (sym (joined_alone s.equalities name a d.one none d.joined)) d.recorded_there);
+  fits = λ d. missing (sym fresh ∙ subst (λ (l : ℕ). recorded_definer s.records l name ≡ Some d.place) (sym (joined_alone s.equalities name a d.one none d.joined)) d.recorded_there);
 }
 
 -- a class that has a lineage is good

@@ -4,7 +4,7 @@ use Rattle.std.proofs.lemmas.Cmp.{nat_eq_equiv}
 use Rattle.cl_classfile.specs.Files.{Name}
 use Rattle.cl_model.specs.Homes.{World}
 use Rattle.cl_model.specs.Classes.{class}
-use Rattle.cl_model.specs.States.{State, Need, Entry, Equal, Verdict, Answer, recorded, Met, MayAdd, IsNext, added}
+use Rattle.cl_model.specs.States.{State, Need, Entry, Equal, Verdict, Answer, recorded_definer, Met, MayAdd, IsNext, with_need}
 use Rattle.cl_model.specs.Plans.{Request, Load, Resolve, Plan, plan_needs}
 use Rattle.cl_model.specs.Machine.{Setting, Scheduled, Step, Define, Post, IsPlan, Answers, AnswersPlan, MaySay, after, state_after, step_for, Run, May}
 use Rattle.cl_model.specs.Service.{Want, ToStand, to_stand, IsFirst, HasWants, IsNextNeed, IsNextStep, IsOver, ComesTo, MayEnd, Serves, IsBegun, PassesRounds, AllServed}
@@ -14,7 +14,7 @@ use Rattle.cl_model.proofs.Views.{state_then}
 
 -- ---- a need that may be added is met once its step was made
 
-pub no_record : (s : State) (loader place : ℕ) (name : Name) → MayAdd s (Entry loader name place) → (o : Option ℕ) → recorded s.records loader name ≡ o → o ≡ None
+pub no_record : (s : State) (loader place : ℕ) (name : Name) → MayAdd s (Entry loader name place) → (o : Option ℕ) → recorded_definer s.records loader name ≡ o → o ≡ None
 no_record s loader place name may None h = refl
 no_record s loader place name may (Some p) h =
     absurd (may.fits (record {
@@ -25,10 +25,10 @@ no_record s loader place name may (Some p) h =
       differ = λ e. may.unmet (h ∙ ap (λ (x : ℕ). Some x) (sym e));
     }))
 
-added_met : (s : State) (n : Need) → MayAdd s n → Met (added s n) n
+added_met : (s : State) (n : Need) → MayAdd s n → Met (with_need s n) n
 added_met s (Entry loader name place) may =
-    record_found s.records (record { loader = loader; name = name; place = place }) (no_record s loader place name may (recorded s.records loader name) refl)
-added_met s (Equal name a b) may = joined_link (added s (Equal name a b)).equalities name a b (last_linked s.equalities name a b)
+    record_found s.records (record { loader = loader; name = name; place = place }) (no_record s loader place name may (recorded_definer s.records loader name) refl)
+added_met s (Equal name a b) may = joined_link (with_need s (Equal name a b)).equalities name a b (last_linked s.equalities name a b)
 
 pub made_met : (s : State) (n : Need) → MayAdd s n → Met (after s (step_for n)) n
 made_met s n may = subst (λ (t : State). Met t n) (sym (step_adds s n)) (added_met s n may)

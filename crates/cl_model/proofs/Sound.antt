@@ -10,7 +10,7 @@ use Rattle.cl_model.specs.declared.class.Class.{Class}
 use Rattle.cl_model.specs.Classes.{same_class, Above, AllAtHome, supers}
 use Rattle.cl_model.specs.Preparation.{constraints_of}
 use Rattle.cl_model.specs.States.{State, start, Need, Verdict, Answer, Said, OutOfMemory, SourceFault, Settled, Posted, settled_to, answer_to, Violated, AllMet}
-use Rattle.cl_model.specs.Plans.{Request, Load, Resolve, Link, Plan, plan_needs, ending}
+use Rattle.cl_model.specs.Plans.{Request, Load, Resolve, Link, Plan, plan_needs, ending_verdict}
 use Rattle.cl_model.specs.Works.{Made}
 use Rattle.cl_model.specs.Machine.{Setting, Step, Define, Initiate, Constrain, Settle, Prepare, Post, NextRound, Stray, May, after, state_after, Run, Answers, AnswersPlan, AnswersReference, MayAnswer, RestsOn, IsClosed, IsPreparable, IsSettled, IsAnswered, IsSound}
 use Rattle.cl_model.proofs.Runs.{IsLater, after_later, run_later, met_later, refused_later, answers_later, keeps, start_unviolated, stays_unviolated, one_answer, or_map, contains_one}
@@ -98,7 +98,7 @@ one_plan_answer g s q v u a b =
 pub one_reference_answer : (g : Setting) (s : State) (d : Class) (i : ℕ) (v u : Verdict) → AnswersReference g s d i v → AnswersReference g s d i u → v ≡ u
 one_reference_answer g s d i v u a b =
     let same : a.made ≡ b.made = one_resolution g.world d i a.made b.made a.resolved b.resolved in
-    one_answer s b.made.needs (ending b.made.ends) v u (subst (λ (m : Made Verdict). Answers s m.needs (ending m.ends) v) same a.answered) b.answered
+    one_answer s b.made.needs (ending_verdict b.made.ends) v u (subst (λ (m : Made Verdict). Answers s m.needs (ending_verdict m.ends) v) same a.answered) b.answered
 
 -- ---- what a posted verdict rests on stays
 

@@ -7,24 +7,24 @@ use Rattle.cl_classfile.specs.Files.{Name, File}
 use Rattle.cl_model.specs.Homes.{World, home}
 use Rattle.cl_model.specs.declared.class.Class.{Class}
 use Rattle.cl_model.specs.Classes.{same_class, is_among, Above, AsSuperclass, AsSuperinterface, superclass_of, superinterfaces_of, supers}
-use Rattle.cl_model.specs.States.{State, Need, entry_for, Linkage, Keeps, AllMet, Refused, recorded}
+use Rattle.cl_model.specs.States.{State, Need, entry_for, Linkage, Keeps, AllMet, Refused, recorded_definer}
 use Rattle.cl_model.specs.Plans.{Request, plan_needs}
 use Rattle.cl_model.specs.Machine.{Setting, Step, state_after, AnswersPlan}
 use Rattle.cl_model.specs.Service.{IsNextNeed}
 use Rattle.cl_model.proofs.Bind.{some_same}
 use Rattle.cl_model.proofs.Runs.{records_stay}
-use Rattle.cl_model.specs.Frames.{Frame, wanted, Judged, AcceptsFirst, NamedAs, KeepsAccepted, AllKept, IsFrame, IsFrames, path_of, asking, kept_of, accepting}
+use Rattle.cl_model.specs.Frames.{Frame, wanted_supertype, Judged, AcceptsFirst, NamedAs, KeepsAccepted, AllKept, IsFrame, IsFrames, path_of, asking_loader, kept_of, with_accepted}
 use Rattle.cl_model.proofs.Gone.{refused_answer}
 
 -- ---- frames
 
-pub frame_push : (w : World) (path : List Class) (loader al : ℕ) (name : Name) (xs : List Frame) (x : Frame) (a : Above) → IsFrames w path loader name xs al x.class.name → IsFrame w (path_of path xs) al x.class.name x → wanted x ≡ Some a → IsFrames w path loader name (xs ++ x ∷ []) x.class.loader a.name
+pub frame_push : (w : World) (path : List Class) (loader al : ℕ) (name : Name) (xs : List Frame) (x : Frame) (a : Above) → IsFrames w path loader name xs al x.class.name → IsFrame w (path_of path xs) al x.class.name x → wanted_supertype x ≡ Some a → IsFrames w path loader name (xs ++ x ∷ []) x.class.loader a.name
 frame_push w path loader al name [] x a f k h =
     (record { named = f.1; found = subst (λ (l : ℕ). home w l name ≡ Some x.class.loader) (sym f.0) (subst (λ (z : Name). home w al z ≡ Some x.class.loader) (sym f.1) k.found); has_file = k.has_file; new = k.new; fits = k.fits }, (a, h, (refl, refl)))
 frame_push w path loader al name (y ∷ ys) x a f k h = (f.0, (f.1.0, f.1.1, frame_push w (y.class ∷ path) y.class.loader al f.1.0.name ys x a f.1.2 k h))
 
 abbrev Popped : World → List Class → ℕ → Name → List Frame → Frame → ℕ → Name → Type 0
-Popped w path loader name xs x al an = IsFrames w path loader name xs (asking loader xs) x.class.name × IsFrame w (path_of path xs) (asking loader xs) x.class.name x × ((a : Above) × (wanted x ≡ Some a) × (x.class.loader ≡ al) × (a.name ≡ an))
+Popped w path loader name xs x al an = IsFrames w path loader name xs (asking_loader loader xs) x.class.name × IsFrame w (path_of path xs) (asking_loader loader xs) x.class.name x × ((a : Above) × (wanted_supertype x ≡ Some a) × (x.class.loader ≡ al) × (a.name ≡ an))
 
 pub frame_pop : (w : World) (path : List Class) (loader al : ℕ) (name an : Name) (xs : List Frame) (x : Frame) → IsFrames w path loader name (xs ++ x ∷ []) al an → Popped w path loader name xs x al an
 frame_pop w path loader al name an [] x f = (
@@ -43,13 +43,13 @@ fit_more w c [] t (b ∷ others) a fit h named f = let same : b ≡ a = some_sam
 fit_more w c (u ∷ us) t [] a fit h named f = absurd fit
 fit_more w c (u ∷ us) t (b ∷ others) a fit h named f = (fit.0, fit.1, fit_more w c us t others a fit.2 h named f)
 
-pub frame_fits : (w : World) (path : List Class) (loader : ℕ) (name : Name) (x : Frame) (a : Above) (t : Class) → IsFrame w path loader name x → wanted x ≡ Some a → t.name ≡ a.name → Judged w x.class a.role None t → IsFrame w path loader name (accepting x t)
+pub frame_fits : (w : World) (path : List Class) (loader : ℕ) (name : Name) (x : Frame) (a : Above) (t : Class) → IsFrame w path loader name x → wanted_supertype x ≡ Some a → t.name ≡ a.name → Judged w x.class a.role None t → IsFrame w path loader name (with_accepted x t)
 frame_fits w path loader name x a t f h named fit = record { named = f.named; found = f.found; has_file = f.has_file; new = f.new; fits = fit_more w x.class x.accepted t (supers x.file) a f.fits h named fit }
 
-pub frame_accept : (w : World) (path : List Class) (loader al : ℕ) (name an : Name) (xs : List Frame) (x : Frame) (a b : Above) (t : Class) → IsFrames w path loader name (xs ++ x ∷ []) al an → wanted x ≡ Some a → t.name ≡ a.name → Judged w x.class a.role None t → wanted (accepting x t) ≡ Some b → IsFrames w path loader name (xs ++ accepting x t ∷ []) x.class.loader b.name
+pub frame_accept : (w : World) (path : List Class) (loader al : ℕ) (name an : Name) (xs : List Frame) (x : Frame) (a b : Above) (t : Class) → IsFrames w path loader name (xs ++ x ∷ []) al an → wanted_supertype x ≡ Some a → t.name ≡ a.name → Judged w x.class a.role None t → wanted_supertype (with_accepted x t) ≡ Some b → IsFrames w path loader name (xs ++ with_accepted x t ∷ []) x.class.loader b.name
 frame_accept w path loader al name an xs x a b t f h named fit want =
     let r = frame_pop w path loader al name an xs x f in
-    frame_push w path loader (asking loader xs) name xs (accepting x t) b r.0 (frame_fits w (path_of path xs) (asking loader xs) x.class.name x a t r.1 h named fit) want
+    frame_push w path loader (asking_loader loader xs) name xs (with_accepted x t) b r.0 (frame_fits w (path_of path xs) (asking_loader loader xs) x.class.name x a t r.1 h named fit) want
 
 -- ---- what was accepted
 
@@ -124,13 +124,13 @@ supers_bounded f =
 
 -- ---- under any source
 
-complete_kept : (s : State) (loader : ℕ) (ts : List Class) (others : List Above) → NamedAs ts others → AllByRecursion (Keeps s loader) ts → slice_get others (length ts) ≡ None → AllByRecursion (λ a. IsSome (recorded s.records loader a.name)) others
+complete_kept : (s : State) (loader : ℕ) (ts : List Class) (others : List Above) → NamedAs ts others → AllByRecursion (Keeps s loader) ts → slice_get others (length ts) ≡ None → AllByRecursion (λ a. IsSome (recorded_definer s.records loader a.name)) others
 complete_kept s loader [] [] n h e = tt
 complete_kept s loader [] (a ∷ others) n h e = absurd cc
 complete_kept s loader (t ∷ ts) [] n h e = absurd n
-complete_kept s loader (t ∷ ts) (a ∷ others) n h e = (subst (λ (z : Name). IsSome (recorded s.records loader z)) n.0 (ap is_some h.0), complete_kept s loader ts others n.1 h.1 e)
+complete_kept s loader (t ∷ ts) (a ∷ others) n h e = (subst (λ (z : Name). IsSome (recorded_definer s.records loader z)) n.0 (ap is_some h.0), complete_kept s loader ts others n.1 h.1 e)
 
-pub complete_is_kept : (s : State) (x : Frame) → NamedAs x.accepted (supers x.file) → KeepsAccepted s x → wanted x ≡ None → AllByRecursion (λ a. IsSome (recorded s.records x.class.loader a.name)) (supers x.file)
+pub complete_is_kept : (s : State) (x : Frame) → NamedAs x.accepted (supers x.file) → KeepsAccepted s x → wanted_supertype x ≡ None → AllByRecursion (λ a. IsSome (recorded_definer s.records x.class.loader a.name)) (supers x.file)
 complete_is_kept s x n h e = complete_kept s x.class.loader x.accepted (supers x.file) n h e
 
 pub accepted_is_named : (w : World) (c : Class) (ts : List Class) (others : List Above) → AcceptsFirst w c ts others → NamedAs ts others

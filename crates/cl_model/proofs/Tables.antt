@@ -9,9 +9,9 @@ use Rattle.cl_model.specs.Homes.{World}
 use Rattle.cl_model.specs.declared.class.Class.{Class}
 use Rattle.cl_model.specs.Classes.{class, Error, ClassNotFound}
 use Rattle.cl_model.specs.Lineages.{Kin}
-use Rattle.cl_model.specs.States.{State, start, Record, Posted, Need, Entry, Equal, Verdict, IsClass, IsArrayOf, IsArrayOfBase, IsField, IsMethod, IsLinked, BadEntry, ArrayMember, Wrong, Linkage, IsSettling, Answer, Said, OutOfMemory, SourceFault, recorded, settled_to, answer_to, AllMet, Clashes, added}
+use Rattle.cl_model.specs.States.{State, start, Record, Posted, Need, Entry, Equal, Verdict, IsClass, IsArrayOf, IsArrayOfBase, IsField, IsMethod, IsLinked, BadEntry, ArrayMember, Wrong, Linkage, IsSettling, Answer, Said, OutOfMemory, SourceFault, recorded_definer, settled_to, answer_to, AllMet, Clashes, with_need}
 use Rattle.cl_model.specs.Works.{Made}
-use Rattle.cl_model.specs.Plans.{derive, load, Request, Load, Resolve, Link, loaded_by, go_on_with, Plan, ending, plan_after, plan_from, plan_needs}
+use Rattle.cl_model.specs.Plans.{derive, load, Request, Load, Resolve, Link, loaded_by, go_on_with, Plan, ending_verdict, plan_after, plan_from, plan_needs}
 use Rattle.cl_model.specs.Machine.{Setting, Scheduled, Step, Define, Initiate, Constrain, Settle, Prepare, Post, NextRound, Stray, IsPlan, Answers, MaySay, MayAnswer, May, after, state_after, Run, IsClosed}
 use Rattle.cl_model.specs.Tables.{Records, Bears, BearsAnswer, Allows, Orderly, AreTrusted, EachNew, NoneRecordedTwice, NoneAnsweredTwice, IsConsistent, StepsHave}
 use Rattle.cl_model.proofs.Bind.{some_same, ok_same, ok_not_err, step_is}
@@ -30,13 +30,13 @@ new_push : {A : Type 0} (IsNew : List A → A → Type 0) (before xs : List A) (
 new_push IsNew before [] x h fresh = (subst (λ ys. IsNew ys x) (append-nil before) fresh, tt)
 new_push IsNew before (y ∷ xs) x h fresh = (h.0, new_push IsNew (before ++ y ∷ []) xs x h.1 (subst (λ ys. IsNew ys x) (sym (append_assoc before (y ∷ []) xs)) fresh))
 
-consistent_added : (s : State) (loader place : ℕ) (name : Name) → IsConsistent s → IsLater s (added s (Entry loader name place)) → (loader ≡ place ⊎ (recorded s.records place name ≡ Some place)) → recorded s.records loader name ≡ None
-    → (Clashes s (Entry loader name place) → ⊥) → IsConsistent (added s (Entry loader name place))
+consistent_added : (s : State) (loader place : ℕ) (name : Name) → IsConsistent s → IsLater s (with_need s (Entry loader name place)) → (loader ≡ place ⊎ (recorded_definer s.records place name ≡ Some place)) → recorded_definer s.records loader name ≡ None
+    → (Clashes s (Entry loader name place) → ⊥) → IsConsistent (with_need s (Entry loader name place))
 consistent_added s loader place name trusted later own fresh fits = record {
-  recorded_once = new_push (λ front r. recorded front r.loader r.name ≡ None) [] s.records (record { loader = loader; name = name; place = place }) trusted.recorded_once fresh;
+  recorded_once = new_push (λ front r. recorded_definer front r.loader r.name ≡ None) [] s.records (record { loader = loader; name = name; place = place }) trusted.recorded_once fresh;
   own = λ l p n h. elim (recorded_added s.records (record { loader = loader; name = name; place = place }) l p n h) [
     | inl k ↦ later.records p p n (trusted.own l p n k)
-    | inr k ↦ own_moved s (added s (Entry loader name place)) later loader place l p name n own k.0 k.1 k.2 h
+    | inr k ↦ own_moved s (with_need s (Entry loader name place)) later loader place l p name n own k.0 k.1 k.2 h
   ];
   unviolated = adds s (Entry loader name place) fits trusted.unviolated;
   answered_once = trusted.answered_once;
@@ -46,7 +46,7 @@ consistent_added s loader place name trusted later own fresh fits = record {
 consistent_same : (s t : State) → t.records ≡ s.records → t.equalities ≡ s.equalities → t.answers ≡ s.answers → IsConsistent s → IsConsistent t
 consistent_same s t r e a trusted = record {
   recorded_once = subst (λ (xs : List Record). NoneRecordedTwice [] xs) (sym r) trusted.recorded_once;
-  own = subst (λ (xs : List Record). (l p : ℕ) (n : Name) → recorded xs l n ≡ Some p → recorded xs p n ≡ Some p) (sym r) trusted.own;
+  own = subst (λ (xs : List Record). (l p : ℕ) (n : Name) → recorded_definer xs l n ≡ Some p → recorded_definer xs p n ≡ Some p) (sym r) trusted.own;
   unviolated = λ x. trusted.unviolated (violated_as s t (sym r) (sym e) x);
   answered_once = subst (λ (xs : List Posted). NoneAnsweredTwice [] xs) (sym a) trusted.answered_once;
 }
@@ -98,7 +98,7 @@ reached_records w s q p d is r met =
     (ap (λ (c : Class). c.name) (sym same), rec ∙ ap (λ (c : Class). Some c.loader) same)
 
 -- where a loader records the class of a request, the plan reaches that class, and the needs of its load are met
-pub recorded_reached : (w : World) (s : State) (q : Request) (p : Plan) (place : ℕ) → IsClosed w s → IsPlan w q p → recorded s.records (loaded_by q).loader (loaded_by q).name ≡ Some place
+pub recorded_reached : (w : World) (s : State) (q : Request) (p : Plan) (place : ℕ) → IsClosed w s → IsPlan w q p → recorded_definer s.records (loaded_by q).loader (loaded_by q).name ≡ Some place
     → (p.reached ≡ Some (class (loaded_by q).name place)) × AllMet s p.own
 recorded_reached w s q p place closed is rec =
     let n = is.height in
@@ -139,7 +139,7 @@ ends_for w q p f goes is =
     at m (Err x) h = inr (x, ap (λ (y : Plan). y.ends) (sym (some_same _ p h)))
     at m (Ok k) h =
         let on = map_some (plan_after m k) (go_on_with w is.height q k) p h in
-        inl (k.class, ap (λ (y : Plan). y.reached) (sym on.2), ap (λ (y : Plan). y.ends) (sym on.2) ∙ ap (λ (r : Result Verdict Error). ending r) (goes is.height k on.0 on.1))
+        inl (k.class, ap (λ (y : Plan). y.reached) (sym on.2), ap (λ (y : Plan). y.ends) (sym on.2) ∙ ap (λ (r : Result Verdict Error). ending_verdict r) (goes is.height k on.0 on.1))
 
 -- what is answered for a class is recorded, and that class
 pub answered_records : (w : World) (s : State) (q : Request) (p : Plan) (f : Class → Verdict) (v : Verdict) (c : Class) → ((n : Need) → Linkage n ≡ f c → ⊥) → ((e : Error) → Wrong e ≡ f c → ⊥) → ((d : Class) → f d ≡ f c → d ≡ c) → IsPlan w q p → EndsFor f p
@@ -248,19 +248,19 @@ trusted_goes_on script rounds es e h may = orderly_then script rounds start es e
 
 -- ---- a class is defined once
 
-not_again : (script : List Scheduled) (rounds : ℕ) (s : State) (es : List Step) (c : Class) (p : ℕ) → recorded s.records c.loader c.name ≡ Some p → Orderly script rounds s es → StepsHave es (Define c) → ⊥
+not_again : (script : List Scheduled) (rounds : ℕ) (s : State) (es : List Step) (c : Class) (p : ℕ) → recorded_definer s.records c.loader c.name ≡ Some p → Orderly script rounds s es → StepsHave es (Define c) → ⊥
 not_again script rounds s [] c p h run x = x
 not_again script rounds s (e ∷ es) c p h run (inl x) = let may = subst (λ (f : Step). Allows script rounds s f) x run.0 in nothing (sym may.fresh ∙ h)
 not_again script rounds s (e ∷ es) c p h run (inr x) = not_again script rounds (after s e) es c p ((after_later s e).records c.loader p c.name h) run.1 x
 
-defined : (s : State) (c : Class) → recorded s.records c.loader c.name ≡ None → recorded (after s (Define c)).records c.loader c.name ≡ Some c.loader
+defined : (s : State) (c : Class) → recorded_definer s.records c.loader c.name ≡ None → recorded_definer (after s (Define c)).records c.loader c.name ≡ Some c.loader
 defined s c h = record_found s.records (record { loader = c.loader; name = c.name; place = c.loader }) h
 
-stands_defined : (script : List Scheduled) (rounds : ℕ) (s : State) (es : List Step) (c : Class) → Orderly script rounds s es → StepsHave es (Define c) → recorded (state_after s es).records c.loader c.name ≡ Some c.loader
+stands_defined : (script : List Scheduled) (rounds : ℕ) (s : State) (es : List Step) (c : Class) → Orderly script rounds s es → StepsHave es (Define c) → recorded_definer (state_after s es).records c.loader c.name ≡ Some c.loader
 stands_defined script rounds s [] c run x = absurd x
 stands_defined script rounds s (e ∷ es) c run (inl x) =
     let may = subst (λ (f : Step). Allows script rounds s f) x run.0 in
-    (run_later (after s e) es).records c.loader c.loader c.name (subst (λ (f : Step). recorded (after s f).records c.loader c.name ≡ Some c.loader) (sym x) (defined s c may.fresh))
+    (run_later (after s e) es).records c.loader c.loader c.name (subst (λ (f : Step). recorded_definer (after s f).records c.loader c.name ≡ Some c.loader) (sym x) (defined s c may.fresh))
 stands_defined script rounds s (e ∷ es) c run (inr x) = stands_defined script rounds (after s e) es c run.1 x
 
 pub defined_once : (script : List Scheduled) (rounds : ℕ) (es fs : List Step) (c : Class) → AreTrusted script rounds (es ++ Define c ∷ fs) → StepsHave es (Define c) ⊎ StepsHave fs (Define c) → ⊥

@@ -6,11 +6,11 @@ use Rattle.cl_model.specs.Homes.{World}
 use Rattle.cl_model.specs.declared.class.Class.{Class}
 use Rattle.cl_model.specs.Classes.{class, Error, NoClassDef}
 use Rattle.cl_model.specs.Lineages.{Kin}
-use Rattle.cl_model.specs.States.{State, Need, Verdict, BadEntry, recorded}
+use Rattle.cl_model.specs.States.{State, Need, Verdict, BadEntry, recorded_definer}
 use Rattle.cl_model.specs.Works.{Work, Made, after_made, go_on, ◌>>=◌}
-use Rattle.cl_model.specs.Plans.{class_named, derive, load, through, nameless, resolve_named, resolve, ending}
+use Rattle.cl_model.specs.Plans.{class_named, derive, load, through, nameless, resolve_named, resolve, ending_verdict}
 use Rattle.cl_model.specs.Machine.{Setting, HasLineage, IsClosed, Answers, AnswersReference}
-use Rattle.cl_model.specs.References.{ended, GoesThrough}
+use Rattle.cl_model.specs.References.{ended_with, GoesThrough}
 use Rattle.cl_model.proofs.Derived.{load_ok}
 use Rattle.cl_model.proofs.Ending.{load_done, enough, derive_enough}
 use Rattle.cl_model.proofs.Looks.{load_stands}
@@ -29,7 +29,7 @@ through_ends d c r = through_done d c r
 -- ---- the resolution of an entry goes through
 
 pub reference_goes : (w : World) (s : State) (d : Class) (k c : Kin) (i place : ℕ) (r : Reference) (name : Name) (m : Made Verdict) → IsClosed w s → HasLineage w d k → reference k.file i ≡ Some r → class_named r ≡ Some name
-    → recorded s.records d.loader name ≡ Some place → HasLineage w (class name place) c → through k r c ≡ Some m → GoesThrough w s d i m
+    → recorded_definer s.records d.loader name ≡ Some place → HasLineage w (class name place) c → through k r c ≡ Some m → GoesThrough w s d i m
 reference_goes w s d k c i place r name m closed lin found names rec above is =
     let n = enough w in
     let l = load_done w (derive w n []) (derive_enough w) NoClassDef d.loader name in
@@ -59,9 +59,9 @@ reference_goes w s d k c i place r name m closed lin found names rec above is =
       ends = refl;
     }
 
-pub bad_entry_goes : (w : World) (s : State) (d : Class) (k : Kin) (i : ℕ) → HasLineage w d k → reference k.file i ≡ None → GoesThrough w s d i (ended BadEntry)
+pub bad_entry_goes : (w : World) (s : State) (d : Class) (k : Kin) (i : ℕ) → HasLineage w d k → reference k.file i ≡ None → GoesThrough w s d i (ended_with BadEntry)
 bad_entry_goes w s d k i lin none = record {
-  made = ended BadEntry;
+  made = ended_with BadEntry;
   resolution = record { kin = k; above = lin; height = 0; made = ap (λ (o : Option Reference). resolved w 0 k o) none };
   before = [];
   met = tt;
@@ -69,9 +69,9 @@ bad_entry_goes w s d k i lin none = record {
   ends = refl;
 }
 
-pub nameless_goes : (w : World) (s : State) (d : Class) (k : Kin) (i : ℕ) (r : Reference) → HasLineage w d k → reference k.file i ≡ Some r → class_named r ≡ None → GoesThrough w s d i (ended (nameless r))
+pub nameless_goes : (w : World) (s : State) (d : Class) (k : Kin) (i : ℕ) (r : Reference) → HasLineage w d k → reference k.file i ≡ Some r → class_named r ≡ None → GoesThrough w s d i (ended_with (nameless r))
 nameless_goes w s d k i r lin found none = record {
-  made = ended (nameless r);
+  made = ended_with (nameless r);
   resolution = record { kin = k; above = lin; height = 0; made = ap (λ (o : Option Reference). resolved w 0 k o) found ∙ ap (λ (o : Option Name). resolve_named w 0 k r o) none };
   before = [];
   met = tt;
@@ -79,8 +79,8 @@ nameless_goes w s d k i r lin found none = record {
   ends = refl;
 }
 
-pub through_answers : (g : Setting) (s : State) (d : Class) (i : ℕ) (m : Made Verdict) (v : Verdict) → GoesThrough g.world s d i m → Answers s m.needs (ending m.ends) v → AnswersReference g s d i v
+pub through_answers : (g : Setting) (s : State) (d : Class) (i : ℕ) (m : Made Verdict) (v : Verdict) → GoesThrough g.world s d i m → Answers s m.needs (ending_verdict m.ends) v → AnswersReference g s d i v
 through_answers g s d i m v goes h =
-    let all : Answers s (goes.before ++ m.needs) (ending m.ends) v = answers_before s goes.before m.needs (ending m.ends) v goes.met h in
-    let end : Answers s (goes.before ++ m.needs) (ending goes.made.ends) v = subst (λ (e : Result Verdict Error). Answers s (goes.before ++ m.needs) (ending e) v) (sym goes.ends) all in
-    record { made = goes.made; resolved = goes.resolution; answered = subst (λ (ns : List Need). Answers s ns (ending goes.made.ends) v) (sym goes.needs) end }
+    let all : Answers s (goes.before ++ m.needs) (ending_verdict m.ends) v = answers_before s goes.before m.needs (ending_verdict m.ends) v goes.met h in
+    let end : Answers s (goes.before ++ m.needs) (ending_verdict goes.made.ends) v = subst (λ (e : Result Verdict Error). Answers s (goes.before ++ m.needs) (ending_verdict e) v) (sym goes.ends) all in
+    record { made = goes.made; resolved = goes.resolution; answered = subst (λ (ns : List Need). Answers s ns (ending_verdict goes.made.ends) v) (sym goes.needs) end }

@@ -51,14 +51,14 @@ fault_of c BadVersion = UnsupportedVersion c
 fault_of c BadFormat = ClassFormat c
 
 -- the file that was read, where it names the class (5.3.5, step 2)
-abbrev pub named : Class → Result File FileFault → Result File Error
-named c (Err fault) = Err (fault_of c fault)
-named c (Ok f) = if same_name f.name c.name then Ok f else Err (NoClassDef c)
+abbrev pub file_if_named : Class → Result File FileFault → Result File Error
+file_if_named c (Err fault) = Err (fault_of c fault)
+file_if_named c (Ok f) = if same_name f.name c.name then Ok f else Err (NoClassDef c)
 
 -- the bytes that there are, read; no derivation asks for what has none (5.3.5, step 2)
 abbrev pub read_found : World → Class → Option (List ℕ) → Result File Error
 read_found w c None = Err (NoClassDef c)
-read_found w c (Some bytes) = named c (w.read bytes)
+read_found w c (Some bytes) = file_if_named c (w.read bytes)
 
 -- the file of a class, or what is wrong with its bytes (5.3.5, step 2)
 abbrev pub read_class : World → Class → Result File Error

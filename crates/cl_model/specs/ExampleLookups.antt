@@ -9,7 +9,7 @@ use Rattle.cl_model.specs.Classes.{Error, ClassNotFound}
 use Rattle.cl_model.specs.Lineages.{Kin, classes}
 use Rattle.cl_model.specs.Plans.{load}
 use Rattle.cl_model.specs.States.{Verdict}
-use Rattle.cl_model.specs.Examples.{boot, app, enough, root, under, plain, interface_named, taking_none, an_int, a_class, with_fields, with_methods, with_interfaces, referring, world_with_files, ends_at, resolve_of}
+use Rattle.cl_model.specs.Examples.{boot, app, enough, root, under, plain, interface_named, taking_none, an_int, a_class, with_fields, with_methods, with_interfaces, referring_file, world_with_files, ends_at, resolve_of}
 
 -- p/J1 and p/J2 have m with a body, p/J3 and p/J4 under it without, p/J5 under p/J1 declares nothing; p/D has the first
 -- three, p/E the third and the first, p/F the third and the fourth, p/H the third and the fifth; p/G has the field x from
@@ -33,7 +33,7 @@ several = world_with_files (
     ∷ (app, with_interfaces ("p/J3" ∷ "p/J5" ∷ []) (plain "p/H"))
     ∷ (
       app,
-      referring (
+      referring_file (
           ToField (a_class "p/C") (an_int "x")
           ∷ ToMethod (a_class "p/D") (taking_none "m")
           ∷ ToMethod (a_class "p/E") (taking_none "m")
@@ -47,8 +47,8 @@ several = world_with_files (
     ∷ [])
 
 -- what this reference of p/U is resolved to in that world (5.4.3)
-abbrev pub chosen : ℕ → Option Verdict
-chosen i = ends_at several (resolve_of app "p/U" i)
+abbrev pub chosen_method : ℕ → Option Verdict
+chosen_method i = ends_at several (resolve_of app "p/U" i)
 
 -- p/I has m, f and e; p/J under it has m, p/K under that none; p/S has a and y, and implements p/K; p/C is under p/S and
 -- implements p/M, which has a, n without a body, r private and t static; p/V implements p/M and is under p/W, which
@@ -68,7 +68,7 @@ inherited = world_with_files (
     ∷ (app, with_interfaces ("p/N" ∷ []) (plain "p/W"))
     ∷ (
       app,
-      referring (
+      referring_file (
           ToMethod (a_class "p/C") (taking_none "m")
           ∷ ToMethod (a_class "p/C") (taking_none "a")
           ∷ ToField (a_class "p/C") (an_int "y")
@@ -105,7 +105,7 @@ accesses = world_with_files (
     ∷ (app, under "p/Q" "p/P")
     ∷ (
       app,
-      with_methods ((flag.private, taking_none "w") ∷ []) (referring (
+      with_methods ((flag.private, taking_none "w") ∷ []) (referring_file (
           ToMethod (a_class "p/P") (taking_none "m")
           ∷ ToMethod (a_class "q/D") (taking_none "m")
           ∷ ToMethod (a_class "q/E") (taking_none "m")
@@ -121,7 +121,7 @@ accesses = world_with_files (
     ∷ (app, under "q/E" "q/D")
     ∷ (
       app,
-      with_methods ((flag.protected, taking_none "m") ∷ (flag.protected + flag.static, taking_none "s") ∷ []) (referring (
+      with_methods ((flag.protected, taking_none "m") ∷ (flag.protected + flag.static, taking_none "s") ∷ []) (referring_file (
           ToMethod (a_class "p/P") (taking_none "k")
           ∷ ToMethod (a_class "p/P") (taking_none "v")
           ∷ ToMethod (a_class "q/D") (taking_none "m")
@@ -139,13 +139,13 @@ abbrev pub from_r : ℕ → Option Verdict
 from_r i = ends_at accesses (resolve_of app "p/R" i)
 
 -- what a derivation ends in, if it is no error (5.3.5)
-abbrev pub derived : Result Kin Error → Option Kin
-derived (Ok k) = Some k
-derived (Err e) = None
+abbrev pub derived_lineage : Result Kin Error → Option Kin
+derived_lineage (Ok k) = Some k
+derived_lineage (Err e) = None
 
 -- the class of this name in app of the world of several, with all that stands above it (5.3.5)
 abbrev pub several_kin : String → Option Kin
-several_kin name = option_and_then (λ m. derived m.ends) (load several enough ClassNotFound app (codes name))
+several_kin name = option_and_then (λ m. derived_lineage m.ends) (load several enough ClassNotFound app (codes name))
 
 -- these are the classes of an order of what stands above the class of this name, and of the class itself (5.3.5, 5.4.3)
 abbrev pub Orders : (Kin → List Kin) → String → List Class → Type 0

@@ -5,7 +5,7 @@ use Rattle.cl_classfile.specs.Files.{File, ToClass, ToField, ToMethod}
 use Rattle.cl_classfile.specs.Flags as flag
 use Rattle.cl_model.specs.Homes.{World}
 use Rattle.cl_model.specs.States.{Need, Verdict}
-use Rattle.cl_model.specs.Examples.{boot, app, plug, kid, root, plain, under, of_package, taking_none, taking_t, an_array, a_class, an_array_of, method_key, with_fields, with_methods, referring, world_with_files, resolve_of, ends_at, ResolveNeeds}
+use Rattle.cl_model.specs.Examples.{boot, app, plug, kid, root, plain, under, of_package, taking_none, taking_t, an_array, a_class, an_array_of, method_key, with_fields, with_methods, referring_file, world_with_files, resolve_of, ends_at, ResolveNeeds}
 
 -- a class with a method that takes a T (4.6)
 abbrev pub svc : File
@@ -13,7 +13,7 @@ svc = with_methods ((flag.public, taking_t "m") ∷ []) (plain "p/Svc")
 
 -- a class that names that method (5.4.3)
 abbrev pub use_of_svc : File
-use_of_svc = referring (ToMethod (a_class "p/Svc") (taking_t "m") ∷ []) (plain "p/Use")
+use_of_svc = referring_file (ToMethod (a_class "p/Svc") (taking_t "m") ∷ []) (plain "p/Use")
 
 -- T and Svc in app; T and Use in plug (5.3.4, 5.4.3.3)
 abbrev pub service : World
@@ -25,7 +25,7 @@ three_users = world_with_files ((boot, root) ∷ (app, svc) ∷ (plug, plain "p/
 
 -- p/Hid in app is of package access, p/Peek in plug names it (5.4.4)
 abbrev pub hidden : World
-hidden = world_with_files ((boot, root) ∷ (app, of_package "p/Hid") ∷ (plug, referring (ToClass (a_class "p/Hid") ∷ []) (plain "p/Peek")) ∷ [])
+hidden = world_with_files ((boot, root) ∷ (app, of_package "p/Hid") ∷ (plug, referring_file (ToClass (a_class "p/Hid") ∷ []) (plain "p/Peek")) ∷ [])
 
 -- p/X names a method of an array of a base type, an array of arrays of p/T, an array of a base type, a method and a field of
 -- an array of p/T, and p/T (5.3.3, 5.4.3.1)
@@ -35,7 +35,7 @@ arrays = world_with_files (
     ∷ (app, plain "p/T")
     ∷ (
       app,
-      referring (
+      referring_file (
           ToMethod (an_array_of 1 bases.Int) (method_key "clone" [] (Some (a_class "java/lang/Object")))
           ∷ ToClass (an_array_of 2 (bases.Class (codes "p/T")))
           ∷ ToClass (an_array_of 1 bases.Int)
@@ -58,7 +58,7 @@ references = world_with_files (
     ∷ (plug, under "q/X" "p/P")
     ∷ (
       plug,
-      referring (
+      referring_file (
           ToField (a_class "p/F") (an_array "x")
           ∷ ToMethod (a_class "q/G") (taking_t "m")
           ∷ ToClass (a_class "p/Z")

@@ -6,7 +6,7 @@ use Rattle.cl_model.specs.Homes.{World}
 use Rattle.cl_model.specs.States.{State, start, Verdict, IsMethod, IsLinked, BadEntry, Linkage, Said, OutOfMemory}
 use Rattle.cl_model.specs.Plans.{Request}
 use Rattle.cl_model.specs.Machine.{Setting, Step, Define, Initiate, Constrain, Settle, Prepare, Post, NextRound, AnswersPlan, state_after}
-use Rattle.cl_model.specs.Examples.{boot, app, plug, kid, object, the_root, in_app, in_plug, in_kid, own, same_t, load_of, resolve_of, link_of, root, under, taking_t, a_class, with_methods, referring, world_with_files}
+use Rattle.cl_model.specs.Examples.{boot, app, plug, kid, object, the_root, in_app, in_plug, in_kid, own, same_t, load_of, resolve_of, link_of, root, under, taking_t, a_class, with_methods, referring_file, world_with_files}
 use Rattle.cl_model.specs.ExampleReferences.{svc, service, three_users}
 
 -- a setting of one round without requests
@@ -14,12 +14,12 @@ abbrev pub over : World → Setting
 over w = record { world = w; script = []; rounds = 1 }
 
 -- what stands after these steps
-abbrev pub standing : List Step → State
-standing steps = state_after start steps
+abbrev pub standing_after : List Step → State
+standing_after steps = state_after start steps
 
 -- after these steps over this world a request is answered so (5.3 to 5.4.3)
 abbrev pub AnswerIs : World → List Step → Request → Verdict → Type 0
-AnswerIs w steps q v = AnswersPlan (over w) (standing steps) q v
+AnswerIs w steps q v = AnswersPlan (over w) (standing_after steps) q v
 
 -- Use of this loader resolves its reference to the method of Svc (5.4.3.3)
 abbrev pub of_use : ℕ → Request
@@ -42,7 +42,7 @@ both_defined =
 
 -- and so it stands (5.3, 5.3.5)
 abbrev pub both_stand : State
-both_stand = standing both_defined
+both_stand = standing_after both_defined
 
 -- what stands after that reference is resolved and T is defined in app (5.3.4, 5.4.3)
 abbrev pub constrained : List Step
@@ -75,7 +75,7 @@ two_rounds = Post 0 OutOfMemory ∷ NextRound ∷ Post 1 OutOfMemory ∷ Post 2 
 
 -- a class under Svc, which overrides its method and names it (4.6, 5.4.3)
 abbrev pub user : File
-user = with_methods ((flag.public, taking_t "m") ∷ []) (referring (ToMethod (a_class "p/Svc") (taking_t "m") ∷ []) (under "p/Use" "p/Svc"))
+user = with_methods ((flag.public, taking_t "m") ∷ []) (referring_file (ToMethod (a_class "p/Svc") (taking_t "m") ∷ []) (under "p/Use" "p/Svc"))
 
 -- Svc in app, and in plug Use under it (5.4.2, 5.4.3.3)
 abbrev pub overridden_service : World
@@ -107,19 +107,19 @@ linking = NextRound ∷ Prepare the_root ∷ Prepare (in_app "p/Svc") ∷ Prepar
 
 -- what stands before the reference is settled (5.3.4)
 abbrev pub unsettled : State
-unsettled = standing (loading ++ Constrain (codes "p/T") app plug ∷ [])
+unsettled = standing_after (loading ++ Constrain (codes "p/T") app plug ∷ [])
 
 -- what stands before Use is prepared, in the second round (5.4)
 abbrev pub unprepared : State
-unprepared = standing (loading ++ resolving ++ NextRound ∷ Prepare the_root ∷ Prepare (in_app "p/Svc") ∷ [])
+unprepared = standing_after (loading ++ resolving ++ NextRound ∷ Prepare the_root ∷ Prepare (in_app "p/Svc") ∷ [])
 
 -- what stands before the reference is resolved, with the supertypes of Use prepared (5.4)
 abbrev pub unconstrained : State
-unconstrained = standing (loading ++ Prepare the_root ∷ Prepare (in_app "p/Svc") ∷ [])
+unconstrained = standing_after (loading ++ Prepare the_root ∷ Prepare (in_app "p/Svc") ∷ [])
 
 -- what stands at the end
 abbrev pub end_state : State
-end_state = standing (loading ++ resolving ++ linking)
+end_state = standing_after (loading ++ resolving ++ linking)
 
 -- a class of kid's own is asked for an entry of its pool (5.4.3)
 abbrev pub resolved_in_kid : Setting

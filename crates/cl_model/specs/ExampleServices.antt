@@ -24,8 +24,8 @@ abbrev pub BothServed : List Step → Type 0
 BothServed es = AllServed sparse 0 start sparse.script es
 
 -- memory ran out for the request of this number
-abbrev pub failed : ℕ → Step
-failed q = Post q OutOfMemory
+abbrev pub failed_post : ℕ → Step
+failed_post q = Post q OutOfMemory
 
 -- these steps serve the script of the example of a run
 abbrev pub RunServed : List Step → Type 0

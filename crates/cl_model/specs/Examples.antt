@@ -130,32 +130,32 @@ an_array name = field_key name (an_array_of 1 (bases.Class (codes "p/T")))
 -- ---- files
 
 -- a class with these flags, this name and superclass (4.1)
-abbrev pub flagged : ℕ → Name → Option Name → File
-flagged flags name sup = record { flags = flags; name = name; super_name = sup; interfaces = []; fields = []; methods = []; references = [] }
+abbrev pub flagged_file : ℕ → Name → Option Name → File
+flagged_file flags name sup = record { flags = flags; name = name; super_name = sup; interfaces = []; fields = []; methods = []; references = [] }
 
 -- the file of the root class (4.1, super_class)
 abbrev pub root : File
-root = flagged (flag.public + flag.super) object None
+root = flagged_file (flag.public + flag.super) object None
 
 -- a public class under another (4.1)
 abbrev pub under : String → String → File
-under name sup = flagged (flag.public + flag.super) (codes name) (Some (codes sup))
+under name sup = flagged_file (flag.public + flag.super) (codes name) (Some (codes sup))
 
 -- a public class under the root (4.1)
 abbrev pub plain : String → File
-plain name = flagged (flag.public + flag.super) (codes name) (Some object)
+plain name = flagged_file (flag.public + flag.super) (codes name) (Some object)
 
 -- a class of package access under the root (4.1)
 abbrev pub of_package : String → File
-of_package name = flagged flag.super (codes name) (Some object)
+of_package name = flagged_file flag.super (codes name) (Some object)
 
 -- a public interface (4.1)
 abbrev pub interface_named : String → File
-interface_named name = flagged (flag.public + flag.interface + flag.abstract) (codes name) (Some object)
+interface_named name = flagged_file (flag.public + flag.interface + flag.abstract) (codes name) (Some object)
 
 -- an interface of package access (4.1)
 abbrev pub interface_of_package : String → File
-interface_of_package name = flagged (flag.interface + flag.abstract) (codes name) (Some object)
+interface_of_package name = flagged_file (flag.interface + flag.abstract) (codes name) (Some object)
 
 -- members by their flags and keys (4.5, 4.6)
 abbrev pub members_by_flags : List (ℕ × Key) → List Member
@@ -179,8 +179,8 @@ referring_from i [] = []
 referring_from i (r ∷ rs) = (i, r) ∷ referring_from (suc i) rs
 
 -- the file, with these references in its constant pool, from index 1 on (4.4)
-abbrev pub referring : List Reference → File → File
-referring rs f = record f { references = referring_from 1 rs }
+abbrev pub referring_file : List Reference → File → File
+referring_file rs f = record f { references = referring_from 1 rs }
 
 -- ---- worlds
 

@@ -5,18 +5,18 @@ use Rattle.cl_classfile.specs.Files.{Name, File}
 use Rattle.cl_model.specs.Homes.{World, home}
 use Rattle.cl_model.specs.declared.class.Class.{Class}
 use Rattle.cl_model.specs.Classes.{class, same_class, is_among, Error, ClassCircularity, read_class, Above, supers}
-use Rattle.cl_model.specs.States.{State, Need, Entry, entry_for, Verdict, Wrong, Linkage, recorded, Keeps, AllMet, IsRecorded, Refused}
+use Rattle.cl_model.specs.States.{State, Need, Entry, entry_for, Verdict, Wrong, Linkage, recorded_definer, Keeps, AllMet, IsRecorded, Refused}
 use Rattle.cl_model.specs.Plans.{Request}
 use Rattle.cl_model.specs.Machine.{Setting, Step, state_after, AnswersPlan, IsClosed}
 use Rattle.cl_model.specs.Service.{IsNextNeed}
-use Rattle.cl_model.specs.Frames.{Frame, wanted, Judged, AcceptsFirst, NamedAs, KeepsAccepted, AllKept, IsFrame, IsFrames, path_of, asking, absent_under, EndsHere, Under, kept_of, accepting}
+use Rattle.cl_model.specs.Frames.{Frame, wanted_supertype, Judged, AcceptsFirst, NamedAs, KeepsAccepted, AllKept, IsFrame, IsFrames, path_of, asking_loader, absent_under, EndsHere, Under, kept_of, with_accepted}
 use Rattle.cl_model.specs.Measures.{left_loading, left_ended}
 
 -- where all supertypes of what is loaded now are accepted, its own record is the need that comes next (5.3.5)
 abbrev pub CompleteIsNext : Type 0
 CompleteIsNext =
     (w : World) (s : State) (r : Request) (absent : Class → Error) (xs : List Frame) (x : Frame) (at_loader : ℕ) → IsClosed w s → Under w s r absent xs at_loader x.class.name
-    → IsFrame w (path_of [] xs) at_loader x.class.name x → KeepsAccepted s x → wanted x ≡ None → IsNextNeed w s r (entry_for x.class.loader x.class)
+    → IsFrame w (path_of [] xs) at_loader x.class.name x → KeepsAccepted s x → wanted_supertype x ≡ None → IsNextNeed w s r (entry_for x.class.loader x.class)
 
 -- where what is loaded now is recorded at its home, the record of the loader that asked is the need that comes next (5.3)
 abbrev pub DefinedIsNext : Type 0
@@ -46,7 +46,7 @@ CircleEnds =
 abbrev pub MisfitEnds : Type 0
 MisfitEnds =
     (w : World) (s : State) (r : Request) (absent : Class → Error) (xs : List Frame) (x : Frame) (at_loader : ℕ) (a : Above) (t : Class) (e : Error) → IsClosed w s
-    → Under w s r absent xs at_loader x.class.name → IsFrame w (path_of [] xs) at_loader x.class.name x → KeepsAccepted s x → wanted x ≡ Some a → t.name ≡ a.name
+    → Under w s r absent xs at_loader x.class.name → IsFrame w (path_of [] xs) at_loader x.class.name x → KeepsAccepted s x → wanted_supertype x ≡ Some a → t.name ≡ a.name
     → Judged w x.class a.role (Some e) t → Keeps s x.class.loader t → EndsHere w s r (Wrong e)
 
 -- a request whose plan ends here is answered so (5.3.5)
@@ -57,26 +57,26 @@ AnswersHere = (g : Setting) (s : State) (r : Request) (v : Verdict) → EndsHere
 abbrev pub FramePush : Type 0
 FramePush =
     (w : World) (path : List Class) (loader at_loader : ℕ) (name : Name) (xs : List Frame) (x : Frame) (a : Above) → IsFrames w path loader name xs at_loader x.class.name
-    → IsFrame w (path_of path xs) at_loader x.class.name x → wanted x ≡ Some a → IsFrames w path loader name (xs ++ x ∷ []) x.class.loader a.name
+    → IsFrame w (path_of path xs) at_loader x.class.name x → wanted_supertype x ≡ Some a → IsFrames w path loader name (xs ++ x ∷ []) x.class.loader a.name
 
 -- the frames under the last one lead to its class (5.3.5, steps 3 and 4)
 abbrev pub FramePop : Type 0
 FramePop =
     (w : World) (path : List Class) (loader at_loader : ℕ) (name at_name : Name) (xs : List Frame) (x : Frame) → IsFrames w path loader name (xs ++ x ∷ []) at_loader at_name
-    → IsFrames w path loader name xs (asking loader xs) x.class.name × IsFrame w (path_of path xs) (asking loader xs) x.class.name x × ((a : Above) × (wanted x ≡ Some a) × (x.class.loader ≡ at_loader) × (a.name ≡ at_name))
+    → IsFrames w path loader name xs (asking_loader loader xs) x.class.name × IsFrame w (path_of path xs) (asking_loader loader xs) x.class.name x × ((a : Above) × (wanted_supertype x ≡ Some a) × (x.class.loader ≡ at_loader) × (a.name ≡ at_name))
 
 -- the last frame accepts the supertype that it wants, and goes on with the next (5.3.5, steps 3 and 4)
 abbrev pub FrameAccept : Type 0
 FrameAccept =
     (w : World) (path : List Class) (loader at_loader : ℕ) (name at_name : Name) (xs : List Frame) (x : Frame) (a b : Above) (t : Class)
-    → IsFrames w path loader name (xs ++ x ∷ []) at_loader at_name → wanted x ≡ Some a → t.name ≡ a.name → Judged w x.class a.role None t → wanted (accepting x t) ≡ Some b
-    → IsFrames w path loader name (xs ++ accepting x t ∷ []) x.class.loader b.name
+    → IsFrames w path loader name (xs ++ x ∷ []) at_loader at_name → wanted_supertype x ≡ Some a → t.name ≡ a.name → Judged w x.class a.role None t → wanted_supertype (with_accepted x t) ≡ Some b
+    → IsFrames w path loader name (xs ++ with_accepted x t ∷ []) x.class.loader b.name
 
 -- a frame stays one where it accepts the supertype that it wants (5.3.5, steps 3 and 4)
 abbrev pub FrameFits : Type 0
 FrameFits =
-    (w : World) (path : List Class) (loader : ℕ) (name : Name) (x : Frame) (a : Above) (t : Class) → IsFrame w path loader name x → wanted x ≡ Some a → t.name ≡ a.name
-    → Judged w x.class a.role None t → IsFrame w path loader name (accepting x t)
+    (w : World) (path : List Class) (loader : ℕ) (name : Name) (x : Frame) (a : Above) (t : Class) → IsFrame w path loader name x → wanted_supertype x ≡ Some a → t.name ≡ a.name
+    → Judged w x.class a.role None t → IsFrame w path loader name (with_accepted x t)
 
 -- what was accepted stays recorded (5.3)
 abbrev pub KeptStays : Type 0
@@ -93,12 +93,12 @@ PathScanned = (xs : List Frame) (c : Class) → is_among (path_of [] xs) c ≡ l
 -- a new frame leaves less
 abbrev pub PushFalls : Type 0
 PushFalls =
-    (most room : ℕ) (xs : List Frame) (x : Frame) (a : Above) → length xs < room → length (supers x.file) ≤ most → x.accepted ≡ [] → wanted x ≡ Some a
+    (most room : ℕ) (xs : List Frame) (x : Frame) (a : Above) → length xs < room → length (supers x.file) ≤ most → x.accepted ≡ [] → wanted_supertype x ≡ Some a
     → left_loading most room (xs ++ x ∷ []) < left_loading most room xs
 
 -- a new frame without supertypes leaves less
 abbrev pub RootFalls : Type 0
-RootFalls = (most room : ℕ) (xs : List Frame) (x : Frame) → length xs < room → wanted x ≡ None → left_ended most room (xs ++ x ∷ []) < left_loading most room xs
+RootFalls = (most room : ℕ) (xs : List Frame) (x : Frame) → length xs < room → wanted_supertype x ≡ None → left_ended most room (xs ++ x ∷ []) < left_loading most room xs
 
 -- the end of a load leaves less
 abbrev pub LoadFalls : Type 0
@@ -107,8 +107,8 @@ LoadFalls = (most room : ℕ) (xs : List Frame) → length xs ≤ room → left_
 -- the next supertype leaves less
 abbrev pub AcceptFalls : Type 0
 AcceptFalls =
-    (most room : ℕ) (xs : List Frame) (x : Frame) (t : Class) (b : Above) → length xs < room → wanted (accepting x t) ≡ Some b
-    → left_loading most room (xs ++ accepting x t ∷ []) < left_ended most room (xs ++ x ∷ [])
+    (most room : ℕ) (xs : List Frame) (x : Frame) (t : Class) (b : Above) → length xs < room → wanted_supertype (with_accepted x t) ≡ Some b
+    → left_loading most room (xs ++ with_accepted x t ∷ []) < left_ended most room (xs ++ x ∷ [])
 
 -- the end of a frame leaves less
 abbrev pub PopFalls : Type 0
@@ -129,7 +129,7 @@ SupersBounded = (f : File) → length (supers f) ≤ 1 + length f.interfaces
 -- where a frame wants nothing more, its class's loader records a class for each of its supertypes, under any source (5.3.5)
 abbrev pub CompleteIsKept : Type 0
 CompleteIsKept =
-    (s : State) (x : Frame) → NamedAs x.accepted (supers x.file) → KeepsAccepted s x → wanted x ≡ None → AllByRecursion (λ a. IsSome (recorded s.records x.class.loader a.name)) (supers x.file)
+    (s : State) (x : Frame) → NamedAs x.accepted (supers x.file) → KeepsAccepted s x → wanted_supertype x ≡ None → AllByRecursion (λ a. IsSome (recorded_definer s.records x.class.loader a.name)) (supers x.file)
 
 -- what fits is named so
 abbrev pub AcceptedIsNamed : Type 0

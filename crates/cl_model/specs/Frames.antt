@@ -5,7 +5,7 @@ use Rattle.cl_classfile.specs.Files.{Name, File}
 use Rattle.cl_model.specs.Homes.{World, home}
 use Rattle.cl_model.specs.declared.class.Class.{Class}
 use Rattle.cl_model.specs.Classes.{class, is_among, Error, ClassNotFound, NoClassDef, IsAtHome, Role, Above, supers, HasFile, Fitting}
-use Rattle.cl_model.specs.States.{State, Need, entry_for, Verdict, recorded, Keeps, AllMet}
+use Rattle.cl_model.specs.States.{State, Need, entry_for, Verdict, recorded_definer, Keeps, AllMet}
 use Rattle.cl_model.specs.Plans.{CitesClass, Request, Resolve, loaded_by, Plan, plan_needs}
 use Rattle.cl_model.specs.Machine.{IsPlan}
 
@@ -16,8 +16,8 @@ pub record Frame : Type 0 where
   pub accepted : List Class
 
 -- the supertype that is loaded now, if one is left (5.3.5, steps 3 and 4)
-abbrev pub wanted : Frame → Option Above
-wanted x = slice_get (supers x.file) (length x.accepted)
+abbrev pub wanted_supertype : Frame → Option Above
+wanted_supertype x = slice_get (supers x.file) (length x.accepted)
 
 -- what is wrong with t as a supertype of c, if t is a class at all (5.3.5, steps 3 and 4)
 abbrev pub Judged : World → Class → Role → Option Error → Class → Type 0
@@ -56,7 +56,7 @@ pub record IsFrame (w : World) (path : List Class) (loader : ℕ) (name : Name) 
 abbrev pub IsFrames : World → List Class → ℕ → Name → List Frame → ℕ → Name → Type 0
 IsFrames w path loader name [] at_loader at_name = (loader ≡ at_loader) × (name ≡ at_name)
 IsFrames w path loader name (x ∷ xs) at_loader at_name =
-    IsFrame w path loader name x × ((a : Above) × (wanted x ≡ Some a) × IsFrames w (x.class ∷ path) x.class.loader a.name xs at_loader at_name)
+    IsFrame w path loader name x × ((a : Above) × (wanted_supertype x ≡ Some a) × IsFrames w (x.class ∷ path) x.class.loader a.name xs at_loader at_name)
 
 -- the classes of a path and of these frames, the last first
 abbrev pub path_of : List Class → List Frame → List Class
@@ -64,9 +64,9 @@ path_of path [] = path
 path_of path (x ∷ xs) = path_of (x.class ∷ path) xs
 
 -- the loader that is asked now: that of the last frame's class, or the first one (5.3.5, steps 3 and 4)
-abbrev pub asking : ℕ → List Frame → ℕ
-asking loader [] = loader
-asking loader (x ∷ xs) = asking x.class.loader xs
+abbrev pub asking_loader : ℕ → List Frame → ℕ
+asking_loader loader [] = loader
+asking_loader loader (x ∷ xs) = asking_loader x.class.loader xs
 
 -- a request's own class is not found, one that it needs is not defined (5.3.1, 5.3.5)
 abbrev pub absent_under : (Class → Error) → List Frame → Class → Error
@@ -86,7 +86,7 @@ pub record OfReference (w : World) (s : State) (r : Request) (loader : ℕ) (nam
   pub asked : Name
   pub index : ℕ
   pub request : r ≡ Resolve through asked index
-  pub kept : recorded s.records through asked ≡ Some loader
+  pub kept : recorded_definer s.records through asked ≡ Some loader
   pub file : File
   pub has_file : HasFile w (class asked loader) file
   pub cites : CitesClass file index name
@@ -111,5 +111,5 @@ kept_of [] = []
 kept_of (x ∷ xs) = map (entry_for x.class.loader) x.accepted ++ kept_of xs
 
 -- one supertype more is accepted (5.3.5, steps 3 and 4)
-abbrev pub accepting : Frame → Class → Frame
-accepting x t = record x { accepted = x.accepted ++ t ∷ [] }
+abbrev pub with_accepted : Frame → Class → Frame
+with_accepted x t = record x { accepted = x.accepted ++ t ∷ [] }

@@ -59,15 +59,15 @@ in_order ParentFirst above own = option_or above own
 in_order ChildFirst above own = option_or own above
 
 -- without a decisive import: the loaders above and the own content, in order (5.3.2)
-abbrev pub undecided : World → Name → (ℕ → Option ℕ) → ℕ → WorldLoader → Option ℕ
-undecided w name earlier loader l = in_order l.order (first_home earlier l.parents) (own_home w loader name)
+abbrev pub home_without_import : World → Name → (ℕ → Option ℕ) → ℕ → WorldLoader → Option ℕ
+home_without_import w name earlier loader l = in_order l.order (first_home earlier l.parents) (own_home w loader name)
 
 -- the home at one loader, by those at earlier ones (5.3.2)
 abbrev pub home_by_earlier : World → Name → (ℕ → Option ℕ) → ℕ → WorldLoader → Option ℕ
 home_by_earlier w name earlier loader l =
     elim (decisive l.imports name) [
       | Some target ↦ earlier target
-      | None ↦ undecided w name earlier loader l
+      | None ↦ home_without_import w name earlier loader l
     ]
 
 -- the homes at the first so many loaders (5.3.1, 5.3.2)

@@ -10,7 +10,7 @@ use Rattle.cl_model.specs.Lineages.{Kin, IsLineage, classes, lineage}
 use Rattle.cl_model.specs.Ancestors.{EachClassOnce, SupersFirst}
 use Rattle.cl_model.specs.Works.{Made}
 use Rattle.cl_model.specs.Plans.{derive, load, Load, Request, Plan, Resolve, Link, loaded_by, plan_needs, cost}
-use Rattle.cl_model.specs.States.{State, start, Entry, Equal, IsClass, Answer, settled_to, answer_to, IsFresh, Clashes, added, Need, Verdict, IsSettling, IsLinkageError, recorded, Violated, Met, AllMet, IsRecorded, IsLinked, MayAdd, Said, Wrong, IsNext}
+use Rattle.cl_model.specs.States.{State, start, Entry, Equal, IsClass, Answer, settled_to, answer_to, IsFresh, Clashes, with_need, Need, Verdict, IsSettling, IsLinkageError, recorded_definer, Violated, Met, AllMet, IsRecorded, IsLinked, MayAdd, Said, Wrong, IsNext}
 use Rattle.cl_model.specs.Progress.{TakesSteps}
 use Rattle.cl_model.specs.Service.{IsNextNeed, IsNextStep, ComesTo, MayEnd, IsBegun, Serves, PassesRounds, AllServed, IsLinkedIn}
 use Rattle.cl_model.specs.Machine.{Setting, Scheduled, Step, Post, Settle, Prepare, May, state_after, Run, Answers, IsClosed, IsSound, after, AnswersPlan, AnswersReference, MaySay, IsPlan, IsPastLoad, HasLineage, IsResolution, step_for, MaySettle, MayGoOn, MayConstrain, AreOfRecorded}
@@ -59,7 +59,7 @@ RunGoesOn = (g : Setting) (s : State) (es : List Step) (e : Step) → Run g s es
 
 -- a record never changes (5.3)
 abbrev pub RecordsStay : Type 0
-RecordsStay = (s : State) (es : List Step) (loader place : ℕ) (name : Name) → recorded s.records loader name ≡ Some place → recorded (state_after s es).records loader name ≡ Some place
+RecordsStay = (s : State) (es : List Step) (loader place : ℕ) (name : Name) → recorded_definer s.records loader name ≡ Some place → recorded_definer (state_after s es).records loader name ≡ Some place
 
 -- what is met stays met (5.3, 5.3.4)
 abbrev pub MetStays : Type 0
@@ -246,23 +246,23 @@ StepIsSound = (g : Setting) (s : State) (e : Step) → May g s e → IsSound g s
 
 -- what clashes would violate, where it is fresh (5.3.4)
 abbrev pub ClashViolates : Type 0
-ClashViolates = (s : State) (n : Need) → IsFresh s n → Clashes s n → Violated (added s n)
+ClashViolates = (s : State) (n : Need) → IsFresh s n → Clashes s n → Violated (with_need s n)
 
 -- what would violate clashes, where nothing was violated before (5.3.4)
 abbrev pub ViolationClashes : Type 0
-ViolationClashes = (s : State) (n : Need) → Violated (added s n) → Violated s ⊎ Clashes s n
+ViolationClashes = (s : State) (n : Need) → Violated (with_need s n) → Violated s ⊎ Clashes s n
 
 -- where a loader records a name, its load ends in that class, and all its needs stand, its own record too (5.3, 5.3.5)
 abbrev pub RecordedLoadStands : Type 0
-RecordedLoadStands = (w : World) (s : State) (n : ℕ) (absent : Class → Error) (loader place : ℕ) (name : Name) (m : Made Kin) → IsClosed w s → recorded s.records loader name ≡ Some place → load w n absent loader name ≡ Some m → (k : Kin) × (m.ends ≡ Ok k) × (k.class ≡ class name place) × AllMet s m.needs
+RecordedLoadStands = (w : World) (s : State) (n : ℕ) (absent : Class → Error) (loader place : ℕ) (name : Name) (m : Made Kin) → IsClosed w s → recorded_definer s.records loader name ≡ Some place → load w n absent loader name ≡ Some m → (k : Kin) × (m.ends ≡ Ok k) × (k.class ≡ class name place) × AllMet s m.needs
 
 -- the class that a loader records for a name is the answer of its load (5.3)
 abbrev pub RecordedAnswers : Type 0
-RecordedAnswers = (g : Setting) (s : State) (loader place : ℕ) (name : Name) → IsClosed g.world s → recorded s.records loader name ≡ Some place → AnswersPlan g s (Load loader name) (IsClass (class name place))
+RecordedAnswers = (g : Setting) (s : State) (loader place : ℕ) (name : Name) → IsClosed g.world s → recorded_definer s.records loader name ≡ Some place → AnswersPlan g s (Load loader name) (IsClass (class name place))
 
 -- a record that is wanted with its home and does not stand is fresh (5.3)
 abbrev pub UnmetIsFresh : Type 0
-UnmetIsFresh = (w : World) (s : State) (loader place : ℕ) (name : Name) → IsClosed w s → home w loader name ≡ Some place → (Met s (Entry loader name place) → ⊥) → recorded s.records loader name ≡ None
+UnmetIsFresh = (w : World) (s : State) (loader place : ℕ) (name : Name) → IsClosed w s → home w loader name ≡ Some place → (Met s (Entry loader name place) → ⊥) → recorded_definer s.records loader name ≡ None
 
 -- ---- service
 
@@ -393,7 +393,7 @@ ReferenceIsPlan =
 -- where a loader records the class of a request, its plan reaches that class, past its load (5.3)
 abbrev pub RecordedIsReached : Type 0
 RecordedIsReached =
-    (w : World) (s : State) (q : Request) (p : Plan) (place : ℕ) → IsClosed w s → IsPlan w q p → recorded s.records (loaded_by q).loader (loaded_by q).name ≡ Some place
+    (w : World) (s : State) (q : Request) (p : Plan) (place : ℕ) → IsClosed w s → IsPlan w q p → recorded_definer s.records (loaded_by q).loader (loaded_by q).name ≡ Some place
     → IsPastLoad s p (class (loaded_by q).name place)
 
 -- past the load of a request its loader records the class that is reached (5.3)
@@ -444,7 +444,7 @@ NextMayBeMade = (g : Setting) (s : State) (q : Request) (p : Plan) (n : Need) �
 
 -- the step of a need adds it (5.3, 5.3.4)
 abbrev pub StepAdds : Type 0
-StepAdds = (s : State) (n : Need) → after s (step_for n) ≡ added s n
+StepAdds = (s : State) (n : Need) → after s (step_for n) ≡ with_need s n
 
 -- ---- words of the definitions that say the same
 

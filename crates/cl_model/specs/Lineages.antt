@@ -155,8 +155,8 @@ abbrev pub is_offered : Key → Kin → Bool
 is_offered key k = offers (method_of k key)
 
 -- the superinterfaces that offer a method, in preorder (5.4.3.3)
-abbrev pub offering : Kin → Key → List Kin
-offering k key = filter (is_offered key) (superinterfaces k)
+abbrev pub offering_superinterfaces : Kin → Key → List Kin
+offering_superinterfaces k key = filter (is_offered key) (superinterfaces k)
 
 -- no other of them is a subinterface of this one (5.4.3.3)
 abbrev pub is_maximal : List Kin → Kin → Bool
@@ -164,7 +164,7 @@ is_maximal ks k = not (list_any (λ other. is_among (classes (superinterfaces ot
 
 -- the maximally specific ones (5.4.3.3)
 abbrev pub maximally_specific : Kin → Key → List Kin
-maximally_specific k key = filter (is_maximal (offering k key)) (offering k key)
+maximally_specific k key = filter (is_maximal (offering_superinterfaces k key)) (offering_superinterfaces k key)
 
 -- it declares it, and it is not abstract (5.4.3.3, step 3)
 abbrev pub is_default : Key → Kin → Bool
@@ -183,7 +183,7 @@ only (x ∷ y ∷ xs) = None
 
 -- the one maximally specific method that is not abstract, else the first that is offered (5.4.3.3, step 3)
 abbrev pub from_superinterfaces : Kin → Key → Option Kin
-from_superinterfaces k key = option_or (only (filter (is_default key) (maximally_specific k key))) (first (offering k key))
+from_superinterfaces k key = option_or (only (filter (is_default key) (maximally_specific k key))) (first (offering_superinterfaces k key))
 
 -- method lookup (5.4.3.3)
 abbrev pub lookup_method : Kin → Key → Option Kin

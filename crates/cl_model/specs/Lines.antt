@@ -3,7 +3,7 @@ use Rattle.std.specs.Prelude.{ℕ, ◌+◌, List, [], ◌∷◌, ◌++◌, codes
 use Rattle.std.specs.Fmt.{decimal}
 use Rattle.std.specs.List.{join_with_byte}
 use Rattle.std.specs.Option.{option_map_or}
-use Rattle.cl_names.specs.Escape.{escaped}
+use Rattle.cl_names.specs.Escape.{escaped_text}
 use Rattle.cl_descriptors.specs.Types.{spelling_of_field, spelling_of_method}
 use Rattle.cl_descriptors.specs.declared.types.Descriptor.{Descriptor}
 use Rattle.cl_descriptors.specs.declared.types.Descriptor.TheVariants as descriptors
@@ -26,12 +26,12 @@ abbrev pub loader_text : List Text → ℕ → Text
 loader_text names loader = unwrap_or (slice_get names loader) []
 
 -- `N@M`: a name and a loader's name
-abbrev pub located : Name → Text → Text
-located name loader = escaped name ++ (codes "@" ++ loader)
+abbrev pub located_name : Name → Text → Text
+located_name name loader = escaped_text name ++ (codes "@" ++ loader)
 
 -- a class by its binary name and its defining loader (5.3)
 abbrev pub class_text : List Text → Class → Text
-class_text names c = located c.name (loader_text names c.loader)
+class_text names c = located_name c.name (loader_text names c.loader)
 
 -- the bytes of a descriptor (4.3)
 abbrev pub spelling_of : Descriptor → Name
@@ -40,7 +40,7 @@ spelling_of (descriptors.Method t) = spelling_of_method t
 
 -- a member's name and its descriptor (4.5, 4.6)
 abbrev pub key_texts : Key → List Text
-key_texts key = escaped key.name ∷ escaped (spelling_of key.descriptor) ∷ []
+key_texts key = escaped_text key.name ∷ escaped_text (spelling_of key.descriptor) ∷ []
 
 -- the class that declares a member, its name and its descriptor (4.5, 4.6)
 abbrev pub member_texts : List Text → Class → Key → List Text
@@ -48,7 +48,7 @@ member_texts names c key = class_text names c ∷ key_texts key
 
 -- the name of an equality and its two loaders (5.3.4)
 abbrev pub equality_texts : List Text → Name → ℕ → ℕ → List Text
-equality_texts names name a b = escaped name ∷ loader_text names a ∷ loader_text names b ∷ []
+equality_texts names name a b = escaped_text name ∷ loader_text names a ∷ loader_text names b ∷ []
 
 -- the words of an error: its name and its subject (5.3.5, 5.4.3, 5.4.4)
 abbrev pub error_texts : List Text → Error → List Text
@@ -101,7 +101,7 @@ ended_line line = line ++ 0x0a ∷ []
 -- the line of a step, if it has one
 abbrev pub line : List Text → Step → Option Text
 line names (Define c) = Some (words (codes "define" ∷ class_text names c ∷ []))
-line names (Initiate name place loader) = Some (words (codes "initiate" ∷ escaped name ∷ loader_text names place ∷ codes "by" ∷ loader_text names loader ∷ []))
+line names (Initiate name place loader) = Some (words (codes "initiate" ∷ escaped_text name ∷ loader_text names place ∷ codes "by" ∷ loader_text names loader ∷ []))
 line names (Constrain name a b) = Some (words (codes "constrain" ∷ equality_texts names name a b))
 line names (Settle d i v) = None
 line names (Prepare c) = Some (words (codes "prepare" ∷ class_text names c ∷ []))

@@ -6,9 +6,9 @@ use Rattle.cl_model.specs.declared.class.Class.{Class}
 use Rattle.cl_model.specs.Classes.{class, IsAtHome, IsGood, HasFile, AllAtHome, supers}
 use Rattle.cl_model.specs.Lineages.{Kin}
 use Rattle.cl_model.specs.Preparation.{constraints_of}
-use Rattle.cl_model.specs.States.{State, Need, Entry, Equal, entry_for, Verdict, IsLinked, Linkage, Answer, IfSaid, IsSettling, recorded, Keeps, IsRecorded, settled_to, answer_to, Met, Refused, MayAdd, Violated, AllMet, IsNext, added}
+use Rattle.cl_model.specs.States.{State, Need, Entry, Equal, entry_for, Verdict, IsLinked, Linkage, Answer, IfSaid, IsSettling, recorded_definer, Keeps, IsRecorded, settled_to, answer_to, Met, Refused, MayAdd, Violated, AllMet, IsNext, with_need}
 use Rattle.cl_model.specs.Works.{Made}
-use Rattle.cl_model.specs.Plans.{Request, Load, Resolve, Link, Plan, plan, derive, resolve, plan_needs, ending}
+use Rattle.cl_model.specs.Plans.{Request, Load, Resolve, Link, Plan, plan, derive, resolve, plan_needs, ending_verdict}
 
 -- a request and its round
 pub record Scheduled : Type 0 where
@@ -67,7 +67,7 @@ pub record AnswersPlan (g : Setting) (s : State) (q : Request) (v : Verdict) : T
 pub record AnswersReference (g : Setting) (s : State) (d : Class) (i : ℕ) (v : Verdict) : Type 0 where
   pub made : Made Verdict
   pub resolved : IsResolution g.world d i made
-  pub answered : Answers s made.needs (ending made.ends) v
+  pub answered : Answers s made.needs (ending_verdict made.ends) v
 
 -- ---- what may happen
 
@@ -180,9 +180,9 @@ May g s Stray = ⊥
 
 -- the state after a step: one entry more, and nothing else changes (5.3 to 5.4.3)
 abbrev pub after : State → Step → State
-after s (Define c) = added s (entry_for c.loader c)
-after s (Initiate name place loader) = added s (Entry loader name place)
-after s (Constrain name a b) = added s (Equal name a b)
+after s (Define c) = with_need s (entry_for c.loader c)
+after s (Initiate name place loader) = with_need s (Entry loader name place)
+after s (Constrain name a b) = with_need s (Equal name a b)
 after s (Settle d i v) = record s { settled = s.settled ++ record { class = d; index = i; verdict = v } ∷ [] }
 after s (Prepare c) = record s { prepared = s.prepared ++ c ∷ [] }
 after s (Post q a) = record s { answers = s.answers ++ record { request = q; answer = a } ∷ [] }
@@ -212,8 +212,8 @@ step_for (Equal name a b) = Constrain name a b
 
 -- a record has its home, whose own record stands; a recorded class is good, and the records of its supertypes stand (5.3, 5.3.5)
 pub record IsClosed (w : World) (s : State) : Type 0 where
-  pub homes : (loader place : ℕ) (name : Name) → recorded s.records loader name ≡ Some place → home w loader name ≡ Some place
-  pub own : (loader place : ℕ) (name : Name) → recorded s.records loader name ≡ Some place → recorded s.records place name ≡ Some place
+  pub homes : (loader place : ℕ) (name : Name) → recorded_definer s.records loader name ≡ Some place → home w loader name ≡ Some place
+  pub own : (loader place : ℕ) (name : Name) → recorded_definer s.records loader name ≡ Some place → recorded_definer s.records place name ≡ Some place
   pub good : (c : Class) → IsRecorded s c → IsGood w c
   pub above : (c : Class) (f : File) → IsRecorded s c → HasFile w c f → AllAtHome w c (Keeps s c.loader) (supers f)
 

@@ -12,15 +12,15 @@ use Rattle.cl_model.specs.States.{Need, Entry, Equal, entry_for, Verdict, IsClas
 use Rattle.cl_model.specs.Works.{Work, Made, Ask, done, fail, need, ask, or_fail, unless_wrong, of_result, ◌>>=◌}
 
 -- the record of a loader that is not the definer (5.3.1, 5.3.2)
-abbrev pub initiating : ℕ → Name → ℕ → List Need
-initiating loader name place = if loader == place then [] else Entry loader name place ∷ []
+abbrev pub initiating_needs : ℕ → Name → ℕ → List Need
+initiating_needs loader name place = if loader == place then [] else Entry loader name place ∷ []
 
 -- a load through a loader: its home, what deriving there needs, and the initiating record (5.3.2)
 abbrev pub load_by : World → (Class → Work Kin) → (Class → Error) → ℕ → Name → Work Kin
 load_by w derived absent loader name =
     ask loader name >>= λ a. or_fail (absent (class name loader)) (home w loader name)
     >>= λ place. derived (class name place)
-    >>= λ k. need (initiating loader name place)
+    >>= λ k. need (initiating_needs loader name place)
     >>= λ b. done k
 
 -- the loads of direct supertypes, each followed by the check that it fits (5.3.5, steps 3 and 4)
@@ -175,13 +175,13 @@ pub record Plan : Type 0 where
   pub ends : Verdict
 
 -- the verdict that a resolution ends in (5.4.3)
-abbrev pub ending : Result Verdict Error → Verdict
-ending (Ok v) = v
-ending (Err e) = Wrong e
+abbrev pub ending_verdict : Result Verdict Error → Verdict
+ending_verdict (Ok v) = v
+ending_verdict (Err e) = Wrong e
 
 -- the plan of a load that ends in a class, and of what follows it (5.3 to 5.4.3)
 abbrev pub plan_after : Made Kin → Kin → Made Verdict → Plan
-plan_after m k r = record { own = m.needs; more = r.needs; asked = m.asked ++ r.asked; reached = Some k.class; ends = ending r.ends }
+plan_after m k r = record { own = m.needs; more = r.needs; asked = m.asked ++ r.asked; reached = Some k.class; ends = ending_verdict r.ends }
 
 -- the plan of a request, from what its load made (5.3 to 5.4.3)
 abbrev pub plan_from : World → ℕ → Request → Made Kin → Option Plan

@@ -30,13 +30,13 @@ pub record Split : Type 0 where
   pub after : List Kin
 
 -- a place of the list behind one more
-abbrev pub shifted : Kin → Split → Split
-shifted k s = record { before = k ∷ s.before; at = s.at; after = s.after }
+abbrev pub shifted_split : Kin → Split → Split
+shifted_split k s = record { before = k ∷ s.before; at = s.at; after = s.after }
 
 -- each place of a list
 abbrev pub splits : List Kin → List Split
 splits [] = []
-splits (k ∷ ks) = record { before = []; at = k; after = ks } ∷ map (shifted k) (splits ks)
+splits (k ∷ ks) = record { before = []; at = k; after = ks } ∷ map (shifted_split k) (splits ks)
 
 -- the method of c overrides the one of its superclass a, over which classes between stand; at most so many of them count (5.4.5)
 abbrev pub overrides_over : Key → ℕ → Kin → List Kin → Kin → Bool
@@ -50,8 +50,8 @@ abbrev pub overrides : Key → Kin → List Kin → Kin → Bool
 overrides key c between a = overrides_over key (length between) c between a
 
 -- the superclasses whose method that of c overrides, nearest first (5.4.5; the order is an own choice)
-abbrev pub overridden : Key → Kin → List Kin
-overridden key c = map (λ s. s.at) (filter (λ s. overrides key c s.before s.at) (splits (superclasses c)))
+abbrev pub overridden_superclasses : Key → Kin → List Kin
+overridden_superclasses key c = map (λ s. s.at) (filter (λ s. overrides key c s.before s.at) (splits (superclasses c)))
 
 -- the classes that a descriptor names, the return type first (5.4.2, 5.4.3)
 abbrev pub class_names : Descriptor → List Name
@@ -74,7 +74,7 @@ equals_with key loader ks = flat_map (λ k. equals_of key loader k.class.loader)
 abbrev pub for_declared : Kin → Member → List Need
 for_declared c m =
     if takes_part m.key c
-    then (if is_interface c.file then [] else equals_with m.key c.class.loader (overridden m.key c))
+    then (if is_interface c.file then [] else equals_with m.key c.class.loader (overridden_superclasses m.key c))
     ++ equals_with m.key c.class.loader (filter (takes_part m.key) (superinterfaces c))
     else []
 

@@ -8,8 +8,8 @@ use Rattle.cl_model.specs.Plans.{Request, Plan}
 use Rattle.cl_model.specs.Machine.{IsPlan, IsPastLoad, IsResolution}
 
 -- an end without needs
-abbrev pub ended : Verdict → Made Verdict
-ended v = record { needs = []; asked = []; ends = Ok v }
+abbrev pub ended_with : Verdict → Made Verdict
+ended_with v = record { needs = []; asked = []; ends = Ok v }
 
 -- an entry's resolution goes through: its first needs are met, the others are those of m, and it ends as m does (5.4.3)
 pub record GoesThrough (w : World) (s : State) (d : Class) (i : ℕ) (m : Made Verdict) : Type 0 where

@@ -81,8 +81,8 @@ abbrev pub IsLinkageError : Verdict → Type 0
 IsLinkageError v = (n : Need) × (v ≡ Linkage n)
 
 -- who defined the class that a loader records for a name (5.3)
-abbrev pub recorded : List Record → ℕ → Name → Option ℕ
-recorded rs loader name = option_map (λ r. r.place) (find (λ r. (r.loader == loader) && same_name r.name name) rs)
+abbrev pub recorded_definer : List Record → ℕ → Name → Option ℕ
+recorded_definer rs loader name = option_map (λ r. r.place) (find (λ r. (r.loader == loader) && same_name r.name name) rs)
 
 -- what a reference is settled to: later attempts give the same (5.4.3)
 abbrev pub settled_to : List Settled → Class → ℕ → Option Verdict
@@ -111,7 +111,7 @@ pub record Joined (ks : List Equality) (name : Name) (a b : ℕ) : Type 0 where
 
 -- a need stands in a state (5.3, 5.3.4)
 abbrev pub Met : State → Need → Type 0
-Met s (Entry loader name place) = recorded s.records loader name ≡ Some place
+Met s (Entry loader name place) = recorded_definer s.records loader name ≡ Some place
 Met s (Equal name a b) = Joined s.equalities name a b
 
 -- the need that a loader records a class (5.3)
@@ -127,13 +127,13 @@ abbrev pub IsRecorded : State → Class → Type 0
 IsRecorded s c = Keeps s c.loader c
 
 -- a need is added (5.3, 5.3.4)
-abbrev pub added : State → Need → State
-added s (Entry loader name place) = record s { records = s.records ++ record { loader = loader; name = name; place = place } ∷ [] }
-added s (Equal name a b) = record s { equalities = s.equalities ++ record { name = name; one = a; other = b } ∷ [] }
+abbrev pub with_need : State → Need → State
+with_need s (Entry loader name place) = record s { records = s.records ++ record { loader = loader; name = name; place = place } ∷ [] }
+with_need s (Equal name a b) = record s { equalities = s.equalities ++ record { name = name; one = a; other = b } ∷ [] }
 
 -- no record stands where the need would put one (5.3)
 abbrev pub IsFresh : State → Need → Type 0
-IsFresh s (Entry loader name place) = recorded s.records loader name ≡ None
+IsFresh s (Entry loader name place) = recorded_definer s.records loader name ≡ None
 IsFresh s (Equal name a b) = Unit {0}
 
 -- of one name, by who defined it for each loader and which loaders are joined: a loader joined to this one records another class (5.3.4)
@@ -154,15 +154,15 @@ pub record Divides (home : ℕ → Option ℕ) (joins : ℕ → ℕ → Type 0) 
 
 -- adding a need would violate an equality (5.3.4)
 abbrev pub Clashes : State → Need → Type 0
-Clashes s (Entry loader name place) = Differs (λ l. recorded s.records l name) (Joined s.equalities name) loader place
-Clashes s (Equal name a b) = Divides (λ l. recorded s.records l name) (Joined s.equalities name) a b
+Clashes s (Entry loader name place) = Differs (λ l. recorded_definer s.records l name) (Joined s.equalities name) loader place
+Clashes s (Equal name a b) = Divides (λ l. recorded_definer s.records l name) (Joined s.equalities name) a b
 
 -- a record that stands clashes: two joined loaders record different classes for a name (5.3.4)
 pub record Violated (s : State) : Type 0 where
   pub name : Name
   pub one : ℕ
   pub place : ℕ
-  pub first : recorded s.records one name ≡ Some place
+  pub first : recorded_definer s.records one name ≡ Some place
   pub differs : Clashes s (Entry one name place)
 
 -- a need does not stand, and adding it would violate an equality (5.3.4)

@@ -3,7 +3,7 @@ use Rattle.std.specs.Prelude.{◌≡◌, ℕ, List, [], ◌∷◌, ◌++◌, Som
 use Rattle.cl_classfile.specs.Files.{Name}
 use Rattle.cl_model.specs.declared.class.Class.{Class}
 use Rattle.cl_model.specs.Plans.{Load, Resolve, Link}
-use Rattle.cl_model.specs.States.{State, start, IsClass, Answer, settled_to, Verdict, IsSettling, recorded, IsLinked, Said, IsRecorded}
+use Rattle.cl_model.specs.States.{State, start, IsClass, Answer, settled_to, Verdict, IsSettling, recorded_definer, IsLinked, Said, IsRecorded}
 use Rattle.cl_model.specs.Machine.{Setting, Scheduled, Step, Post, May, state_after, Run, IsClosed, after, Define, Initiate, Settle, Prepare, NextRound, Stray, MayKeep, EndsRound}
 use Rattle.cl_model.specs.Tables.{Records, Allows, Orderly, AreTrusted, IsConsistent, StepsHave}
 
@@ -65,7 +65,7 @@ ToldIsPrepared =
 abbrev pub InitiatedOverRecord : Type 0
 InitiatedOverRecord =
     (script : List Scheduled) (rounds : ℕ) (es fs : List Step) (name : Name) (place loader : ℕ) → AreTrusted script rounds (es ++ Initiate name place loader ∷ fs)
-    → (recorded (state_after start es).records place name ≡ Some place) × (recorded (state_after start es).records loader name ≡ None)
+    → (recorded_definer (state_after start es).records place name ≡ Some place) × (recorded_definer (state_after start es).records loader name ≡ None)
 
 -- what is settled is a reference of a recorded class, once, and to a verdict that settles (5.4.3)
 abbrev pub SettledOnTables : Type 0

@@ -2,18 +2,18 @@
 use Rattle.std.specs.Prelude.{◌≡◌, ◌⊎◌, ℕ, List, [], ◌∷◌, ◌++◌, Some, None, Contains}
 use Rattle.cl_classfile.specs.Files.{Name}
 use Rattle.cl_model.specs.declared.class.Class.{Class}
-use Rattle.cl_model.specs.States.{State, start, Record, Posted, Entry, Equal, Verdict, IsClass, IsLinked, BadEntry, ArrayMember, Answer, IfSaid, recorded, IsRecorded, settled_to, answer_to, Violated, Met, Clashes, MayAdd}
+use Rattle.cl_model.specs.States.{State, start, Record, Posted, Entry, Equal, Verdict, IsClass, IsLinked, BadEntry, ArrayMember, Answer, IfSaid, recorded_definer, IsRecorded, settled_to, answer_to, Violated, Met, Clashes, MayAdd}
 use Rattle.cl_model.specs.Plans.{Request, Load, Resolve, Link}
 use Rattle.cl_model.specs.Machine.{Scheduled, Step, Define, Initiate, Constrain, Settle, Prepare, Post, NextRound, Stray, MayKeep, IsPostable, EndsRound, Along}
 
 -- a loader has no record of a name, and this one would not violate (5.3, 5.3.4)
 pub record MayRecord (s : State) (loader place : ℕ) (name : Name) : Type 0 where
-  pub fresh : recorded s.records loader name ≡ None
+  pub fresh : recorded_definer s.records loader name ≡ None
   pub fits : Clashes s (Entry loader name place) → ⊥
 
 -- the class that a loader records for a name (5.3)
 abbrev pub Records : State → ℕ → Name → Class → Type 0
-Records s loader name c = (c.name ≡ name) × (recorded s.records loader name ≡ Some c.loader)
+Records s loader name c = (c.name ≡ name) × (recorded_definer s.records loader name ≡ Some c.loader)
 
 -- the tables bear a verdict of a request: a class that is loaded is recorded; where the class of a reference is recorded the
 -- reference is settled so, or its entry is none that is settled; a class that is linked is recorded and prepared (5.3, 5.4.2, 5.4.3)
@@ -56,7 +56,7 @@ EachNew IsNew before (x ∷ xs) = IsNew before x × EachNew IsNew (before ++ x �
 
 -- none of these has its loader and name among those before it: no loader records a name twice (5.3.5, step 1)
 abbrev pub NoneRecordedTwice : List Record → List Record → Type 0
-NoneRecordedTwice before rs = EachNew (λ front r. recorded front r.loader r.name ≡ None) before rs
+NoneRecordedTwice before rs = EachNew (λ front r. recorded_definer front r.loader r.name ≡ None) before rs
 
 -- none of these answers a request that is answered before it
 abbrev pub NoneAnsweredTwice : List Posted → List Posted → Type 0
@@ -66,7 +66,7 @@ NoneAnsweredTwice before ps = EachNew (λ front p. answer_to front p.request ≡
 -- and no request is answered twice (5.3, 5.3.4)
 pub record IsConsistent (s : State) : Type 0 where
   pub recorded_once : NoneRecordedTwice [] s.records
-  pub own : (loader place : ℕ) (name : Name) → recorded s.records loader name ≡ Some place → recorded s.records place name ≡ Some place
+  pub own : (loader place : ℕ) (name : Name) → recorded_definer s.records loader name ≡ Some place → recorded_definer s.records place name ≡ Some place
   pub unviolated : Violated s → ⊥
   pub answered_once : NoneAnsweredTwice [] s.answers
 

@@ -3,16 +3,16 @@
 ghost use Rattle.std.specs.Prelude.{◌≡◌, ◌∷◌, ◌++◌, [], Some, None, Err, codes};
 ghost use Rattle.cl_model.specs.Homes.{home};
 ghost use Rattle.cl_model.specs.Classes.{read_class, ClassNotFound, NoClassDef, ClassFormat, UnsupportedVersion, ClassCircularity, IncompatibleClassChange, IllegalAccess, NoSuchField, NoSuchMethod};
-ghost use Rattle.cl_model.specs.States.{State, Joined, Entry, IsClass, IsArrayOf, IsArrayOfBase, IsField, IsMethod, IsLinked, Wrong, BadEntry, ArrayMember, Linkage, Said, OutOfMemory, SourceFault, start, settled_to, answer_to, recorded, IsNext};
+ghost use Rattle.cl_model.specs.States.{State, Joined, Entry, IsClass, IsArrayOf, IsArrayOfBase, IsField, IsMethod, IsLinked, Wrong, BadEntry, ArrayMember, Linkage, Said, OutOfMemory, SourceFault, start, settled_to, answer_to, recorded_definer, IsNext};
 ghost use Rattle.cl_model.specs.Machine.{Define, Initiate, Constrain, Settle, Prepare, Post, NextRound, Stray, May, MayDefine, MayInitiate, MayConstrain, MaySettle, MayPrepare, Run, MayPost, MayGoOn, after};
 ghost use Rattle.cl_model.specs.Lines.{line};
 ghost use Rattle.cl_model.specs.Examples.{boot, app, plug, kid, fifth, object, names, the_root, in_boot, in_app, in_plug, in_kid, in_fifth, taking_none, taking_t, an_int, an_array, int_letter, long_letter, load_of, resolve_of, link_of, entry, own, root_record, root_for, through_app, equal, same_t, same_v, same_both, ends_at, all_needs, HasBytes, Loads, LoadFails, LoadNeeds, ResolvesTo, ResolveNeeds, Links, LinkNeeds, Costs};
 ghost use Rattle.cl_model.specs.ExampleLoads.{copies, twice, bad, circle, missing, importing, imports, misfits, two_parents};
 ghost use Rattle.cl_model.specs.Lineages.{lineage, superclasses, superinterfaces};
-ghost use Rattle.cl_model.specs.ExampleLookups.{chosen, found, from_d, from_r, Orders};
+ghost use Rattle.cl_model.specs.ExampleLookups.{chosen_method, found, from_d, from_r, Orders};
 ghost use Rattle.cl_model.specs.ExampleReferences.{service, three_users, hidden, arrays, from_u, NeedsPast};
 ghost use Rattle.cl_model.specs.ExampleOverriding.{overriding, declared, through_kid, whole_lineage, three_loaders, packages};
-ghost use Rattle.cl_model.specs.ExampleRuns.{over, standing, AnswerIs, of_use, t_refused, kid_refused, both_defined, both_stand, constrained, across, in_rounds, two_rounds, serving, loading, resolving, linking, of_svc, unsettled, unprepared, unconstrained, end_state, resolved_in_kid, overridden_alone, below_hidden, joined_with_kid};
+ghost use Rattle.cl_model.specs.ExampleRuns.{over, standing_after, AnswerIs, of_use, t_refused, kid_refused, both_defined, both_stand, constrained, across, in_rounds, two_rounds, serving, loading, resolving, linking, of_svc, unsettled, unprepared, unconstrained, end_state, resolved_in_kid, overridden_alone, below_hidden, joined_with_kid};
 ghost use Rattle.cl_model.specs.ExampleTexts.{spaced, Prints, IsCalled, PrintsAnswer, PrintsLine, PrintsStep};
 
 /// A search goes to the parent first, or to the own content first; a `java/` name is searched in
@@ -104,14 +104,14 @@ pub fn hidden_class()
 /// bodies neither is the one, so the first that is offered is found, as where none has a body; one
 /// with a body is found.
 pub fn maximally_specific()
-    ensures field { chosen 1 ≡ Some (IsField (in_app "p/I") (an_int "x")) }
-    ensures second_interface { chosen 7 ≡ Some (IsField (in_app "p/I") (an_int "x")) }
-    ensures two { chosen 2 ≡ Some (IsMethod (in_app "p/J3") (taking_none "m")) }
-    ensures one { chosen 3 ≡ Some (IsMethod (in_app "p/J1") (taking_none "m")) }
-    ensures of_interface { chosen 4 ≡ Some (IsMethod (in_app "p/J1") (taking_none "m")) }
-    ensures of_class { chosen 5 ≡ Some (Wrong (IncompatibleClassChange (in_app "p/D"))) }
-    ensures none { chosen 6 ≡ Some (IsMethod (in_app "p/J3") (taking_none "m")) }
-    ensures silent { chosen 8 ≡ Some (IsMethod (in_app "p/J1") (taking_none "m")) }
+    ensures field { chosen_method 1 ≡ Some (IsField (in_app "p/I") (an_int "x")) }
+    ensures second_interface { chosen_method 7 ≡ Some (IsField (in_app "p/I") (an_int "x")) }
+    ensures two { chosen_method 2 ≡ Some (IsMethod (in_app "p/J3") (taking_none "m")) }
+    ensures one { chosen_method 3 ≡ Some (IsMethod (in_app "p/J1") (taking_none "m")) }
+    ensures of_interface { chosen_method 4 ≡ Some (IsMethod (in_app "p/J1") (taking_none "m")) }
+    ensures of_class { chosen_method 5 ≡ Some (Wrong (IncompatibleClassChange (in_app "p/D"))) }
+    ensures none { chosen_method 6 ≡ Some (IsMethod (in_app "p/J3") (taking_none "m")) }
+    ensures silent { chosen_method 8 ≡ Some (IsMethod (in_app "p/J1") (taking_none "m")) }
 {}
 
 /// A lineage has the superclass's first, then that of each superinterface in file order, then the class; the superinterfaces
@@ -315,7 +315,7 @@ pub fn constraint_across_three()
 {}
 
 /// The line of each kind of step; a settled reference, a post and a round have none.
-#[tactic(auto, unfolding(cl_names::specs::Escape::escaped, cl_names::specs::Escape::units_of))]
+#[tactic(auto, unfolding(cl_names::specs::Escape::escaped_text, cl_names::specs::Escape::units_of))]
 pub fn printed_steps()
     ensures define { PrintsStep (Define the_root) "define java/lang/Object@boot" }
     ensures initiate { PrintsStep (Initiate (codes "p/T") app plug) "initiate p/T app by plug" }
@@ -329,7 +329,7 @@ pub fn printed_steps()
 {}
 
 /// The text of each kind of verdict that is no error.
-#[tactic(auto, unfolding(cl_names::specs::Escape::escaped, cl_names::specs::Escape::units_of))]
+#[tactic(auto, unfolding(cl_names::specs::Escape::escaped_text, cl_names::specs::Escape::units_of))]
 pub fn printed_verdicts()
     ensures of_class { Prints (IsClass (in_plug "p/T")) "class p/T@plug" }
     ensures array { Prints (IsArrayOf 2 (in_app "p/T")) "array 2 p/T@app" }
@@ -345,7 +345,7 @@ pub fn printed_verdicts()
 {}
 
 /// The text of each error: its name, and the class that it is about.
-#[tactic(auto, unfolding(cl_names::specs::Escape::escaped, cl_names::specs::Escape::units_of))]
+#[tactic(auto, unfolding(cl_names::specs::Escape::escaped_text, cl_names::specs::Escape::units_of))]
 pub fn printed_errors()
     ensures whole { Prints (Wrong (ClassNotFound (in_kid "p/T"))) "ClassNotFoundException p/T@kid" }
     ensures not_found { IsCalled ClassNotFound "ClassNotFoundException" }
@@ -360,7 +360,7 @@ pub fn printed_errors()
 {}
 
 /// The text of each kind of answer, and its line, whose number is counted from 1.
-#[tactic(auto, unfolding(cl_names::specs::Escape::escaped, cl_names::specs::Escape::units_of))]
+#[tactic(auto, unfolding(cl_names::specs::Escape::escaped_text, cl_names::specs::Escape::units_of))]
 pub fn printed_answers()
     ensures said { PrintsAnswer (Said (IsClass (in_plug "p/T"))) "class p/T@plug" }
     ensures memory { PrintsAnswer OutOfMemory "OutOfMemory" }
@@ -378,8 +378,8 @@ pub fn round_discipline()
     ensures posted { MayPost in_rounds start 0 OutOfMemory }
     ensures again { MayPost in_rounds (after start (Post 0 OutOfMemory)) 0 OutOfMemory → ⊥ }
     ensures next { MayGoOn in_rounds (after start (Post 0 OutOfMemory)) }
-    ensures empty_next { MayGoOn in_rounds (standing two_rounds) }
-    ensures no_next { MayGoOn in_rounds (standing (two_rounds ++ NextRound ∷ [])) → ⊥ }
+    ensures empty_next { MayGoOn in_rounds (standing_after two_rounds) }
+    ensures no_next { MayGoOn in_rounds (standing_after (two_rounds ++ NextRound ∷ [])) → ⊥ }
 {}
 
 /// A reference is settled and then its request answered; a class is prepared after what stands
@@ -396,8 +396,8 @@ pub fn what_stands()
     ensures other_class { settled_to end_state.settled (in_app "p/Svc") 1 ≡ None }
     ensures answered { answer_to end_state.answers 2 ≡ Some (Said BadEntry) }
     ensures other_request { answer_to end_state.answers 3 ≡ None }
-    ensures initiating { recorded end_state.records plug (codes "p/Svc") ≡ Some app }
-    ensures other_loader { recorded end_state.records boot (codes "p/Svc") ≡ None }
+    ensures initiating { recorded_definer end_state.records plug (codes "p/Svc") ≡ Some app }
+    ensures other_loader { recorded_definer end_state.records boot (codes "p/Svc") ≡ None }
 {}
 
 /// A need is next where all before it are met.
@@ -412,7 +412,7 @@ pub fn steps_too_early()
     ensures define { MayDefine serving start (in_app "p/Svc") → ⊥ }
     ensures initiate { MayInitiate serving start object boot app → ⊥ }
     ensures constrain { MayConstrain serving start (codes "p/T") app plug → ⊥ }
-    ensures settle { MaySettle serving (standing loading) (in_plug "p/Use") 1 of_svc → ⊥ }
+    ensures settle { MaySettle serving (standing_after loading) (in_plug "p/Use") 1 of_svc → ⊥ }
     ensures settle_unrecorded { MaySettle serving start (in_plug "p/Use") 1 of_svc → ⊥ }
     ensures resolve { MayPost serving unsettled 0 (Said of_svc) → ⊥ }
     ensures prepare_unrecorded { MayPrepare serving start the_root → ⊥ }
@@ -444,29 +444,29 @@ pub fn steps_never_made()
 
 /// A class that does not fit with its superclass is not defined, though the superclass is recorded.
 pub fn misfit_not_defined()
-    ensures { MayDefine (over misfits) (standing below_hidden) (in_plug "p/K") → ⊥ }
+    ensures { MayDefine (over misfits) (standing_after below_hidden) (in_plug "p/K") → ⊥ }
 {}
 
 /// An equality is imposed by the preparation of a class, also where no reference imposes it.
 pub fn constrained_by_preparation()
-    ensures { MayConstrain (over overridden_alone) (standing loading) (codes "p/T") app plug }
+    ensures { MayConstrain (over overridden_alone) (standing_after loading) (codes "p/T") app plug }
 {}
 
 /// An equality joins its loaders for its name alone.
 pub fn equality_for_one_name()
-    ensures { Joined (standing constrained).equalities (codes "p/V") app plug → ⊥ }
+    ensures { Joined (standing_after constrained).equalities (codes "p/V") app plug → ⊥ }
 {}
 
 /// A loader may record the class that one joined with it records.
 pub fn same_class_joined()
-    ensures { MayInitiate (over service) (standing joined_with_kid) (codes "p/T") app kid }
+    ensures { MayInitiate (over service) (standing_after joined_with_kid) (codes "p/T") app kid }
 {}
 
 /// What is refused is not added; the reference is settled to the refusal, and where its class's own
 /// load is refused, the answer needs no settled reference.
 pub fn refused_steps()
-    ensures define { MayDefine (over service) (standing constrained) (in_plug "p/T") → ⊥ }
+    ensures define { MayDefine (over service) (standing_after constrained) (in_plug "p/T") → ⊥ }
     ensures constrain { MayConstrain (over service) both_stand (codes "p/T") app plug → ⊥ }
     ensures settle { MaySettle (over service) both_stand (in_plug "p/Use") 1 t_refused }
-    ensures own_load { MayPost resolved_in_kid (standing across) 0 (Said kid_refused) }
+    ensures own_load { MayPost resolved_in_kid (standing_after across) 0 (Said kid_refused) }
 {}

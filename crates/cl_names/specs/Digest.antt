@@ -20,12 +20,12 @@ abbrev pub kept : List ℕ → List ℕ
 kept text = if is_long text then text ++ digest text else text
 
 -- what a table hashes of a name: its bytes, or the digest of a long one
-abbrev pub hashed : List ℕ → List ℕ
-hashed text = if is_long text then digest text else text
+abbrev pub hashed_bytes : List ℕ → List ℕ
+hashed_bytes text = if is_long text then digest text else text
 
 -- that, and a byte that no text has: of a long name another than of a short one
 abbrev pub fed_name : List ℕ → fed.HashWrites
-fed_name text = hashed text ∷ fed.u8 (if is_long text then 0xfe else 0xff)
+fed_name text = hashed_bytes text ∷ fed.u8 (if is_long text then 0xfe else 0xff)
 
 -- what is kept of a long text that stands in these bytes at a place: its digest, behind it, and how
 -- many bytes stand before its last / (5.3)

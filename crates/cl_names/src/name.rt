@@ -9,7 +9,7 @@ ghost use Rattle.std.proofs.Common.{rules};
 ghost use Rattle.cl_names.specs.Text.{IsModifiedUtf8};
 ghost use Rattle.cl_names.specs.Digest.{fed_name};
 ghost use Rattle.cl_names.specs.Truth.{Reads};
-ghost use Rattle.cl_names.specs.Escape.{escaped, WritesName};
+ghost use Rattle.cl_names.specs.Escape.{escaped_text, WritesName};
 ghost use Rattle.cl_names.specs.Name.{TestedNameOf, WritesClass};
 ghost use Rattle.cl_names.specs.Plain.{plain_of};
 
@@ -133,7 +133,7 @@ impl Name {
     ghost use Rattle.std.specs.Arc.{arc_slice_items};
     ghost use Rattle.std.specs.List.{starts_with};
     ghost use Rattle.cl_names.specs.Kind.{IsUnqualified, IsMethod, IsClass, IsNameOf, is_unqualified_name, is_method_name, is_class_name, HasNoSlash, package_of};
-    ghost use Rattle.cl_names.specs.Digest.{hashed, is_long};
+    ghost use Rattle.cl_names.specs.Digest.{hashed_bytes, is_long};
     ghost use Rattle.cl_names.specs.Name.{NameOf, KindNameOf, TextNameOf, part_of};
     ghost use Rattle.cl_names.specs.declared.name.NameFault.TheVariants.{Memory};
 
@@ -226,7 +226,7 @@ impl Name {
 
     /// The name as escaped text, in lower case, with escapes only where they are needed, or `Memory`.
     pub fn text(&self, alloc: Global) -> Result<String, NameFault>
-        ensures printed { IfOk result (λ text. string_bytes text ≡ escaped self.now) }
+        ensures printed { IfOk result (λ text. string_bytes text ≡ escaped_text self.now) }
         ensures memory { IsOkUnless result Memory }
     {
         let mut text = String::with_capacity(alloc, self.bytes().len())?;
@@ -236,7 +236,8 @@ impl Name {
 
     /// Puts the name as escaped text behind the text. Where the text cannot grow, some of it may stand there.
     pub fn put_text(&self, text: &mut String) -> Result<(), AllocError>
-        ensures { OnOk result (string_bytes text.new ≡ string_bytes text.old ++ escaped self.now) }
+        ensures { OnOk result (string_bytes text.new
+            ≡ string_bytes text.old ++ escaped_text self.now) }
     {
         put_printed(text, self.bytes())
     }
@@ -314,7 +315,7 @@ impl Name {
 
     /// What a table hashes of it: its bytes, or the digest of a long one.
     fn hashed(&self) -> &[u8]
-        ensures { result.now ≡ hashed self.now }
+        ensures { result.now ≡ hashed_bytes self.now }
     {
         if !self.is_long() {
             return self.bytes();

@@ -7,7 +7,7 @@ use Rattle.cl_classfile.specs.Files.{Key, Member, file_of, is_interface}
 use Rattle.cl_classfile.specs.Lookups.{method_named}
 use Rattle.cl_model.specs.declared.class.Class.{Class}
 use Rattle.cl_model.specs.Lineages.{Bare, Kin, first, method_of, superclasses, superinterfaces, upward}
-use Rattle.cl_model.specs.Preparation.{equals_of, inherited_from, overridden, takes_part}
+use Rattle.cl_model.specs.Preparation.{equals_of, inherited_from, overridden_superclasses, takes_part}
 use Rattle.cl_model.specs.States.{Need}
 use Rattle.cl_hierarchy.specs.ClassesAt.{lined_at, own_at}
 use Rattle.cl_hierarchy.specs.Lineages.{IsInOrder, Lined, kin_of, rows_in}
@@ -139,12 +139,12 @@ module _ {S : Type 0} (l : Lined) (own : Rowed) (survey : Survey) (above : Index
       let c : Kin = kin_of l in
       let own : ℕ = l.own.class.loader in
       let wide : List ℕ = loaders (filter (opens key) (superclasses c)) in
-      let tree : List ℕ = loaders (if is_interface c.file then [] else overridden key c) in
+      let tree : List ℕ = loaders (if is_interface c.file then [] else overridden_superclasses key c) in
       let taking : List ℕ = loaders (filter (takes_part key) (superinterfaces c)) in
       let ups : others_after own [] wide ≡ others_after own [] tree =
       sym (open_enough key own [] (l.own.class ∷ []) (superclasses c) (own_known own, tt))
       ∙ ap (λ (ks : List Kin). others_after own [] (loaders ks)) (sym (overridden_is_walked key c tp))
-      ∙ ap (λ (b : Bool). others_after own [] (loaders (if b then [] else overridden key c))) (sym is.there.class) in
+      ∙ ap (λ (b : Bool). others_after own [] (loaders (if b then [] else overridden_superclasses key c))) (sym is.there.class) in
       others_both own [] wide taking ∙ ap (λ (xs : List ℕ). xs ++ others_after own xs taking) ups ∙ sym (others_both own [] tree taking)
 
   pub chained_declared : (given : Given) (m : Member) (key : Key) (needs new : Listing) (listed : List ℕ) (loader : ℕ) → key ≡ m.key → takes_part key (bare own) ≡ true → loader ≡ own.class.loader

@@ -9,7 +9,7 @@ use mathlib.Core.List.{map-map}
 use Rattle.cl_classfile.specs.Files.{Key, Member, file_of, is_interface}
 use Rattle.cl_model.specs.declared.class.Class.{Class}
 use Rattle.cl_model.specs.Lineages.{Kin, is_offered, method_of, superclasses, superinterfaces}
-use Rattle.cl_model.specs.Preparation.{constraints_of, equals_of, equals_with, for_declared, for_inherited, inherited_from, overridden, takes_part, with_inherited}
+use Rattle.cl_model.specs.Preparation.{constraints_of, equals_of, equals_with, for_declared, for_inherited, inherited_from, overridden_superclasses, takes_part, with_inherited}
 use Rattle.cl_model.specs.States.{Need}
 use Rattle.cl_model.specs.declared.need.Equality.{Equality}
 use Rattle.cl_hierarchy.specs.Imposed.{equal_need, needs_of}
@@ -20,7 +20,7 @@ use Rattle.cl_preparation.specs.Fewer.{by_superinterfaces}
 use Rattle.cl_preparation.specs.Inherited.{Inherited, equals_from, first_loader, inherited_by_rows, second_by_rows}
 use Rattle.cl_preparation.specs.Listings.{Listing, with_all}
 use Rattle.cl_preparation.specs.Relatives.{AreRelatives, bare, of_superclasses}
-use Rattle.cl_preparation.specs.Walks.{is_overridden, opened_by, walked}
+use Rattle.cl_preparation.specs.Walks.{is_overridden, opened_by, walked_superclasses}
 use Rattle.cl_preparation.proofs.Listings.{all_behind, behind}
 use Rattle.cl_preparation.proofs.Reached.{any_map, overridden_is_walked}
 
@@ -66,11 +66,11 @@ both_taken : (key : Key) (loader : ℕ) (l : Lined) (r : Rowed) (xs ys : List Ki
 both_taken key loader l r xs ys true e = ap (λ ns. equals_of key loader r.class.loader ++ ns) e
 both_taken key loader l r xs ys false e = e
 
-walk_bare : (key : Key) (loader : ℕ) (l : Lined) (opened : List Class) (rs : List Rowed) → equals_with key loader (walked key opened (map (kin_at l) rs)) ≡ equals_with key loader (walked key opened (map bare rs))
+walk_bare : (key : Key) (loader : ℕ) (l : Lined) (opened : List Class) (rs : List Rowed) → equals_with key loader (walked_superclasses key opened (map (kin_at l) rs)) ≡ equals_with key loader (walked_superclasses key opened (map bare rs))
 walk_bare key loader l opened [] = refl
 walk_bare key loader l opened (r ∷ rs) =
     let after : List Class = opened_by key opened (bare r) in
-    both_taken key loader l r (walked key after (map (kin_at l) rs)) (walked key after (map bare rs)) (is_overridden key opened (bare r)) (walk_bare key loader l after rs)
+    both_taken key loader l r (walked_superclasses key after (map (kin_at l) rs)) (walked_superclasses key after (map bare rs)) (is_overridden key opened (bare r)) (walk_bare key loader l after rs)
 
 filter_bare : (key : Key) (loader : ℕ) (l : Lined) (rs : List Rowed) → equals_with key loader (filter (takes_part key) (map (kin_at l) rs)) ≡ equals_with key loader (filter (takes_part key) (map bare rs))
 filter_bare key loader l [] = refl
@@ -83,7 +83,7 @@ filter_bare key loader l (r ∷ rs) =
 pub declared_none : (l : Lined) (own : Rowed) (m : Member) → own ≡ l.own → false ≡ takes_part m.key (bare own) → for_declared (kin_of l) m ≡ []
 declared_none l own m e part =
     ap (λ (b : Bool). if b
-    then (if is_interface (kin_of l).file then [] else equals_with m.key l.own.class.loader (overridden m.key (kin_of l))) ++ equals_with m.key l.own.class.loader (filter (takes_part m.key) (superinterfaces (kin_of l)))
+    then (if is_interface (kin_of l).file then [] else equals_with m.key l.own.class.loader (overridden_superclasses m.key (kin_of l))) ++ equals_with m.key l.own.class.loader (filter (takes_part m.key) (superinterfaces (kin_of l)))
     else []) (ap (λ (r : Rowed). takes_part m.key (bare r)) (sym e) ∙ sym part)
 
 abbrev of_superinterfaces : Rowed → List Rowed → Key → List Need
@@ -95,19 +95,19 @@ pub declared_some : (l : Lined) (own : Rowed) (above over : List Rowed) (m : Mem
 declared_some l own above over m are part =
     let key : Key = m.key in
     let tp : takes_part key (kin_of l) ≡ true = ap (λ (r : Rowed). takes_part key (bare r)) (sym are.own_is) ∙ sym part in
-    let overs : overridden key (kin_of l) ≡ walked key (l.own.class ∷ []) (map (kin_at l) above) = overridden_is_walked key (kin_of l) tp ∙ ap (walked key (l.own.class ∷ [])) (sym are.above_are) in
-    let firsts : equals_with key l.own.class.loader (overridden key (kin_of l)) ≡ equals_with key own.class.loader (walked key (own.class ∷ []) (map bare above)) =
+    let overs : overridden_superclasses key (kin_of l) ≡ walked_superclasses key (l.own.class ∷ []) (map (kin_at l) above) = overridden_is_walked key (kin_of l) tp ∙ ap (walked_superclasses key (l.own.class ∷ [])) (sym are.above_are) in
+    let firsts : equals_with key l.own.class.loader (overridden_superclasses key (kin_of l)) ≡ equals_with key own.class.loader (walked_superclasses key (own.class ∷ []) (map bare above)) =
     ap (equals_with key l.own.class.loader) overs ∙ walk_bare key l.own.class.loader l (l.own.class ∷ []) above
-    ∙ ap (λ (r : Rowed). equals_with key r.class.loader (walked key (r.class ∷ []) (map bare above))) (sym are.own_is) in
+    ∙ ap (λ (r : Rowed). equals_with key r.class.loader (walked_superclasses key (r.class ∷ []) (map bare above))) (sym are.own_is) in
     let seconds : equals_with key l.own.class.loader (filter (takes_part key) (superinterfaces (kin_of l))) ≡ of_superinterfaces own over key =
     ap (λ (ks : List Kin). equals_with key l.own.class.loader (filter (takes_part key) ks)) (sym are.over_are) ∙ filter_bare key l.own.class.loader l over
     ∙ ap (λ (r : Rowed). equals_with key r.class.loader (filter (takes_part key) (map bare over))) (sym are.own_is) in
     ap (λ (b : Bool). if b
-    then (if is_interface (kin_of l).file then [] else equals_with key l.own.class.loader (overridden key (kin_of l))) ++ equals_with key l.own.class.loader (filter (takes_part key) (superinterfaces (kin_of l)))
+    then (if is_interface (kin_of l).file then [] else equals_with key l.own.class.loader (overridden_superclasses key (kin_of l))) ++ equals_with key l.own.class.loader (filter (takes_part key) (superinterfaces (kin_of l)))
     else []) tp
     ∙ ap (λ (ns : List Need). (if is_interface (kin_of l).file then [] else ns) ++ equals_with key l.own.class.loader (filter (takes_part key) (superinterfaces (kin_of l)))) firsts
-    ∙ ap (λ (ns : List Need). (if is_interface (kin_of l).file then [] else equals_with key own.class.loader (walked key (own.class ∷ []) (map bare above))) ++ ns) seconds
-    ∙ ap (λ (r : Rowed). (if is_interface (file_of r.file) then [] else equals_with key own.class.loader (walked key (own.class ∷ []) (map bare above))) ++ of_superinterfaces own over key) (sym are.own_is)
+    ∙ ap (λ (ns : List Need). (if is_interface (kin_of l).file then [] else equals_with key own.class.loader (walked_superclasses key (own.class ∷ []) (map bare above))) ++ ns) seconds
+    ∙ ap (λ (r : Rowed). (if is_interface (file_of r.file) then [] else equals_with key own.class.loader (walked_superclasses key (own.class ∷ []) (map bare above))) ++ of_superinterfaces own over key) (sym are.own_is)
 
 -- it is added in two steps
 pub declared_pushed : (l self : Lined) (own : Rowed) (above over xs ys : List Rowed) (m : Member) (k key : Key) (old middle new : List Need) (loader : ℕ) → l ≡ self → AreRelatives l own above over → xs ≡ above → ys ≡ over
@@ -137,11 +137,11 @@ any_above rows_of key l self rs xs found view are same told =
     told ∙ ap (λ (rows : List Rowed). list_any (λ r. takes_part key (bare r)) rows) same ∙ any_taking key l rs ∙ ap (list_any (takes_part key)) are ∙ ap (λ (x : Lined). list_any (takes_part key) (rows_of (kin_of x))) view
 
 -- where no class above takes part, none is overridden
-walked_past : (key : Key) (opened : List Class) (k : Kin) (ks : List Kin) (part : Bool) → takes_part key k ≡ part → (part || list_any (takes_part key) ks) ≡ false → ((others : List Class) → list_any (takes_part key) ks ≡ false → walked key others ks ≡ []) → walked key opened (k ∷ ks) ≡ []
+walked_past : (key : Key) (opened : List Class) (k : Kin) (ks : List Kin) (part : Bool) → takes_part key k ≡ part → (part || list_any (takes_part key) ks) ≡ false → ((others : List Class) → list_any (takes_part key) ks ≡ false → walked_superclasses key others ks ≡ []) → walked_superclasses key opened (k ∷ ks) ≡ []
 walked_past key opened k ks true e none rest = absurd cc
 walked_past key opened k ks false e none rest = rw e (rest opened none)
 
-walked_none : (key : Key) (opened : List Class) (ks : List Kin) → list_any (takes_part key) ks ≡ false → walked key opened ks ≡ []
+walked_none : (key : Key) (opened : List Class) (ks : List Kin) → list_any (takes_part key) ks ≡ false → walked_superclasses key opened ks ≡ []
 walked_none key opened [] none = refl
 walked_none key opened (k ∷ ks) none = walked_past key opened k ks (takes_part key k) refl none (λ others more. walked_none key others ks more)
 
@@ -166,15 +166,15 @@ alone l m above over = by_test (takes_part m.key (kin_of l)) refl
     halves : Bool → List Need → List Need → List Need
     halves b first rest = if b then (if is_interface (kin_of l).file then [] else first) ++ rest else []
 
-    first : takes_part m.key (kin_of l) ≡ true → equals_with m.key l.own.class.loader (overridden m.key (kin_of l)) ≡ []
+    first : takes_part m.key (kin_of l) ≡ true → equals_with m.key l.own.class.loader (overridden_superclasses m.key (kin_of l)) ≡ []
     first tp = ap (equals_with m.key l.own.class.loader) (overridden_is_walked m.key (kin_of l) tp ∙ walked_none m.key (l.own.class ∷ []) (superclasses (kin_of l)) above)
 
     by_test : (b : Bool) → takes_part m.key (kin_of l) ≡ b → for_declared (kin_of l) m ≡ []
-    by_test false e = ap (λ (b : Bool). halves b (equals_with m.key l.own.class.loader (overridden m.key (kin_of l))) (equals_with m.key l.own.class.loader (filter (takes_part m.key) (superinterfaces (kin_of l))))) e
+    by_test false e = ap (λ (b : Bool). halves b (equals_with m.key l.own.class.loader (overridden_superclasses m.key (kin_of l))) (equals_with m.key l.own.class.loader (filter (takes_part m.key) (superinterfaces (kin_of l))))) e
     by_test true e =
-        ap (λ (b : Bool). halves b (equals_with m.key l.own.class.loader (overridden m.key (kin_of l))) (equals_with m.key l.own.class.loader (filter (takes_part m.key) (superinterfaces (kin_of l))))) e
-        ∙ ap (λ (ns : List Need). halves true (equals_with m.key l.own.class.loader (overridden m.key (kin_of l))) ns) second
-        ∙ nothing_either (is_interface (kin_of l).file) (equals_with m.key l.own.class.loader (overridden m.key (kin_of l))) (first e)
+        ap (λ (b : Bool). halves b (equals_with m.key l.own.class.loader (overridden_superclasses m.key (kin_of l))) (equals_with m.key l.own.class.loader (filter (takes_part m.key) (superinterfaces (kin_of l))))) e
+        ∙ ap (λ (ns : List Need). halves true (equals_with m.key l.own.class.loader (overridden_superclasses m.key (kin_of l))) ns) second
+        ∙ nothing_either (is_interface (kin_of l).file) (equals_with m.key l.own.class.loader (overridden_superclasses m.key (kin_of l))) (first e)
 
 -- a method of which no class above has one that takes part imposes nothing
 pub declared_alone : (l : Lined) (m : Member) (key : Key) (over : Bool) (old : List Need) → key ≡ m.key → over ≡ (list_any (takes_part key) (superclasses (kin_of l)) || list_any (takes_part key) (superinterfaces (kin_of l))) → over ≡ false

@@ -10,7 +10,7 @@ use Rattle.std.proofs.lemmas.List.Elements.{All-contains, All-from_recursion, Co
 use Rattle.cl_classfile.specs.Files.{Key, Member, file_of, is_interface, member, same_key}
 use Rattle.cl_model.specs.declared.class.Class.{Class}
 use Rattle.cl_model.specs.Lineages.{Bare, Forest, Kin, Tree, alone, if_declared, is_offered, is_virtual, method_of, once, preorder, superclasses, superinterfaces, upward}
-use Rattle.cl_model.specs.Preparation.{constraints_of, equals_of, equals_with, for_declared, for_inherited, inherited_from, begins_with_angle, overridden, takes_part, with_inherited}
+use Rattle.cl_model.specs.Preparation.{constraints_of, equals_of, equals_with, for_declared, for_inherited, inherited_from, begins_with_angle, overridden_superclasses, takes_part, with_inherited}
 use Rattle.cl_model.specs.States.{AllMet, Need, State}
 use Rattle.cl_model.proofs.Closed.{met_both}
 use Rattle.cl_model.proofs.Keys.{keys_are_told}
@@ -25,7 +25,7 @@ use Rattle.cl_hierarchy.proofs.OversAt.{there_in}
 use Rattle.cl_preparation.specs.Listings.{Listing}
 use Rattle.cl_preparation.specs.Chains.{AreImposedAbove, AreOver, CoversHidden, IsClassAbove, IsShownOrSpared, by_row, hidden_by}
 use Rattle.cl_preparation.specs.Nearby.{AddAll}
-use Rattle.cl_preparation.specs.Fewer.{AddsLeft, IsImposed, by_methods, by_superinterfaces, fewer_inherited, is_between, unhidden}
+use Rattle.cl_preparation.specs.Fewer.{AddsLeft, IsImposed, by_methods, by_superinterfaces, fewer_inherited, is_between, unhidden_methods}
 use Rattle.cl_preparation.specs.Relatives.{bare, names_interfaces}
 use Rattle.cl_preparation.specs.Spared.{Declared, Hider, IsSpared, MetAbove, Unmixed, are_enough, is_met_above}
 use Rattle.cl_preparation.specs.Surveys.{IsAmongRows, IsUnmixed}
@@ -113,7 +113,7 @@ module _ (k s : Kin) (st : State) (up : superclasses k ≡ s ∷ superclasses s)
   over key = filter (takes_part key) (superinterfaces s)
 
   abbrev above : Key → List Need
-  above key = if is_interface s.file then [] else equals_with key s.class.loader (overridden key s)
+  above key = if is_interface s.file then [] else equals_with key s.class.loader (overridden_superclasses key s)
 
   declared_met : (key : Key) → AllMet st (for_declared s (record { flags = 0; key = key })) → takes_part key s ≡ true → AllMet st (equals_with key s.class.loader (over key))
   declared_met key h part =
@@ -178,17 +178,17 @@ module _ (k s : Kin) (st : State) (up : superclasses k ≡ s ∷ superclasses s)
 
   -- of these methods, all that are not hidden
   methods_met : (j : Kin) (hidden : Key → Bool) (ms : List Member) → Contains (superinterfaces s) j → AllByRecursion (λ (m : Member). hides m.key s ≡ true → hidden m.key ≡ false → AllMet st (fewer_inherited k j m)) ms → AllMet st (flat_map (for_inherited s j) ms)
-      → AllMet st (flat_map (fewer_inherited k j) (unhidden hidden ms))
+      → AllMet st (flat_map (fewer_inherited k j) (unhidden_methods hidden ms))
   methods_met j hidden [] there free h = tt
   methods_met j hidden (m ∷ ms) there free h = by (hidden m.key) refl (λ rest. methods_met j hidden ms there free.1 rest)
     where
       both : AllMet st (for_inherited s j m) × AllMet st (flat_map (for_inherited s j) ms)
       both = met_split st (for_inherited s j m) (flat_map (for_inherited s j) ms) h
 
-      by : (b : Bool) → hidden m.key ≡ b → (AllMet st (flat_map (for_inherited s j) ms) → AllMet st (flat_map (fewer_inherited k j) (unhidden hidden ms)))
-          → AllMet st (flat_map (fewer_inherited k j) (if not b then m ∷ unhidden hidden ms else unhidden hidden ms))
+      by : (b : Bool) → hidden m.key ≡ b → (AllMet st (flat_map (for_inherited s j) ms) → AllMet st (flat_map (fewer_inherited k j) (unhidden_methods hidden ms)))
+          → AllMet st (flat_map (fewer_inherited k j) (if not b then m ∷ unhidden_methods hidden ms else unhidden_methods hidden ms))
       by true e more = more both.1
-      by false e more = met_both st (fewer_inherited k j m) (flat_map (fewer_inherited k j) (unhidden hidden ms)) (method_met j m there (λ on. free.0 on e) both.0) (more both.1)
+      by false e more = met_both st (fewer_inherited k j m) (flat_map (fewer_inherited k j) (unhidden_methods hidden ms)) (method_met j m there (λ on. free.0 on e) both.0) (more both.1)
 
 -- ---- what farther superclasses have imposed
 
@@ -356,18 +356,18 @@ shown_here key passed all rest k left split class off so_far = λ n le.
     subst (λ (m : ℕ). is_met_above key (take m all) ≡ true) (omega (arith, le)) (so_far (suc more) (subst (λ (ks : List Kin). is_met_above key (take (suc more) ks) ≡ true) (sym split) one))
 
 -- of methods of which none is hidden all are left
-pub all_unhidden : (n : ℕ) (ms : List Member) → unhidden (hidden_by None n) ms ≡ ms
+pub all_unhidden : (n : ℕ) (ms : List Member) → unhidden_methods (hidden_by None n) ms ≡ ms
 all_unhidden n [] = refl
 all_unhidden n (m ∷ ms) = ap (λ (xs : List Member). m ∷ xs) (all_unhidden n ms)
 
 -- where so many superclasses are enough, too
-pub enough_unhidden : (h : Hider) (n : ℕ) (ms : List Member) → are_enough h.enough n ≡ true → unhidden (hidden_by (Some h) n) ms ≡ ms
+pub enough_unhidden : (h : Hider) (n : ℕ) (ms : List Member) → are_enough h.enough n ≡ true → unhidden_methods (hidden_by (Some h) n) ms ≡ ms
 enough_unhidden h n [] e = refl
 enough_unhidden h n (m ∷ ms) e =
-    ap (λ (b : Bool). if not (not b && hides m.key (bare h.class)) then m ∷ unhidden (hidden_by (Some h) n) ms else unhidden (hidden_by (Some h) n) ms) e ∙ ap (λ (xs : List Member). m ∷ xs) (enough_unhidden h n ms e)
+    ap (λ (b : Bool). if not (not b && hides m.key (bare h.class)) then m ∷ unhidden_methods (hidden_by (Some h) n) ms else unhidden_methods (hidden_by (Some h) n) ms) e ∙ ap (λ (xs : List Member). m ∷ xs) (enough_unhidden h n ms e)
 
 -- where they are not, those are left that the class hides
-pub few_unhidden : (h : Hider) (n : ℕ) (ms : List Member) → are_enough h.enough n ≡ false → unhidden (hidden_by (Some h) n) ms ≡ filter (λ m. not (hides m.key (bare h.class))) ms
+pub few_unhidden : (h : Hider) (n : ℕ) (ms : List Member) → are_enough h.enough n ≡ false → unhidden_methods (hidden_by (Some h) n) ms ≡ filter (λ m. not (hides m.key (bare h.class))) ms
 few_unhidden h n ms e = ap (λ (b : Bool). filter (λ (m : Member). not (not b && hides m.key (bare h.class))) ms) e
 
 -- what is imposed where one superclass or more have the superinterface, of a class that hides methods, or of none
@@ -375,7 +375,7 @@ pub imposed_by : (c j : Kin) (n : ℕ) (one same : Option Hider) → (1 ≤ n �
 imposed_by c j n one same imposed some is = subst (λ (o : Option Hider). IsImposed c (hidden_by o n) j) is (imposed some)
 
 -- where none of the methods of a row is among those that may be left, nothing is to be listed of it
-pub nothing_left : (c : Kin) (old : Listing) (r : Rowed) (n : ℕ) (o : Option Hider) → unhidden (hidden_by o n) (bare r).file.methods ≡ (bare r).file.methods → IsImposed c (hidden_by o n) (bare r) → AddsLeft c old (by_row c r) old
+pub nothing_left : (c : Kin) (old : Listing) (r : Rowed) (n : ℕ) (o : Option Hider) → unhidden_methods (hidden_by o n) (bare r).file.methods ≡ (bare r).file.methods → IsImposed c (hidden_by o n) (bare r) → AddsLeft c old (by_row c r) old
 nothing_left c old r n o none imposed = left_out c old (by_row c r) (λ s above. subst (λ (ms : List Member). AllMet s (flat_map (fewer_inherited c (bare r)) ms)) none (imposed s above))
 
 -- ---- rows of superinterfaces that the superclass has too

@@ -9,7 +9,7 @@ use Rattle.cl_descriptors.specs.declared.types.MethodType.{MethodType}
 use Rattle.cl_descriptors.specs.declared.types.Descriptor.TheVariants as descriptors
 use Rattle.cl_classfile.specs.declared.entry.Entry.{Entry}
 use Rattle.cl_classfile.specs.Structure as structure
-use Rattle.cl_classfile.specs.Files.{Name, Key, Member, declared_by, keyed, member, method_of, same_key, text_at}
+use Rattle.cl_classfile.specs.Files.{Name, Key, Member, declared_by, linked_member, member, method_of, same_key, text_at}
 use Rattle.cl_model.specs.Lineages.{Kin, if_declared, is_offered, is_virtual}
 use Rattle.cl_model.specs.Preparation.{begins_with_angle, takes_part}
 use Rattle.cl_model.proofs.Keys.{keys_are_told}
@@ -20,7 +20,7 @@ use Rattle.cl_preparation.specs.Walks.{hides}
 use Rattle.std.proofs.lemmas.Option.{same_Some}
 
 -- what linking looks at of a method has its name
-keyed_name : (flags : ℕ) (n : Name) (d : Option Name) (m : Member) → keyed method_of flags (Some n) d ≡ Some m → m.key.name ≡ n
+keyed_name : (flags : ℕ) (n : Name) (d : Option Name) (m : Member) → linked_member method_of flags (Some n) d ≡ Some m → m.key.name ≡ n
 keyed_name flags n (Some d) m e = by_type (whole_method d) e
   where
     made : MethodType → Key
@@ -43,7 +43,7 @@ appended b slots (m ∷ ms) ns x y = (x.0, appended b slots ms ns x.1 y)
 one_more : (b : Bool) (slots : List Bool) (pool : List Entry) (m : structure.MemberInfo) → ((n : Name) → text_at pool m.name_index ≡ Some n → slice_get slots (slot n) ≡ Some b) → SlotsAreMarked b slots (filter_map (declared_by method_of pool) (m ∷ []))
 one_more b slots pool m marked = by_what (declared_by method_of pool m) refl
   where
-    of_name : (o : Option Name) → text_at pool m.name_index ≡ o → (x : Member) → keyed method_of m.flags o (text_at pool m.descriptor_index) ≡ Some x → slice_get slots (slot x.key.name) ≡ Some b
+    of_name : (o : Option Name) → text_at pool m.name_index ≡ o → (x : Member) → linked_member method_of m.flags o (text_at pool m.descriptor_index) ≡ Some x → slice_get slots (slot x.key.name) ≡ Some b
     of_name (Some n) named x is =
         subst (λ (y : Name). slice_get slots (slot y) ≡ Some b) (sym (keyed_name m.flags n (text_at pool m.descriptor_index) x is)) (marked n named)
     of_name None named x is = absurd cc

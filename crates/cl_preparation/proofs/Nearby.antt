@@ -7,7 +7,7 @@ use Rattle.std.proofs.lemmas.Cmp.{nat_eq_equiv}
 use Rattle.cl_classfile.specs.Files.{Key, Member, Name, file_of, is_interface}
 use Rattle.cl_model.specs.declared.class.Class.{Class}
 use Rattle.cl_model.specs.Lineages.{Kin, is_offered, method_of, superclasses, superinterfaces}
-use Rattle.cl_model.specs.Preparation.{class_names, constraints_of, equals_of, inherited_from, overridden, takes_part, with_inherited}
+use Rattle.cl_model.specs.Preparation.{class_names, constraints_of, equals_of, inherited_from, overridden_superclasses, takes_part, with_inherited}
 use Rattle.cl_model.specs.States.{Equal, Need}
 use Rattle.cl_hierarchy.specs.Rows.{Rowed}
 use Rattle.cl_hierarchy.specs.Lineages.{IsRowIn, Lined, is_of_other, kin_at, kin_of, others_of, row_of, rows_in}
@@ -149,7 +149,7 @@ pub own_known : (own : ℕ) → is_new own [] own ≡ false
 own_known own = rw (eq-eqb own own refl) refl
 
 up_near : (key : Key) (l : Lined) (away : List Rowed) (b : Bool) → takes_part key (kin_of l) ≡ true → (b ≡ false → map (kin_at l) away ≡ others_of (Some l.own.class.loader) (superclasses (kin_of l)))
-    → others_after l.own.class.loader [] (if b then [] else loaders (filter (opens key) (map bare away))) ≡ others_after l.own.class.loader [] (loaders (if b then [] else overridden key (kin_of l)))
+    → others_after l.own.class.loader [] (if b then [] else loaders (filter (opens key) (map bare away))) ≡ others_after l.own.class.loader [] (loaders (if b then [] else overridden_superclasses key (kin_of l)))
 up_near key l away true tp are = refl
 up_near key l away false tp are =
     let own : ℕ = l.own.class.loader in
@@ -161,7 +161,7 @@ near_over : (key : Key) (l : Lined) (away over : List Rowed) → takes_part key 
 near_over key l away over tp are =
     let own : ℕ = l.own.class.loader in
     let up : List ℕ = if is_interface (file_of l.own.file) then [] else loaders (filter (opens key) (map bare away)) in
-    let tree : List ℕ = loaders (if is_interface (kin_of l).file then [] else overridden key (kin_of l)) in
+    let tree : List ℕ = loaders (if is_interface (kin_of l).file then [] else overridden_superclasses key (kin_of l)) in
     let taking : List ℕ = loaders (filter (takes_part key) (superinterfaces (kin_of l))) in
     others_both own [] up (loaders (filter (takes_part key) (map bare over)))
     ∙ ap (λ (xs : List ℕ). others_after own [] up ++ xs) (are.over_are.loaders_are key (others_after own [] up) tp)

@@ -8,7 +8,7 @@ use Rattle.std.proofs.lemmas.List.{take_more}
 use Rattle.cl_classfile.specs.Files.{Key, Member, Name, is_interface, member, same_key}
 use Rattle.cl_model.specs.declared.class.Class.{Class}
 use Rattle.cl_model.specs.Lineages.{Bare, Forest, Kin, Tree, if_declared, is_offered, is_virtual, method_of, superclasses, superinterfaces, upward}
-use Rattle.cl_model.specs.Preparation.{class_names, constraints_of, equals_of, equals_with, for_declared, for_inherited, begins_with_angle, overridden, takes_part}
+use Rattle.cl_model.specs.Preparation.{class_names, constraints_of, equals_of, equals_with, for_declared, for_inherited, begins_with_angle, overridden_superclasses, takes_part}
 use Rattle.cl_model.specs.States.{AllMet, Equal, Joined, Met, Need, State}
 use Rattle.cl_model.proofs.Closed.{met_both}
 use Rattle.cl_model.proofs.Keys.{keys_are_told}
@@ -19,7 +19,7 @@ use Rattle.cl_hierarchy.specs.declared.equalities.Given.{Given}
 use Rattle.cl_hierarchy.specs.declared.equalities.Given.TheVariants as givens
 use Rattle.cl_preparation.specs.Fewer.{AddsDeclared, AddsLeft, begins_with_class, fewer_declared, is_new, left_above, loaders, loaders_left_over, others_after}
 use Rattle.cl_preparation.specs.Listings.{Listing, with_all}
-use Rattle.cl_preparation.specs.Walks.{is_in_package, is_open, is_overridden, opened_by, opens, walked}
+use Rattle.cl_preparation.specs.Walks.{is_in_package, is_open, is_overridden, opened_by, opens, walked_superclasses}
 use Rattle.cl_preparation.proofs.Listings.{all_append}
 use Rattle.cl_preparation.proofs.Nearby.{own_known}
 use Rattle.cl_preparation.proofs.Reached.{overridden_is_walked}
@@ -70,22 +70,22 @@ module _ (st : State) where
   AreMetWith key x ys = AllByRecursion (λ (y : ℕ). AllMet st (equals_of key x y)) ys
 
   walked_step : (key : Key) (x : ℕ) (opened : List Class) (k : Kin) (ks : List Kin) (p o w : Bool) → takes_part key k ≡ p → is_open key k ≡ o → is_in_package opened k.class ≡ w
-      → ((others : List Class) → AllMet st (equals_with key x (walked key others ks)) → AreMetWith key x (loaders (filter (opens key) ks)))
-      → AllMet st (equals_with key x (walked key opened (k ∷ ks))) → AreMetWith key x (loaders (filter (opens key) (k ∷ ks)))
+      → ((others : List Class) → AllMet st (equals_with key x (walked_superclasses key others ks)) → AreMetWith key x (loaders (filter (opens key) ks)))
+      → AllMet st (equals_with key x (walked_superclasses key opened (k ∷ ks))) → AreMetWith key x (loaders (filter (opens key) (k ∷ ks)))
   walked_step key x opened k ks false o w tp op wi rest h = rw tp (rest opened (rw tp at h))
   walked_step key x opened k ks true true w tp op wi rest h =
-      let all : AllMet st (equals_of key x k.class.loader ++ equals_with key x (walked key (k.class ∷ opened) ks)) = rw tp at (rw op at h) in
-      let both = met_split st (equals_of key x k.class.loader) (equals_with key x (walked key (k.class ∷ opened) ks)) all in
+      let all : AllMet st (equals_of key x k.class.loader ++ equals_with key x (walked_superclasses key (k.class ∷ opened) ks)) = rw tp at (rw op at h) in
+      let both = met_split st (equals_of key x k.class.loader) (equals_with key x (walked_superclasses key (k.class ∷ opened) ks)) all in
       rw tp (rw op (both.0, rest (k.class ∷ opened) both.1))
   walked_step key x opened k ks true false true tp op wi rest h =
-      let all : AllMet st (equals_of key x k.class.loader ++ equals_with key x (walked key opened ks)) = rw tp at (rw op at (rw wi at h)) in
-      rw tp (rw op (rest opened (met_split st (equals_of key x k.class.loader) (equals_with key x (walked key opened ks)) all).1))
+      let all : AllMet st (equals_of key x k.class.loader ++ equals_with key x (walked_superclasses key opened ks)) = rw tp at (rw op at (rw wi at h)) in
+      rw tp (rw op (rest opened (met_split st (equals_of key x k.class.loader) (equals_with key x (walked_superclasses key opened ks)) all).1))
   walked_step key x opened k ks true false false tp op wi rest h =
-      let all : AllMet st (equals_with key x (walked key opened ks)) = rw tp at (rw op at (rw wi at h)) in
+      let all : AllMet st (equals_with key x (walked_superclasses key opened ks)) = rw tp at (rw op at (rw wi at h)) in
       rw tp (rw op (rest opened all))
 
   -- those that declare the method open are overridden
-  walked_met : (key : Key) (x : ℕ) (opened : List Class) (ks : List Kin) → AllMet st (equals_with key x (walked key opened ks)) → AreMetWith key x (loaders (filter (opens key) ks))
+  walked_met : (key : Key) (x : ℕ) (opened : List Class) (ks : List Kin) → AllMet st (equals_with key x (walked_superclasses key opened ks)) → AreMetWith key x (loaders (filter (opens key) ks))
   walked_met key x opened [] h = tt
   walked_met key x opened (k ∷ ks) h = walked_step key x opened k ks (takes_part key k) (is_open key k) (is_in_package opened k.class) refl refl refl (λ others rest. walked_met key x others ks rest) h
 
@@ -99,7 +99,7 @@ module _ (st : State) where
       firsts = (met_split st (flat_map (for_declared k) k.file.methods) (if is_interface k.file then [] else flat_map (λ (j : Kin). flat_map (for_inherited k j) j.file.methods) (superinterfaces k)) h).0
 
       up : List Need
-      up = equals_with key k.class.loader (overridden key k)
+      up = equals_with key k.class.loader (overridden_superclasses key k)
 
       over : List Need
       over = equals_with key k.class.loader (filter (takes_part key) (superinterfaces k))
@@ -194,10 +194,10 @@ take_loader (k ∷ ks) = refl
 
 -- with superclasses
 up_stand : (c : Kin) (key : Key) → takes_part key c ≡ true
-    → Stand (IsAbove c) (flat_map (equals_of key c.class.loader) (loaders (overridden key c)))
+    → Stand (IsAbove c) (flat_map (equals_of key c.class.loader) (loaders (overridden_superclasses key c)))
     (flat_map (equals_of key c.class.loader) (others_after c.class.loader [] (loaders (left_above givens.Superclass (filter (opens key) (superclasses c))))))
 up_stand c key part =
-    stand_through (IsAbove c) (flat_map f (loaders (overridden key c))) (flat_map f (others_after own [] (loaders wide))) (flat_map f (others_after own [] (loaders (if begins_with_class wide then take 1 wide else wide)))) listed
+    stand_through (IsAbove c) (flat_map f (loaders (overridden_superclasses key c))) (flat_map f (others_after own [] (loaders wide))) (flat_map f (others_after own [] (loaders (if begins_with_class wide then take 1 wide else wide)))) listed
     (by (begins_with_class wide) refl)
   where
     own : ℕ
@@ -209,15 +209,15 @@ up_stand c key part =
     wide : List Kin
     wide = filter (opens key) (superclasses c)
 
-    same : others_after own [] (loaders (overridden key c)) ≡ others_after own [] (loaders wide)
+    same : others_after own [] (loaders (overridden_superclasses key c)) ≡ others_after own [] (loaders wide)
     same =
         ap (λ (ks : List Kin). others_after own [] (loaders ks)) (overridden_is_walked key c part)
         ∙ open_enough key own [] (c.class ∷ []) (superclasses c) (own_known own, tt)
 
-    listed : Stand (IsAbove c) (flat_map f (loaders (overridden key c))) (flat_map f (others_after own [] (loaders wide)))
+    listed : Stand (IsAbove c) (flat_map f (loaders (overridden_superclasses key c))) (flat_map f (others_after own [] (loaders wide)))
     listed =
-        subst (λ (ls : List ℕ). Stand (IsAbove c) (flat_map f (loaders (overridden key c))) (flat_map f ls)) same
-        (stand_where (AreMet f own []) (IsAbove c) (flat_map f (loaders (overridden key c))) (flat_map f (others_after own [] (loaders (overridden key c)))) (λ s k. none_listed s key own) (stand_others f own [] (loaders (overridden key c))))
+        subst (λ (ls : List ℕ). Stand (IsAbove c) (flat_map f (loaders (overridden_superclasses key c))) (flat_map f ls)) same
+        (stand_where (AreMet f own []) (IsAbove c) (flat_map f (loaders (overridden_superclasses key c))) (flat_map f (others_after own [] (loaders (overridden_superclasses key c)))) (λ s k. none_listed s key own) (stand_others f own [] (loaders (overridden_superclasses key c))))
 
     by : (b : Bool) → begins_with_class wide ≡ b → Stand (IsAbove c) (flat_map f (others_after own [] (loaders wide))) (flat_map f (others_after own [] (loaders (if b then take 1 wide else wide))))
     by true e =
@@ -230,8 +230,8 @@ declared_left : (c : Kin) (m : Member) → is_interface c.file ≡ false → tak
     → Stand (IsAbove c) (for_declared c m) (flat_map (equals_of m.key c.class.loader) (others_after c.class.loader [] (loaders_left_over givens.Superclass c m.key)))
 declared_left c m class part =
     subst (λ (ns : List Need). Stand (IsAbove c) ns (flat_map f (others_after own [] (up ++ over)))) (sym all)
-    (subst (λ (ns : List Need). Stand (IsAbove c) (flat_map f (loaders (overridden m.key c)) ++ flat_map f over) ns) (sym few)
-    (stand_both (IsAbove c) (flat_map f (loaders (overridden m.key c))) (flat_map f over) (flat_map f first) (flat_map f second) (up_stand c m.key part)
+    (subst (λ (ns : List Need). Stand (IsAbove c) (flat_map f (loaders (overridden_superclasses m.key c)) ++ flat_map f over) ns) (sym few)
+    (stand_both (IsAbove c) (flat_map f (loaders (overridden_superclasses m.key c))) (flat_map f over) (flat_map f first) (flat_map f second) (up_stand c m.key part)
     (stand_where (AreMet f own first) (λ s. IsAbove c s × AllMet s (flat_map f first)) (flat_map f over) (flat_map f second) (λ s k. known_met s m.key own first k.1) (stand_others f own first over))))
   where
     own : ℕ
@@ -255,14 +255,14 @@ declared_left c m class part =
     few : flat_map f (others_after own [] (up ++ over)) ≡ flat_map f first ++ flat_map f second
     few = ap (flat_map f) (others_both own [] up over) ∙ flat_map-append f first second
 
-    all : for_declared c m ≡ flat_map f (loaders (overridden m.key c)) ++ flat_map f over
+    all : for_declared c m ≡ flat_map f (loaders (overridden_superclasses m.key c)) ++ flat_map f over
     all =
-        let above : List Need = equals_with m.key own (overridden m.key c) in
+        let above : List Need = equals_with m.key own (overridden_superclasses m.key c) in
         let beside : List Need = equals_with m.key own (filter (takes_part m.key) (superinterfaces c)) in
         ap (λ (b : Bool). if b then (if is_interface c.file then [] else above) ++ beside else []) part
         ∙ ap (λ (b : Bool). (if b then [] else above) ++ beside) class
-        ∙ ap (λ (ns : List Need). ns ++ beside) (with_loaders m.key own (overridden m.key c))
-        ∙ ap (λ (ns : List Need). flat_map f (loaders (overridden m.key c)) ++ ns) (with_loaders m.key own (filter (takes_part m.key) (superinterfaces c)))
+        ∙ ap (λ (ns : List Need). ns ++ beside) (with_loaders m.key own (overridden_superclasses m.key c))
+        ∙ ap (λ (ns : List Need). flat_map f (loaders (overridden_superclasses m.key c)) ++ ns) (with_loaders m.key own (filter (takes_part m.key) (superinterfaces c)))
 
 -- ---- what is listed for the methods of a class
 

@@ -10,8 +10,8 @@ use Rattle.cl_classfile.specs.Files.{Key}
 use Rattle.cl_model.specs.Lineages.{Kin, superclasses}
 use Rattle.cl_model.specs.declared.class.Class.{Class}
 use Rattle.cl_model.specs.Classes.{same_package}
-use Rattle.cl_model.specs.Preparation.{Split, shifted, splits, takes_part, overrides_directly, overrides_over, overrides, overridden}
-use Rattle.cl_preparation.specs.Walks.{is_open, opens, opens_to, overrides_by_package, is_in_package, is_overridden, opened_by, walked}
+use Rattle.cl_model.specs.Preparation.{Split, shifted_split, splits, takes_part, overrides_directly, overrides_over, overrides, overridden_superclasses}
+use Rattle.cl_preparation.specs.Walks.{is_open, opens, opens_to, overrides_by_package, is_in_package, is_overridden, opened_by, walked_superclasses}
 
 -- ---- tests
 
@@ -58,11 +58,11 @@ record Placed (P : Split → Bool) (ks : List Kin) : Type 0 where
 placed : (P : Split → Bool) (ks : List Kin) → list_any P (splits ks) ≡ true → Placed P ks
 placed P [] h = absurd cc
 placed P (k ∷ ks) h =
-    elim (or_cases (P (record { before = []; at = k; after = ks })) (list_any P (map (shifted k) (splits ks))) h) as (λ _. Placed P (k ∷ ks)) [
+    elim (or_cases (P (record { before = []; at = k; after = ks })) (list_any P (map (shifted_split k) (splits ks))) h) as (λ _. Placed P (k ∷ ks)) [
       | inl here ↦ record { split = record { before = []; at = k; after = ks }; whole = refl; passes = here }
       | inr there ↦
-          let p : Placed (λ s. P (shifted k s)) ks = placed (λ s. P (shifted k s)) ks (sym (any_map P (shifted k) (splits ks)) ∙ there) in
-          record { split = shifted k p.split; whole = ap (λ (xs : List Kin). k ∷ xs) p.whole; passes = p.passes }
+          let p : Placed (λ s. P (shifted_split k s)) ks = placed (λ s. P (shifted_split k s)) ks (sym (any_map P (shifted_split k) (splits ks)) ∙ there) in
+          record { split = shifted_split k p.split; whole = ap (λ (xs : List Kin). k ∷ xs) p.whole; passes = p.passes }
     ]
 
 reaches_directly : (key : Key) (c : Kin) (between : List Kin) (a : Kin) → overrides_directly key c a ≡ true → reaches key c between a ≡ true
@@ -122,9 +122,9 @@ over_past key (suc n) c s between a h =
     elim (or_cases d (list_any P (splits between)) h) as (λ _. (d || list_any P (splits (s ∷ between))) ≡ true) [
       | inl direct ↦ or_left d (list_any P (splits (s ∷ between))) direct
       | inr third ↦ or_right d (list_any P (splits (s ∷ between)))
-          (or_right (P (record { before = []; at = s; after = between })) (list_any P (map (shifted s) (splits between)))
-          (any_map P (shifted s) (splits between)
-          ∙ any_more P (λ t. P (shifted s t)) (λ t k. both (overrides_over key n c (s ∷ t.before) t.at) (overrides_over key n t.at t.after a)
+          (or_right (P (record { before = []; at = s; after = between })) (list_any P (map (shifted_split s) (splits between)))
+          (any_map P (shifted_split s) (splits between)
+          ∙ any_more P (λ t. P (shifted_split s t)) (λ t k. both (overrides_over key n c (s ∷ t.before) t.at) (overrides_over key n t.at t.after a)
           (over_past key n c s t.before t.at (first_of_both (overrides_over key n c t.before t.at) (overrides_over key n t.at t.after a) k))
           (second_of_both (overrides_over key n c t.before t.at) (overrides_over key n t.at t.after a) k))
           (splits between) third))
@@ -146,7 +146,7 @@ reaches_over key c (s ∷ more) a h =
     elim (or_cases (reaches key c more a) (overrides_directly key c s && reaches key s more a) h) as (λ _. overrides_over key (suc n) c (s ∷ more) a ≡ true) [
       | inl past ↦ over_past key (suc n) c s more a (over_more key n c more a (reaches_over key c more a past))
       | inr taken ↦ or_right d (list_any P (splits (s ∷ more)))
-          (or_left (P (record { before = []; at = s; after = more })) (list_any P (map (shifted s) (splits more)))
+          (or_left (P (record { before = []; at = s; after = more })) (list_any P (map (shifted_split s) (splits more)))
           (both (overrides_over key n c [] s) (overrides_over key n s more a)
           (over_next key n c s (first_of_both (overrides_directly key c s) (reaches key s more a) taken))
           (reaches_over key s more a (second_of_both (overrides_directly key c s) (reaches key s more a) taken))))
@@ -207,13 +207,13 @@ overrides_is_by_package key c between a =
 
 -- ---- the walk
 
-kept_at : (k : Kin) (s : Split) (b : Bool) (xs ys : List Split) → map (λ t. t.at) xs ≡ map (λ t. t.at) ys → map (λ t. t.at) (if b then shifted k s ∷ xs else xs) ≡ map (λ t. t.at) (if b then s ∷ ys else ys)
+kept_at : (k : Kin) (s : Split) (b : Bool) (xs ys : List Split) → map (λ t. t.at) xs ≡ map (λ t. t.at) ys → map (λ t. t.at) (if b then shifted_split k s ∷ xs else xs) ≡ map (λ t. t.at) (if b then s ∷ ys else ys)
 kept_at k s true xs ys h = ap (λ (zs : List Kin). s.at ∷ zs) h
 kept_at k s false xs ys h = h
 
-filter_map_at : (p : Split → Bool) (k : Kin) (ss : List Split) → map (λ s. s.at) (filter p (map (shifted k) ss)) ≡ map (λ s. s.at) (filter (λ s. p (shifted k s)) ss)
+filter_map_at : (p : Split → Bool) (k : Kin) (ss : List Split) → map (λ s. s.at) (filter p (map (shifted_split k) ss)) ≡ map (λ s. s.at) (filter (λ s. p (shifted_split k s)) ss)
 filter_map_at p k [] = refl
-filter_map_at p k (s ∷ ss) = kept_at k s (p (shifted k s)) (filter p (map (shifted k) ss)) (filter (λ t. p (shifted k t)) ss) (filter_map_at p k ss)
+filter_map_at p k (s ∷ ss) = kept_at k s (p (shifted_split k s)) (filter p (map (shifted_split k) ss)) (filter (λ t. p (shifted_split k t)) ss) (filter_map_at p k ss)
 
 filter_same : (p q : Split → Bool) → ((s : Split) → p s ≡ q s) → (ss : List Split) → filter p ss ≡ filter q ss
 filter_same p q f [] = refl
@@ -223,7 +223,7 @@ filter_same p q f (s ∷ ss) = ap (λ (b : Bool). if b then s ∷ filter p ss el
 is_found : Key → List Class → Split → Bool
 is_found key opened s = takes_part key s.at && (is_open key s.at || (is_in_package opened s.at.class || list_any (opens_to key s.at) s.before))
 
-found_shifted : (key : Key) (opened : List Class) (k : Kin) (s : Split) → is_found key opened (shifted k s) ≡ is_found key (opened_by key opened k) s
+found_shifted : (key : Key) (opened : List Class) (k : Kin) (s : Split) → is_found key opened (shifted_split k s) ≡ is_found key (opened_by key opened k) s
 unfolding is_found
 found_shifted key opened k s = ap (λ (b : Bool). takes_part key s.at && (is_open key s.at || b)) (taken (opens key k))
   where
@@ -250,20 +250,20 @@ walk_step : (first : Split) (j : Bool) (rest : List Split) (others : List Kin) �
 walk_step first true rest others h = ap (λ (xs : List Kin). first.at ∷ xs) h
 walk_step first false rest others h = h
 
-walk_filters : (key : Key) (opened : List Class) (ks : List Kin) → map (λ s. s.at) (filter (is_found key opened) (splits ks)) ≡ walked key opened ks
+walk_filters : (key : Key) (opened : List Class) (ks : List Kin) → map (λ s. s.at) (filter (is_found key opened) (splits ks)) ≡ walked_superclasses key opened ks
 walk_filters key opened [] = refl
 walk_filters key opened (k ∷ ks) =
     let first : Split = record { before = []; at = k; after = ks } in
     let p : Split → Bool = is_found key opened in
-    let others : List Kin = walked key (opened_by key opened k) ks in
-    walk_step first (p first) (filter p (map (shifted k) (splits ks))) others
+    let others : List Kin = walked_superclasses key (opened_by key opened k) ks in
+    walk_step first (p first) (filter p (map (shifted_split k) (splits ks))) others
     (filter_map_at p k (splits ks)
-    ∙ ap (λ (ss : List Split). map (λ s. s.at) ss) (filter_same (λ s. p (shifted k s)) (is_found key (opened_by key opened k)) (found_shifted key opened k) (splits ks))
+    ∙ ap (λ (ss : List Split). map (λ s. s.at) ss) (filter_same (λ s. p (shifted_split k s)) (is_found key (opened_by key opened k)) (found_shifted key opened k) (splits ks))
     ∙ walk_filters key (opened_by key opened k) ks)
     ∙ ap (λ (j : Bool). if j then k ∷ others else others) (first_found key opened k ks)
 
 -- the superclasses whose method that of a class overrides are those that the walk keeps
-pub overridden_is_walked : (key : Key) (c : Kin) → takes_part key c ≡ true → overridden key c ≡ walked key (c.class ∷ []) (superclasses c)
+pub overridden_is_walked : (key : Key) (c : Kin) → takes_part key c ≡ true → overridden_superclasses key c ≡ walked_superclasses key (c.class ∷ []) (superclasses c)
 unfolding is_found
 overridden_is_walked key c part =
     ap (λ (ss : List Split). map (λ s. s.at) ss) (filter_same (λ s. overrides key c s.before s.at) (is_found key (c.class ∷ [])) told (splits (superclasses c)))

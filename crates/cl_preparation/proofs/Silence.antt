@@ -10,7 +10,7 @@ use Rattle.cl_classfile.specs.Files.{Key, Member, file_of, is_interface}
 use Rattle.cl_model.specs.declared.class.Class.{Class}
 use Rattle.cl_model.specs.Classes.{Above, same_class, superinterfaces_of}
 use Rattle.cl_model.specs.Lineages.{Bare, Kin, is_offered, method_of, preorder, superclasses, superinterfaces}
-use Rattle.cl_model.specs.Preparation.{equals_of, inherited_from, begins_with_angle, overridden, takes_part}
+use Rattle.cl_model.specs.Preparation.{equals_of, inherited_from, begins_with_angle, overridden_superclasses, takes_part}
 use Rattle.cl_model.specs.States.{Need}
 use Rattle.cl_model.proofs.Closed.{all_left}
 use Rattle.cl_model.proofs.Complete.{is_class}
@@ -364,7 +364,7 @@ declares_none c m inter none = at (takes_part m.key c) none
   where
     over : others_after c.class.loader [] (loaders (filter (takes_part m.key) (superinterfaces c))) ≡ [] → others_after c.class.loader [] (loaders_over c m.key) ≡ []
     over off =
-        ap (λ (b : Bool). others_after c.class.loader [] (loaders (if b then [] else overridden m.key c) ++ loaders (filter (takes_part m.key) (superinterfaces c)))) inter ∙ off
+        ap (λ (b : Bool). others_after c.class.loader [] (loaders (if b then [] else overridden_superclasses m.key c) ++ loaders (filter (takes_part m.key) (superinterfaces c)))) inter ∙ off
 
     at : (b : Bool) → (b ≡ true → others_after c.class.loader [] (loaders (filter (takes_part m.key) (superinterfaces c))) ≡ [])
         → (if b then flat_map (equals_of m.key c.class.loader) (others_after c.class.loader [] (loaders_over c m.key)) else []) ≡ []

@@ -9,7 +9,7 @@ use Rattle.std.proofs.lemmas.Grind.{flat_map-append}
 use Rattle.cl_classfile.specs.Files.{Name, Key, Member, is_interface}
 use Rattle.cl_model.specs.Lineages.{Kin, superinterfaces}
 use Rattle.cl_model.specs.Once.{NoneTwice}
-use Rattle.cl_model.specs.Preparation.{class_names, constraints_of, equals_of, equals_with, for_declared, for_inherited, overridden, takes_part}
+use Rattle.cl_model.specs.Preparation.{class_names, constraints_of, equals_of, equals_with, for_declared, for_inherited, overridden_superclasses, takes_part}
 use Rattle.cl_model.specs.States.{AllMet, Entry, Equal, IsNext, Met, Need, State}
 use Rattle.cl_model.proofs.Aims.{next_left, next_right}
 use Rattle.cl_model.proofs.Closed.{met_both}
@@ -150,13 +150,13 @@ with_some : (key : Key) (own : ℕ) (b : Bool) (ks : List Kin) → (if b then []
 with_some key own true ks = refl
 with_some key own false ks = with_loaders key own ks
 
-over_loaders : (c : Kin) (key : Key) → (if is_interface c.file then [] else equals_with key c.class.loader (overridden key c)) ++ equals_with key c.class.loader (filter (takes_part key) (superinterfaces c))
+over_loaders : (c : Kin) (key : Key) → (if is_interface c.file then [] else equals_with key c.class.loader (overridden_superclasses key c)) ++ equals_with key c.class.loader (filter (takes_part key) (superinterfaces c))
     ≡ flat_map (equals_of key c.class.loader) (loaders_over c key)
 over_loaders c key =
     let own : ℕ = c.class.loader in
-    let up : List Kin = if is_interface c.file then [] else overridden key c in
+    let up : List Kin = if is_interface c.file then [] else overridden_superclasses key c in
     let over : List Kin = filter (takes_part key) (superinterfaces c) in
-    ap (λ ns. ns ++ equals_with key own over) (with_some key own (is_interface c.file) (overridden key c))
+    ap (λ ns. ns ++ equals_with key own over) (with_some key own (is_interface c.file) (overridden_superclasses key c))
     ∙ ap (λ ns. flat_map (equals_of key own) (loaders up) ++ ns) (with_loaders key own over)
     ∙ sym (flat_map-append (equals_of key own) (loaders up) (loaders over))
 
@@ -169,7 +169,7 @@ declared_stand c m =
     let own : ℕ = c.class.loader in
     let f : ℕ → List Need = equals_of m.key own in
     let few : List Need = flat_map f (others_after own [] (loaders_over c m.key)) in
-    let all : List Need = (if is_interface c.file then [] else equals_with m.key own (overridden m.key c)) ++ equals_with m.key own (filter (takes_part m.key) (superinterfaces c)) in
+    let all : List Need = (if is_interface c.file then [] else equals_with m.key own (overridden_superclasses m.key c)) ++ equals_with m.key own (filter (takes_part m.key) (superinterfaces c)) in
     if_part (takes_part m.key c) all few
     (stand_where (AreMet f own []) Any all few (λ s k. none_listed s m.key own)
     (subst (λ ns. Stand (AreMet f own []) ns few) (sym (over_loaders c m.key)) (stand_others f own [] (loaders_over c m.key))))

@@ -10,7 +10,7 @@ use Rattle.cl_classfile.specs.Lookups.{method_named}
 use Rattle.cl_model.specs.declared.class.Class.{Class}
 use Rattle.cl_model.specs.Classes.{same_class}
 use Rattle.cl_model.specs.Lineages.{Kin, is_offered, method_of, superclasses, superinterfaces, upward}
-use Rattle.cl_model.specs.Preparation.{equals_of, inherited_from, begins_with_angle, overridden, takes_part}
+use Rattle.cl_model.specs.Preparation.{equals_of, inherited_from, begins_with_angle, overridden_superclasses, takes_part}
 use Rattle.cl_model.specs.States.{Need}
 use Rattle.cl_model.proofs.Derivations.{all_map}
 use Rattle.cl_model.proofs.Derived.{all_both}
@@ -26,7 +26,7 @@ use Rattle.cl_preparation.specs.Inherited.{equals_from, other_than}
 use Rattle.cl_preparation.specs.Nearby.{AddAll}
 use Rattle.cl_preparation.specs.Relatives.{bare}
 use Rattle.cl_preparation.specs.Surveys.{AreUnmixed, IsAlone, IsAmongRows, IsSurvey, IsUnmixed, Surveys}
-use Rattle.cl_preparation.specs.Walks.{is_overridden, opened_by, walked}
+use Rattle.cl_preparation.specs.Walks.{is_overridden, opened_by, walked_superclasses}
 use Rattle.cl_preparation.proofs.Nearby.{inherited_is}
 use Rattle.cl_preparation.proofs.Reached.{overridden_is_walked}
 use Rattle.cl_preparation.proofs.Silence.{IsFine, all_over, declares_none, found_in, none_new, second_each}
@@ -74,12 +74,12 @@ taking_of key a (k ∷ ks) all = by (takes_part key k) refl (taking_of key a ks 
     by true e rest = (all.0 (and_parts (not (begins_with_angle key.name)) (is_offered key k) e).1, rest)
     by false e rest = rest
 
-walked_of : (key : Key) (a : ℕ) (opened : List Class) (ks : List Kin) → AreOf key a ks → AllByRecursion (λ (x : ℕ). x ≡ a) (loaders (walked key opened ks))
+walked_of : (key : Key) (a : ℕ) (opened : List Class) (ks : List Kin) → AreOf key a ks → AllByRecursion (λ (x : ℕ). x ≡ a) (loaders (walked_superclasses key opened ks))
 walked_of key a opened [] all = tt
 walked_of key a opened (k ∷ ks) all = by (is_overridden key opened k) refl (walked_of key a (opened_by key opened k) ks all.1)
   where
     more : List Kin
-    more = walked key (opened_by key opened k) ks
+    more = walked_superclasses key (opened_by key opened k) ks
 
     by : (b : Bool) → is_overridden key opened k ≡ b → AllByRecursion (λ (x : ℕ). x ≡ a) (loaders more) → AllByRecursion (λ (x : ℕ). x ≡ a) (loaders (if b then k ∷ more else more))
     by true e rest = (all.0 (and_parts (not (begins_with_angle key.name)) (is_offered key k) (and_parts (takes_part key k) _ e).0).1, rest)
@@ -137,7 +137,7 @@ module _ (l : Lined) (rows : List Rowed) (part : IsAmongRows rows l) where
 
   -- ---- the first half
 
-  both_own : (key : Key) (b : Bool) → takes_part key (kin_of l) ≡ true → IsAlone rows key → AllByRecursion (λ (x : ℕ). x ≡ l.own.class.loader) (loaders (if b then [] else overridden key (kin_of l)))
+  both_own : (key : Key) (b : Bool) → takes_part key (kin_of l) ≡ true → IsAlone rows key → AllByRecursion (λ (x : ℕ). x ≡ l.own.class.loader) (loaders (if b then [] else overridden_superclasses key (kin_of l)))
   both_own key true tp alone = tt
   both_own key false tp alone =
       subst (λ (ks : List Kin). AllByRecursion (λ (x : ℕ). x ≡ l.own.class.loader) (loaders ks)) (sym (overridden_is_walked key (kin_of l) tp))
@@ -147,7 +147,7 @@ module _ (l : Lined) (rows : List Rowed) (part : IsAmongRows rows l) where
   alone_none m alone = by (takes_part m.key (kin_of l)) refl
     where
       up : List ℕ
-      up = loaders (if is_interface (file_of l.own.file) then [] else overridden m.key (kin_of l))
+      up = loaders (if is_interface (file_of l.own.file) then [] else overridden_superclasses m.key (kin_of l))
 
       over : List ℕ
       over = loaders (filter (takes_part m.key) (superinterfaces (kin_of l)))

@@ -12,7 +12,7 @@ use Rattle.cl_model.specs.Classes.{same_package}
 use Rattle.cl_model.specs.Lineages.{Kin}
 use Rattle.cl_model.specs.Preparation.{takes_part}
 use Rattle.cl_preparation.specs.Fewer.{is_new, loaders, others_after}
-use Rattle.cl_preparation.specs.Walks.{is_in_package, is_open, opens, walked}
+use Rattle.cl_preparation.specs.Walks.{is_in_package, is_open, opens, walked_superclasses}
 
 -- ---- what was listed
 
@@ -73,8 +73,8 @@ known_within own listed (c ∷ cs) k known e = within_step own listed c k (same_
 
 open_step : (key : Key) (own : ℕ) (listed : List ℕ) (opened : List Class) (k : Kin) (ks : List Kin) (part wide within new : Bool)
     → takes_part key k ≡ part → is_open key k ≡ wide → is_in_package opened k.class ≡ within → is_new own listed k.class.loader ≡ new → AreKnown own listed opened
-    → ((before : List ℕ) (others : List Class) → AreKnown own before others → others_after own before (loaders (walked key others ks)) ≡ others_after own before (loaders (filter (opens key) ks)))
-    → others_after own listed (loaders (walked key opened (k ∷ ks))) ≡ others_after own listed (loaders (filter (opens key) (k ∷ ks)))
+    → ((before : List ℕ) (others : List Class) → AreKnown own before others → others_after own before (loaders (walked_superclasses key others ks)) ≡ others_after own before (loaders (filter (opens key) ks)))
+    → others_after own listed (loaders (walked_superclasses key opened (k ∷ ks))) ≡ others_after own listed (loaders (filter (opens key) (k ∷ ks)))
 open_step key own listed opened k ks false wide within new tp op inside fresh known rest = rw tp (rest listed opened known)
 open_step key own listed opened k ks true true within true tp op inside fresh known rest =
     rw tp (rw op (rw fresh (ap (λ (zs : List ℕ). k.class.loader ∷ zs)
@@ -86,7 +86,7 @@ open_step key own listed opened k ks true false false new tp op inside fresh kno
 
 -- what is overridden for its package alone is of a loader that is listed by then
 pub open_enough : (key : Key) (own : ℕ) (listed : List ℕ) (opened : List Class) (ks : List Kin) → AreKnown own listed opened
-    → others_after own listed (loaders (walked key opened ks)) ≡ others_after own listed (loaders (filter (opens key) ks))
+    → others_after own listed (loaders (walked_superclasses key opened ks)) ≡ others_after own listed (loaders (filter (opens key) ks))
 open_enough key own listed opened [] known = refl
 open_enough key own listed opened (k ∷ ks) known =
     open_step key own listed opened k ks (takes_part key k) (is_open key k) (is_in_package opened k.class) (is_new own listed k.class.loader) refl refl refl refl known

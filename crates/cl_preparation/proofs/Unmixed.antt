@@ -18,7 +18,7 @@ use Rattle.indexmap.specs.IndexMap.{IndexMap, get}
 use Rattle.indexmap.specs.IndexSet.{IndexSet, contains}
 use Rattle.cl_classfile.specs.declared.entry.Entry.{Entry}
 use Rattle.cl_classfile.specs.Structure.{MemberInfo, Structure}
-use Rattle.cl_classfile.specs.Files.{Key, Name, class_name, declared_by, file_of, keyed, member, method_of, same_key, same_name, text_at}
+use Rattle.cl_classfile.specs.Files.{Key, Name, class_name, declared_by, file_of, linked_member, member, method_of, same_key, same_name, text_at}
 use Rattle.cl_classfile.specs.Files as files
 use Rattle.cl_classfile.specs.Lookups.{method_named}
 use Rattle.cl_classfile.proofs.KeyTexts.{reads_methods}
@@ -112,7 +112,7 @@ noted_key {S} declared pool named l key (m ∷ ms) all on = by_texts (text_at po
     by_key n d (Some k) ne de ke more on = by_same (record { name = n; descriptor = d }) k (same_key k key) ne de ke refl more on
 
     by_texts : (n d : Option Name) → text_at pool m.name_index ≡ n → text_at pool m.descriptor_index ≡ d → (Offers (member rest key) → IsFound declared named l key)
-        → Offers (member (cons_option (keyed method_of m.flags n d) rest) key) → IsFound declared named l key
+        → Offers (member (cons_option (linked_member method_of m.flags n d) rest) key) → IsFound declared named l key
     by_texts (Some n) (Some d) ne de more on = by_key n d (method_of n d) ne de refl more on
     by_texts (Some n) None ne de more on = more on
     by_texts None d ne de more on = more on

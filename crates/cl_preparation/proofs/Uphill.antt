@@ -5,7 +5,7 @@ use Rattle.std.specs.List.{list_any}
 use Rattle.std.proofs.lemmas.Bool.{eqb-true}
 use Rattle.cl_classfile.specs.Files.{Key, Member, file_of, is_interface}
 use Rattle.cl_model.specs.Lineages.{Kin, superclasses, superinterfaces}
-use Rattle.cl_model.specs.Preparation.{equals_of, overridden, takes_part}
+use Rattle.cl_model.specs.Preparation.{equals_of, overridden_superclasses, takes_part}
 use Rattle.cl_model.specs.States.{Need}
 use Rattle.cl_hierarchy.specs.Climbs.{IsTop}
 use Rattle.cl_hierarchy.specs.Lineages.{Lined, kin_of, others_of}
@@ -93,9 +93,9 @@ over_plain key l tp class over =
     let c = kin_of l in
     sym (open_enough key own [] (l.own.class ∷ []) (superclasses c) (own_known own, tt))
     ∙ ap (λ (ks : List Kin). others_after own [] (loaders ks)) (sym (overridden_is_walked key c tp))
-    ∙ ap (λ (xs : List ℕ). others_after own [] xs) (sym (append-nil (loaders (overridden key c))))
-    ∙ ap (λ (ks : List Kin). others_after own [] (loaders (overridden key c) ++ loaders (filter (takes_part key) ks))) over
-    ∙ ap (λ (b : Bool). others_after own [] (loaders (if b then [] else overridden key c) ++ loaders (filter (takes_part key) (superinterfaces c)))) (sym class)
+    ∙ ap (λ (xs : List ℕ). others_after own [] xs) (sym (append-nil (loaders (overridden_superclasses key c))))
+    ∙ ap (λ (ks : List Kin). others_after own [] (loaders (overridden_superclasses key c) ++ loaders (filter (takes_part key) ks))) over
+    ∙ ap (λ (b : Bool). others_after own [] (loaders (if b then [] else overridden_superclasses key c) ++ loaders (filter (takes_part key) (superinterfaces c)))) (sym class)
 
 pub plain_declared : (l : Lined) (m : Member) → takes_part m.key (kin_of l) ≡ true → is_interface (file_of l.own.file) ≡ false → [] ≡ superinterfaces (kin_of l)
     → flat_map (equals_of m.key l.own.class.loader) (others_after l.own.class.loader [] (loaders (filter (opens m.key) (superclasses (kin_of l))))) ≡ fewer_declared (kin_of l) m

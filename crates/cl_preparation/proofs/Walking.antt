@@ -17,9 +17,9 @@ use Rattle.cl_model.specs.States.{Need}
 use Rattle.cl_model.proofs.Runs.{names_equal}
 use Rattle.cl_hierarchy.specs.Rows.{Rowed}
 use Rattle.cl_preparation.specs.declared.packages.Package.{Package}
-use Rattle.cl_preparation.specs.Packages.{AreOpened, Opens, packaged, same_packages}
+use Rattle.cl_preparation.specs.Packages.{AreOpened, Opens, package_of_class, same_packages}
 use Rattle.cl_preparation.specs.Relatives.{Visits, Walking, bare, of_superclasses}
-use Rattle.cl_preparation.specs.Walks.{is_closed, is_in_package, is_open, is_overridden, opened_by, opening, walked}
+use Rattle.cl_preparation.specs.Walks.{is_closed, is_in_package, is_open, is_overridden, opened_by, declared_open, walked_superclasses}
 use Rattle.cl_hierarchy.proofs.SuperTables.{drop_all}
 
 -- ---- lists
@@ -39,18 +39,18 @@ package_turned a b =
     ap (λ (x : Bool). x && pointwise nat_eq (package_of a.name) (package_of b.name)) (nat_eq_equiv.symm a.loader b.loader)
     ∙ ap (λ (x : Bool). (b.loader == a.loader) && x) (nat_list_eq_equiv.symm (package_of a.name) (package_of b.name))
 
-package_is : (a b : Class) → same_package a b ≡ true → packaged a ≡ packaged b
+package_is : (a b : Class) → same_package a b ≡ true → package_of_class a ≡ package_of_class b
 package_is a b e =
     let both = and_parts (a.loader == b.loader) (pointwise nat_eq (package_of a.name) (package_of b.name)) e in
     ap (λ (l : ℕ). record { loader = l; name = package_of a.name }) (eqb-true a.loader b.loader both.0)
     ∙ ap (λ (n : List ℕ). record { loader = b.loader; name = n }) (names_equal (package_of a.name) (package_of b.name) both.1)
 
 pub none_opened : {S : Type 0} (fresh : IndexSet Package S) → IsEmpty fresh → AreOpened fresh []
-none_opened fresh empty = λ c. ap (λ (ks : List Package). list_any (same_packages (packaged c)) ks) empty
+none_opened fresh empty = λ c. ap (λ (ks : List Package). list_any (same_packages (package_of_class c)) ks) empty
 
-pub one_opened : {S : Type 0} (old new : IndexSet Package S) (k : Class) (cs : List Class) → AreOpened old cs → Opens old new (packaged k) → AreOpened new (k ∷ cs)
+pub one_opened : {S : Type 0} (old new : IndexSet Package S) (k : Class) (cs : List Class) → AreOpened old cs → Opens old new (package_of_class k) → AreOpened new (k ∷ cs)
 one_opened old new k cs before put = λ c.
-    put (packaged c) ∙ or_turned (same_packages (packaged k) (packaged c)) (contains same_packages old (packaged c)) (is_in_package cs c) (before c)
+    put (package_of_class c) ∙ or_turned (same_packages (package_of_class k) (package_of_class c)) (contains same_packages old (package_of_class c)) (is_in_package cs c) (before c)
     ∙ ap (λ (x : Bool). x || is_in_package cs c) (package_turned k c)
 
 -- ---- a step
@@ -74,42 +74,42 @@ some_part true wide b e = (refl, cc)
 some_part false wide b e = absurd cc
 
 -- one that does not take part
-pub passed : {S : Type 0} (key : Key) (before : List Class) (k : Kin) (imposed needs : List Need) (opened : IndexSet Package S) → None ≡ opening key k → AreOpened opened before → Visits key before k imposed needs needs opened
+pub passed : {S : Type 0} (key : Key) (before : List Class) (k : Kin) (imposed needs : List Need) (opened : IndexSet Package S) → None ≡ declared_open key k → AreOpened opened before → Visits key before k imposed needs needs opened
 passed key before k imposed needs opened none was =
     visits key before k imposed needs needs opened opened false (is_open key k) (is_in_package before k.class) (no_part (takes_part key k) (is_open key k) none) refl refl was (sym (append-nil needs)) was
 
 -- one that takes part and opens its package
-pub opened_too : {S : Type 0} (key : Key) (before : List Class) (k : Kin) (imposed old new : List Need) (opened after : IndexSet Package S) → Some true ≡ opening key k → AreOpened opened before
-    → new ≡ old ++ imposed → Opens opened after (packaged k.class) → Visits key before k imposed old new after
+pub opened_too : {S : Type 0} (key : Key) (before : List Class) (k : Kin) (imposed old new : List Need) (opened after : IndexSet Package S) → Some true ≡ declared_open key k → AreOpened opened before
+    → new ≡ old ++ imposed → Opens opened after (package_of_class k.class) → Visits key before k imposed old new after
 opened_too key before k imposed old new opened after some was needs put =
     let told : (true ≡ takes_part key k) × (true ≡ is_open key k) = some_part (takes_part key k) (is_open key k) true some in
     visits key before k imposed old new opened after true true (is_in_package before k.class) told.0 told.1 refl was needs (one_opened opened after k.class before was put)
 
 -- a package that was opened once more
-opened_twice : {S : Type 0} (opened : IndexSet Package S) (k : Class) (cs : List Class) → AreOpened opened cs → contains same_packages opened (packaged k) ≡ true → AreOpened opened (k ∷ cs)
+opened_twice : {S : Type 0} (opened : IndexSet Package S) (k : Class) (cs : List Class) → AreOpened opened cs → contains same_packages opened (package_of_class k) ≡ true → AreOpened opened (k ∷ cs)
 opened_twice opened k cs before inside = λ c. by c (same_package c k) refl
   where
-    by : (c : Class) (b : Bool) → same_package c k ≡ b → contains same_packages opened (packaged c) ≡ is_in_package (k ∷ cs) c
+    by : (c : Class) (b : Bool) → same_package c k ≡ b → contains same_packages opened (package_of_class c) ≡ is_in_package (k ∷ cs) c
     by c false e = before c ∙ ap (λ (x : Bool). x || is_in_package cs c) (sym e)
     by c true e = ap (contains same_packages opened) (package_is c k e) ∙ inside ∙ ap (λ (x : Bool). x || is_in_package cs c) (sym e)
 
 -- one that takes part and opens its package, which was opened
-pub opened_again : {S : Type 0} (key : Key) (before : List Class) (k : Kin) (imposed old new : List Need) (opened : IndexSet Package S) → Some true ≡ opening key k → AreOpened opened before
-    → true ≡ contains same_packages opened (packaged k.class) → new ≡ old ++ imposed → Visits key before k imposed old new opened
+pub opened_again : {S : Type 0} (key : Key) (before : List Class) (k : Kin) (imposed old new : List Need) (opened : IndexSet Package S) → Some true ≡ declared_open key k → AreOpened opened before
+    → true ≡ contains same_packages opened (package_of_class k.class) → new ≡ old ++ imposed → Visits key before k imposed old new opened
 opened_again key before k imposed old new opened some was inside needs =
     let told : (true ≡ takes_part key k) × (true ≡ is_open key k) = some_part (takes_part key k) (is_open key k) true some in
     visits key before k imposed old new opened opened true true (is_in_package before k.class) told.0 told.1 refl was needs (opened_twice opened k.class before was (sym inside))
 
 -- one that takes part for its package alone, which was opened
-pub within_too : {S : Type 0} (key : Key) (before : List Class) (k : Kin) (imposed old new : List Need) (opened : IndexSet Package S) → Some false ≡ opening key k → AreOpened opened before
-    → true ≡ contains same_packages opened (packaged k.class) → new ≡ old ++ imposed → Visits key before k imposed old new opened
+pub within_too : {S : Type 0} (key : Key) (before : List Class) (k : Kin) (imposed old new : List Need) (opened : IndexSet Package S) → Some false ≡ declared_open key k → AreOpened opened before
+    → true ≡ contains same_packages opened (package_of_class k.class) → new ≡ old ++ imposed → Visits key before k imposed old new opened
 within_too key before k imposed old new opened some was inside needs =
     let told : (true ≡ takes_part key k) × (false ≡ is_open key k) = some_part (takes_part key k) (is_open key k) false some in
     visits key before k imposed old new opened opened true false true told.0 told.1 (inside ∙ was k.class) was needs was
 
 -- one whose package was not opened
-pub without : {S : Type 0} (key : Key) (before : List Class) (k : Kin) (imposed needs : List Need) (opened : IndexSet Package S) → Some false ≡ opening key k → AreOpened opened before
-    → false ≡ contains same_packages opened (packaged k.class) → Visits key before k imposed needs needs opened
+pub without : {S : Type 0} (key : Key) (before : List Class) (k : Kin) (imposed needs : List Need) (opened : IndexSet Package S) → Some false ≡ declared_open key k → AreOpened opened before
+    → false ≡ contains same_packages opened (package_of_class k.class) → Visits key before k imposed needs needs opened
 without key before k imposed needs opened some was outside =
     let told : (true ≡ takes_part key k) × (false ≡ is_open key k) = some_part (takes_part key k) (is_open key k) false some in
     visits key before k imposed needs needs opened opened true false false told.0 told.1 (outside ∙ was k.class) was (sym (append-nil needs)) was
@@ -117,13 +117,13 @@ without key before k imposed needs opened some was outside =
 -- ---- no package tells
 
 open_next : (key : Key) (opened : List Class) (k : Kin) (ks : List Kin) (part wide closed : Bool) → takes_part key k ≡ part → is_open key k ≡ wide → ((part && not wide) || closed) ≡ false
-    → ((others : List Class) → closed ≡ false → walked key others ks ≡ filter (takes_part key) ks) → walked key opened (k ∷ ks) ≡ filter (takes_part key) (k ∷ ks)
+    → ((others : List Class) → closed ≡ false → walked_superclasses key others ks ≡ filter (takes_part key) ks) → walked_superclasses key opened (k ∷ ks) ≡ filter (takes_part key) (k ∷ ks)
 open_next key opened k ks false wide closed tp op none rest = rw tp (rest opened none)
 open_next key opened k ks true true closed tp op none rest = rw tp (rw op (ap (λ others. k ∷ others) (rest (k.class ∷ opened) none)))
 open_next key opened k ks true false closed tp op none rest = absurd cc
 
 -- where none is for its package alone, all that take part are overridden
-open_walked : (key : Key) (opened : List Class) (rs : List Rowed) → list_any (λ r. is_closed key (bare r)) rs ≡ false → walked key opened (map bare rs) ≡ filter (takes_part key) (map bare rs)
+open_walked : (key : Key) (opened : List Class) (rs : List Rowed) → list_any (λ r. is_closed key (bare r)) rs ≡ false → walked_superclasses key opened (map bare rs) ≡ filter (takes_part key) (map bare rs)
 open_walked key opened [] none = refl
 open_walked key opened (r ∷ rs) none =
     open_next key opened (bare r) (map bare rs) (takes_part key (bare r)) (is_open key (bare r)) (list_any (λ r. is_closed key (bare r)) rs) refl refl none (λ others more. open_walked key others rs more)
@@ -134,12 +134,12 @@ pub above_open : (own : Rowed) (above : List Rowed) (key : Key) (loader : ℕ) (
 above_open own above key loader old new inter closed ie none ce oe le more =
     more ∙ ap (λ (x : ℕ). old ++ equals_with key x (filter (takes_part key) (map bare above))) le
     ∙ ap (λ (ks : List Kin). old ++ equals_with key own.class.loader ks) (sym (open_walked key (own.class ∷ []) above (sym (oe ∙ ce))))
-    ∙ ap (λ (b : Bool). old ++ (if b then [] else equals_with key own.class.loader (walked key (own.class ∷ []) (map bare above)))) (none ∙ ie)
+    ∙ ap (λ (b : Bool). old ++ (if b then [] else equals_with key own.class.loader (walked_superclasses key (own.class ∷ []) (map bare above)))) (none ∙ ie)
 
 -- ---- the walk
 
-pub walking_start : {S : Type 0} (key : Key) (loader : ℕ) (fresh opened : IndexSet Package S) (own : Class) (needs : List Need) (ks : List Kin) → IsEmpty fresh → Opens fresh opened (packaged own)
-    → Walking key loader opened needs ks (needs ++ equals_with key loader (walked key (own ∷ []) ks))
+pub walking_start : {S : Type 0} (key : Key) (loader : ℕ) (fresh opened : IndexSet Package S) (own : Class) (needs : List Need) (ks : List Kin) → IsEmpty fresh → Opens fresh opened (package_of_class own)
+    → Walking key loader opened needs ks (needs ++ equals_with key loader (walked_superclasses key (own ∷ []) ks))
 walking_start key loader fresh opened own needs ks empty put = record {
   classes = own ∷ [];
   opened_are = one_opened fresh opened own [] (none_opened fresh empty) put;
@@ -147,11 +147,11 @@ walking_start key loader fresh opened own needs ks empty put = record {
 }
 
 step_total : (key : Key) (loader : ℕ) (cs : List Class) (k : Kin) (ks : List Kin) (needs new : List Need) (b : Bool) → new ≡ needs ++ (if b then equals_of key loader k.class.loader else [])
-    → new ++ equals_with key loader (walked key (opened_by key cs k) ks) ≡ needs ++ equals_with key loader (if b then k ∷ walked key (opened_by key cs k) ks else walked key (opened_by key cs k) ks)
+    → new ++ equals_with key loader (walked_superclasses key (opened_by key cs k) ks) ≡ needs ++ equals_with key loader (if b then k ∷ walked_superclasses key (opened_by key cs k) ks else walked_superclasses key (opened_by key cs k) ks)
 step_total key loader cs k ks needs new true e =
-    ap (λ ns. ns ++ equals_with key loader (walked key (opened_by key cs k) ks)) e
-    ∙ append_assoc needs (equals_of key loader k.class.loader) (equals_with key loader (walked key (opened_by key cs k) ks))
-step_total key loader cs k ks needs new false e = ap (λ ns. ns ++ equals_with key loader (walked key (opened_by key cs k) ks)) (e ∙ append-nil needs)
+    ap (λ ns. ns ++ equals_with key loader (walked_superclasses key (opened_by key cs k) ks)) e
+    ∙ append_assoc needs (equals_of key loader k.class.loader) (equals_with key loader (walked_superclasses key (opened_by key cs k) ks))
+step_total key loader cs k ks needs new false e = ap (λ ns. ns ++ equals_with key loader (walked_superclasses key (opened_by key cs k) ks)) (e ∙ append-nil needs)
 
 walking_next : {S : Type 0} (key : Key) (loader : ℕ) (opened after : IndexSet Package S) (needs new : List Need) (k : Kin) (ks : List Kin) (total : List Need)
     → Walking key loader opened needs (k ∷ ks) total → ((before : List Class) → AreOpened opened before → Visits key before k (equals_of key loader k.class.loader) needs new after)

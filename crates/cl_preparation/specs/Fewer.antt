@@ -3,7 +3,7 @@ use Rattle.std.specs.Prelude.{◌≡◌, ◌==◌, ℕ, Bool, true, false, ◌&&
 use Rattle.std.specs.List.{list_any}
 use Rattle.cl_classfile.specs.Files.{Key, Member, is_interface}
 use Rattle.cl_model.specs.Lineages.{Kin, superclasses, superinterfaces}
-use Rattle.cl_model.specs.Preparation.{constraints_of, equals_of, for_declared, for_inherited, overridden, takes_part}
+use Rattle.cl_model.specs.Preparation.{constraints_of, equals_of, for_declared, for_inherited, overridden_superclasses, takes_part}
 use Rattle.cl_model.specs.States.{AllMet, Entry, Equal, Need, State}
 use Rattle.cl_hierarchy.specs.Imposed.{AreEnough, constraints_above, known_by}
 use Rattle.cl_hierarchy.specs.declared.equalities.Given.{Given}
@@ -32,7 +32,7 @@ loaders ks = map (λ k. k.class.loader) ks
 -- (5.4.2)
 abbrev pub loaders_over : Kin → Key → List ℕ
 loaders_over c key =
-    loaders (if is_interface c.file then [] else overridden key c)
+    loaders (if is_interface c.file then [] else overridden_superclasses key c)
     ++ loaders (filter (takes_part key) (superinterfaces c))
 
 -- the first of these classes is no interface
@@ -99,15 +99,15 @@ abbrev pub fewer_constraints_of : Kin → List Need
 fewer_constraints_of c = without_repeats (fewer_with_repeats c)
 
 -- of these methods, those that are not hidden
-abbrev pub unhidden : (Key → Bool) → List Member → List Member
-unhidden hidden ms = filter (λ m. not (hidden m.key)) ms
+abbrev pub unhidden_methods : (Key → Bool) → List Member → List Member
+unhidden_methods hidden ms = filter (λ m. not (hidden m.key)) ms
 
 -- what the methods of a superinterface j of a class impose with what it inherits, but for these, is met
 -- where what its superclasses impose is (5.4.2)
 abbrev pub IsImposed : Kin → (Key → Bool) → Kin → Type 0
 IsImposed c hidden j =
     (s : State) → AllMet s (constraints_above c)
-    → AllMet s (flat_map (fewer_inherited c j) (unhidden hidden j.file.methods))
+    → AllMet s (flat_map (fewer_inherited c j) (unhidden_methods hidden j.file.methods))
 
 -- needs that stand for all of these were listed, where what superclasses impose is met (5.4.2)
 pub record AddsLeft (c : Kin) (old : Listing) (all : List Need) (new : Listing) : Type 0 where

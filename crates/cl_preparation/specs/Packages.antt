@@ -8,8 +8,8 @@ use Rattle.cl_preparation.specs.declared.packages.Package.{Package}
 use Rattle.cl_preparation.specs.Walks.{is_in_package}
 
 -- the run-time package of a class (5.3)
-abbrev pub packaged : Class → Package
-packaged c = record { loader = c.loader; name = package_of c.name }
+abbrev pub package_of_class : Class → Package
+package_of_class c = record { loader = c.loader; name = package_of c.name }
 
 -- two packages are the same (5.3)
 abbrev pub same_packages : Package → Package → Bool
@@ -25,4 +25,4 @@ Opens old new p =
 -- the packages are those of these classes (5.3)
 abbrev pub AreOpened : {S : Type 0} → IndexSet Package S → List Class → Type 0
 AreOpened packages cs =
-    (c : Class) → contains same_packages packages (packaged c) ≡ is_in_package cs c
+    (c : Class) → contains same_packages packages (package_of_class c) ≡ is_in_package cs c

@@ -12,7 +12,7 @@ use Rattle.cl_hierarchy.specs.Lineages.{Lined, kin_at, kin_of}
 use Rattle.cl_preparation.specs.declared.packages.Package.{Package}
 use Rattle.cl_preparation.specs.Filters.{Covers}
 use Rattle.cl_preparation.specs.Packages.{AreOpened}
-use Rattle.cl_preparation.specs.Walks.{is_overridden, opened_by, walked}
+use Rattle.cl_preparation.specs.Walks.{is_overridden, opened_by, walked_superclasses}
 
 -- the rows of a class, of its superclasses nearest first, and of its superinterfaces in preorder
 -- (5.4.2)
@@ -53,21 +53,22 @@ pub record Walking {S : Type 0} (key : Key) (loader : ℕ) (opened : IndexSet Pa
     (needs : List Need) (rest : List Kin) (total : List Need) : Type 0 where
   pub classes : List Class
   pub opened_are : AreOpened opened classes
-  pub total_is : needs ++ equals_with key loader (walked key classes rest) ≡ total
+  pub total_is : needs ++ equals_with key loader (walked_superclasses key classes rest) ≡ total
 
 -- what a method of a class imposes with its superclasses (5.4.2)
 abbrev pub of_superclasses : Rowed → List Rowed → Key → List Need
 of_superclasses own above key =
     if is_interface (file_of own.file)
     then []
-    else equals_with key own.class.loader (walked key (own.class ∷ []) (map bare above))
+    else equals_with key own.class.loader
+    (walked_superclasses key (own.class ∷ []) (map bare above))
 
 -- what is asked of a key, if there is one
-abbrev pub asked : Option Key → (Key → Bool) → Bool
-asked key test = option_map_or test key false
+abbrev pub asked_of_key : Option Key → (Key → Bool) → Bool
+asked_of_key key test = option_map_or test key false
 
 -- the method of this name and this descriptor of a class overrides that of its superclass a, over
 -- the classes between; what is no method descriptor is that of none (5.4.5)
 abbrev pub overrides_named : Name → Name → Kin → List Kin → Kin → Bool
 overrides_named name descriptor c between a =
-    asked (method_of name descriptor) (λ key. overrides key c between a)
+    asked_of_key (method_of name descriptor) (λ key. overrides key c between a)

@@ -22,8 +22,8 @@ abbrev pub counts : Bool → Key → Kin → Bool
 counts only_open key k = if only_open then opens key k else takes_part key k
 
 -- of such a method that takes part, if the class declares one: whether it is open (5.4.5)
-abbrev pub opening : Key → Kin → Option Bool
-opening key k = if takes_part key k then Some (is_open key k) else None
+abbrev pub declared_open : Key → Kin → Option Bool
+declared_open key k = if takes_part key k then Some (is_open key k) else None
 
 -- the class declares such a method that takes part, for its package alone (5.4.5)
 abbrev pub is_closed : Key → Kin → Bool
@@ -59,9 +59,9 @@ abbrev pub opened_by : Key → List Class → Kin → List Class
 opened_by key opened a = if opens key a then a.class ∷ opened else opened
 
 -- the superclasses whose method is overridden, in one walk, nearest first (5.4.5)
-abbrev pub walked : Key → List Class → List Kin → List Kin
-walked key opened [] = []
-walked key opened (a ∷ more) =
+abbrev pub walked_superclasses : Key → List Class → List Kin → List Kin
+walked_superclasses key opened [] = []
+walked_superclasses key opened (a ∷ more) =
     if is_overridden key opened a
-    then a ∷ walked key (opened_by key opened a) more
-    else walked key (opened_by key opened a) more
+    then a ∷ walked_superclasses key (opened_by key opened a) more
+    else walked_superclasses key (opened_by key opened a) more

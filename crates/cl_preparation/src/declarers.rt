@@ -187,7 +187,12 @@ pub(crate) fn is_no_mix(
 }
 
 /// Who declares a method, with one class more.
-fn joined(declared: &Declared, texts: &MethodTexts, named: bool, loader: LoaderId) -> Declarers
+fn with_declarer(
+    declared: &Declared,
+    texts: &MethodTexts,
+    named: bool,
+    loader: LoaderId,
+) -> Declarers
     ensures { AddsDeclarer (get same_texts declared.now texts.now) named loader result }
 {
     match declared.get(texts) {
@@ -206,7 +211,7 @@ fn note(
     ensures { OnOk result (KeepsNoted declared.old declared.new
         × (is_noted declared.new texts named loader ≡ true)) }
 {
-    let declarers = joined(declared, &texts, named, loader);
+    let declarers = with_declarer(declared, &texts, named, loader);
     declared.insert(texts, declarers)?;
     Ok(())
 }

@@ -280,7 +280,7 @@ fn interface_needs<T: Told>(
     let away = Away::unfiltered(alloc, Vec::new(alloc));
     let over = Away::unfiltered(alloc, over);
     let nearby = Nearby { own, away, over };
-    let needs = nearby.declared(alloc, seed);
+    let needs = nearby.declared_needs(alloc, seed);
     drop(nearby);
     needs
 }

@@ -63,7 +63,7 @@ fn with_first(
 }
 
 /// The same loaders.
-fn copied(alloc: Global, loaders: &[LoaderId]) -> Result<Vec<LoaderId>, AllocError>
+fn copy_of(alloc: Global, loaders: &[LoaderId]) -> Result<Vec<LoaderId>, AllocError>
     ensures { IfOk result (λ v. v.items ≡ loaders.now) }
 {
     let mut all = Vec::with_capacity(alloc, loaders.len())?;
@@ -141,7 +141,7 @@ impl Above {
         let wide = if is_open {
             with_first(alloc, loader, before)?
         } else {
-            copied(alloc, before)?
+            copy_of(alloc, before)?
         };
         Ok(Above {
             wide,

@@ -136,7 +136,7 @@ impl<'a, 'b, T: Told> Nearby<'a, 'b, T> {
     }
 
     /// What the methods of the class impose, each equality once.
-    pub fn declared(&self, alloc: Global, seed: Seed) -> Result<Vec<Equality>, AllocError>
+    pub fn declared_needs(&self, alloc: Global, seed: Seed) -> Result<Vec<Equality>, AllocError>
         ensures { IfOk result (λ v. needs_of v.items ≡ without_repeats
             (flat_map (near_declared self.now.own self.now.away self.now.over)
             (bare self.now.own).file.methods)) }

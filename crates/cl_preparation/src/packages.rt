@@ -3,7 +3,7 @@
 ghost use Rattle.std.specs.Prelude.{◌≡◌, IfOk, OnOk};
 ghost use Rattle.std.specs.List.{list_any};
 ghost use Rattle.indexmap.specs.IndexSet.{contains};
-ghost use Rattle.cl_preparation.specs.Packages.{Opens, packaged, same_packages};
+ghost use Rattle.cl_preparation.specs.Packages.{Opens, package_of_class, same_packages};
 
 use cl_model::{Class, LoaderId};
 use cl_names::{Name, Seed};
@@ -26,7 +26,7 @@ impl Drop for Package {
 impl Package {
     /// The package of a class.
     pub fn of(alloc: Global, class: &Class) -> Result<Package, AllocError>
-        ensures { IfOk result (λ p. p ≡ packaged class.now) }
+        ensures { IfOk result (λ p. p ≡ package_of_class class.now) }
     {
         // The front of a name up to a `/` is one too, so that only memory refuses it.
         let name = Name::any(alloc, class.name.package()).map_err(|_| AllocError)?;
@@ -64,7 +64,8 @@ pub(crate) fn has_package_of(
     packages: &Packages,
     class: &Class,
 ) -> Result<bool, AllocError>
-    ensures { IfOk result (λ b. b ≡ contains same_packages packages.now (packaged class.now)) }
+    ensures { IfOk result (λ b. b
+        ≡ contains same_packages packages.now (package_of_class class.now)) }
 {
     if packages.len() <= FEW_PACKAGES {
         let few = packages.as_slice();

@@ -111,7 +111,7 @@ impl<T: Told> Preparations<T> {
 
     /// The same, with what a look at all classes finds, where that is worth it as those from this place on are to be prepared:
     /// so that the preparation of each has to look at few of those above it (JVMS SE 8, 5.4.2). Only memory refuses it.
-    pub fn surveyed(self, alloc: Global, from: usize) -> Result<Preparations<T>, AllocError>
+    pub fn with_survey(self, alloc: Global, from: usize) -> Result<Preparations<T>, AllocError>
         ensures { IfOk result (λ p. p ≡ self) }
     {
         let left = self.lineage().above().len().saturating_sub(from);

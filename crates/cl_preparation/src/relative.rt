@@ -6,7 +6,7 @@ ghost use Rattle.cl_model.specs.Lineages.{is_offered, is_virtual, method_of};
 ghost use Rattle.cl_model.specs.Preparation.{takes_part};
 ghost use Rattle.cl_preparation.specs.Methods.{is_wide};
 ghost use Rattle.cl_preparation.specs.Relatives.{AreNames, bare, names_interfaces};
-ghost use Rattle.cl_preparation.specs.Walks.{hides, is_closed, opening, opens};
+ghost use Rattle.cl_preparation.specs.Walks.{hides, is_closed, declared_open, opens};
 
 use crate::filter::NameFilter;
 use crate::key::MethodKey;
@@ -263,7 +263,7 @@ impl<T: Told> Relative<T> {
     /// (JVMS SE 8, 5.4.5).
     #[tactic(auto, using(crate::proofs::Declared::flags_opened))]
     pub fn opens(&self, key: &MethodKey) -> Option<bool>
-        ensures { result ≡ opening key.now (bare self.now) }
+        ensures { result ≡ declared_open key.now (bare self.now) }
     {
         match self.flags(key) {
             Some(flags) => opening(key.is_special(), flags),

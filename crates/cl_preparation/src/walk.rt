@@ -8,7 +8,7 @@ ghost use Rattle.cl_hierarchy.specs.Imposed.{needs_of};
 ghost use Rattle.cl_preparation.specs.Inherited.{first_loader};
 ghost use Rattle.cl_preparation.specs.Packages.{AreOpened};
 ghost use Rattle.cl_preparation.specs.Relatives.{Visits, bare, of_superclasses};
-ghost use Rattle.cl_preparation.specs.Walks.{is_closed, walked};
+ghost use Rattle.cl_preparation.specs.Walks.{is_closed, walked_superclasses};
 
 use crate::described::{Described, push_equals};
 use crate::key::MethodKey;
@@ -63,7 +63,7 @@ fn push_overridden<T: Told>(
     superclasses: &[Relative<T>],
 ) -> Result<(), AllocError>
     ensures { OnOk result (needs_of needs.new.items ≡ needs_of needs.old.items
-        ++ equals_with method.now own.now.class.loader (walked method.now (own.now.class ∷ [])
+        ++ equals_with method.now own.now.class.loader (walked_superclasses method.now (own.now.class ∷ [])
         (map bare superclasses.now))) }
 {
     let mut opened = IndexSet::with_hasher(alloc, seed);

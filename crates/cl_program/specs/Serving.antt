@@ -6,7 +6,7 @@ use Rattle.cl_registry.specs.declared.report.Report.{Report}
 use Rattle.cl_report.specs.Report.{report_lines}
 use Rattle.cl_schedule.specs.Counting.{faults}
 use Rattle.cl_schedule.specs.Headline.{IsServedInOrder}
-use Rattle.cl_schedule.specs.Serving.{reported}
+use Rattle.cl_schedule.specs.Serving.{reported_registry}
 use Rattle.cl_schedule.specs.declared.serve.ServeFault.TheVariants as serve
 use Rattle.cl_pool.specs.Served.{WorkersMayServe}
 use Rattle.cl_program.specs.declared.fault.Fault.{Fault}
@@ -23,7 +23,7 @@ pub record ByWorkers (workers : ℕ) (One Several : Type 0) : Type 0 where
 -- the report of a script that was served in order under a configuration, with no fault of the source (5.3)
 pub record IsServedAlone (told : Option Content) (config : Configured) (script : Scripted) (r : Report) : Type 0 where
   pub in_order : IsServedInOrder told config script r
-  pub no_source_faults : faults (reported config r).answers ≡ 0
+  pub no_source_faults : faults (reported_registry config r).answers ≡ 0
 
 -- why several workers made no report: their number is blamed where there are none or too many, and nowhere else
 abbrev pub FailsBy : ℕ → ThreadFault → Type 0

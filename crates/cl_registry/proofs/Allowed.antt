@@ -12,7 +12,7 @@ use Rattle.cl_model.specs.Content.{Content}
 use Rattle.cl_model.specs.Homes.{World, home, is_java, is_loader, own_home, home_by_earlier, home_below}
 use Rattle.cl_model.specs.Classes.{class, Above, AtHome, Fitting, FitsAt, Good, IsGood, HasFile, IsAtHome, misfit, supers}
 use Rattle.cl_model.specs.Classes as classes
-use Rattle.cl_model.specs.States.{State, Entry, MayAdd, recorded, Keeps}
+use Rattle.cl_model.specs.States.{State, Entry, MayAdd, recorded_definer, Keeps}
 use Rattle.cl_model.specs.Plans.{Load}
 use Rattle.cl_model.specs.Frames.{Frame, Judged, AcceptsFirst}
 use Rattle.cl_model.specs.Machine.{Setting, Define, Initiate, IsClosed, May}
@@ -30,7 +30,7 @@ use Rattle.cl_delegation.specs.Worlds.{world_of, setting_of}
 use Rattle.cl_hierarchy.specs.Drafts.{Drafted, IsDraft}
 use Rattle.cl_hierarchy.specs.Rows.{FitsAs}
 use Rattle.cl_hierarchy.proofs.Placed.{spelt_file}
-use Rattle.cl_registry.specs.Tables.{Shown, steps, state_of, records_of, looked, place_in, IsKept}
+use Rattle.cl_registry.specs.Tables.{Shown, steps, state_of, records_of, looked_row, place_in, IsKept}
 use Rattle.cl_registry.specs.Allowed.{AllowedIsEntered, EnteredIsAllowed, AllowedIsJoined, JoinedIsAllowed, RoundIsAllowed, OtherConfigIsStray}
 use Rattle.cl_registry.proofs.Running.{may_add, may_be_added}
 use Rattle.cl_registry.proofs.Placed.{HasRow, recorded_row}
@@ -69,7 +69,7 @@ draft_at_home c content d draft config =
 -- ---- definitions
 
 -- what is recorded is at home where it was defined
-row_file : (content : Content) (x : Shown) (l p : ℕ) (name : Name) → IsKept (Some content) x → recorded (records_of x) l name ≡ Some p → (r : HasRow (Some content) (looked x l name) (class name p)) → HasFile (world_of x.config content) (class name p) (file_of r.row.file)
+row_file : (content : Content) (x : Shown) (l p : ℕ) (name : Name) → IsKept (Some content) x → recorded_definer (records_of x) l name ≡ Some p → (r : HasRow (Some content) (looked_row x l name) (class name p)) → HasFile (world_of x.config content) (class name p) (file_of r.row.file)
 row_file content x l p name kept at r =
     let w = world_of x.config content in
     let closed = closed_of content x kept in
@@ -97,13 +97,13 @@ may_by g s c f ts closed at file accepts kept none free =
 abbrev recorded_as : Shown → ℕ → List Above → List Class
 recorded_as x l others = map (λ (a : Above). class a.name (place_in (records_of x) l a)) others
 
-pub recorded_at : (x : Shown) (l : ℕ) (a : Above) → IsSome (recorded (records_of x) l a.name) → recorded (records_of x) l a.name ≡ Some (place_in (records_of x) l a)
+pub recorded_at : (x : Shown) (l : ℕ) (a : Above) → IsSome (recorded_definer (records_of x) l a.name) → recorded_definer (records_of x) l a.name ≡ Some (place_in (records_of x) l a)
 recorded_at x l a some =
-    let p = some_of (recorded (records_of x) l a.name) some in
+    let p = some_of (recorded_definer (records_of x) l a.name) some in
     p.1 ∙ ap (λ (o : Option ℕ). Some (unwrap_or o 0)) (sym p.1)
 
-all_accepted : (content : Content) (x : Shown) (c : Class) (others : List Above) → IsKept (Some content) x → AllByRecursion (λ (a : Above). IsSome (recorded (records_of x) c.loader a.name)) others
-    → AllByRecursion (λ (a : Above). IfSome (looked x c.loader a.name) (FitsAs c a)) others
+all_accepted : (content : Content) (x : Shown) (c : Class) (others : List Above) → IsKept (Some content) x → AllByRecursion (λ (a : Above). IsSome (recorded_definer (records_of x) c.loader a.name)) others
+    → AllByRecursion (λ (a : Above). IfSome (looked_row x c.loader a.name) (FitsAs c a)) others
     → AcceptsFirst (world_of x.config content) c (recorded_as x c.loader others) others × AllByRecursion (Keeps (state_of x) c.loader) (recorded_as x c.loader others)
 all_accepted content x c [] kept above fit = (tt, tt)
 all_accepted content x c (a ∷ others) kept above fit =
@@ -111,7 +111,7 @@ all_accepted content x c (a ∷ others) kept above fit =
     let p = place_in (records_of x) c.loader a in
     let at = recorded_at x c.loader a above.0 in
     let r = recorded_row (Some content) x c.loader p a.name kept at in
-    let fits : FitsAs c a r.row = row_of_some (FitsAs c a) (looked x c.loader a.name) r.row r.found fit.0 in
+    let fits : FitsAs c a r.row = row_of_some (FitsAs c a) (looked_row x c.loader a.name) r.row r.found fit.0 in
     let more = all_accepted content x c others kept above.1 fit.1 in
     let judged : Judged w c a.role None (class a.name p) =
     λ home. record { file = file_of r.row.file; has_file = row_file content x c.loader p a.name kept at r; judged = subst (λ (t : Class). misfit c a.role t (file_of r.row.file) ≡ None) r.is fits } in
@@ -124,7 +124,7 @@ past_end f (x ∷ xs) = past_end f xs
 -- supertypes that are good and recorded are recorded as such, and fit
 all_fit : (content : Content) (x : Shown) (c : Class) (n : ℕ) (others : List Above) → IsKept (Some content) x → AllByRecursion (Stands (world_of x.config content) (state_of x) c) others
     → AllByRecursion (FitsAt (world_of x.config content) c (Good (world_of x.config content) n)) others
-    → AllByRecursion (λ (a : Above). IsSome (recorded (records_of x) c.loader a.name)) others × AllByRecursion (λ (a : Above). IfSome (looked x c.loader a.name) (FitsAs c a)) others
+    → AllByRecursion (λ (a : Above). IsSome (recorded_definer (records_of x) c.loader a.name)) others × AllByRecursion (λ (a : Above). IfSome (looked_row x c.loader a.name) (FitsAs c a)) others
 all_fit content x c n [] kept above fit = (tt, tt)
 all_fit content x c n (a ∷ others) kept above fit =
     let w = world_of x.config content in
@@ -135,7 +135,7 @@ all_fit content x c n (a ∷ others) kept above fit =
     let file : fitting.file ≡ file_of r.row.file = ok_same fitting.file (file_of r.row.file) (classes.read_class w (class a.name p)) fitting.has_file (row_file content x c.loader p a.name kept above.0.holds r) in
     let fits : FitsAs c a r.row = ap (λ (t : Class). misfit c a.role t (file_of r.row.file)) r.is ∙ ap (λ (f : File). misfit c a.role (class a.name p) f) (sym file) ∙ fitting.judged in
     let more = all_fit content x c n others kept above.1 fit.1 in
-    ((ap is_some above.0.holds, more.0), (if_some_row (FitsAs c a) (looked x c.loader a.name) r.row r.found fits, more.1))
+    ((ap is_some above.0.holds, more.0), (if_some_row (FitsAs c a) (looked_row x c.loader a.name) r.row r.found fits, more.1))
 
 -- the supertypes of a class that is good and has this file
 good_fits : (w : World) (n : ℕ) (c : Class) (f : File) → Good w n c → HasFile w c f → (m : ℕ) × AllByRecursion (FitsAt w c (Good w m)) (supers f)
@@ -169,7 +169,7 @@ pub joined_is_allowed : JoinedIsAllowed
 joined_is_allowed content x h kept leads may fresh free =
     record {
       found = subst (λ (c : Configured). home (world_of c content) h.asked h.name ≡ Some h.place) may.config leads;
-      not_own = λ e. none_not_some (recorded (records_of x) h.asked h.name) fresh (subst (λ (l : ℕ). recorded (records_of x) l h.name ≡ Some h.place) (sym e) may.defined);
+      not_own = λ e. none_not_some (recorded_definer (records_of x) h.asked h.name) fresh (subst (λ (l : ℕ). recorded_definer (records_of x) l h.name ≡ Some h.place) (sym e) may.defined);
       defined = may.defined;
       may_add = may_add (state_of x) h.asked h.place h.name fresh free;
     }

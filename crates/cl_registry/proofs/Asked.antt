@@ -5,7 +5,7 @@ use Rattle.std.specs.List.{AllByRecursion}
 use Rattle.cl_classfile.specs.Files.{file_of}
 use Rattle.cl_model.specs.Content.{Content}
 use Rattle.cl_model.specs.Classes.{Above, supers}
-use Rattle.cl_model.specs.States.{recorded}
+use Rattle.cl_model.specs.States.{recorded_definer}
 use Rattle.cl_model.specs.Tables.{Records}
 use Rattle.cl_delegation.specs.Searches.{Located}
 use Rattle.cl_hierarchy.specs.Drafts.{Drafted}
@@ -14,7 +14,7 @@ use Rattle.cl_registry.specs.declared.registry.RegistryFault.{RegistryFault}
 use Rattle.cl_registry.specs.declared.registry.RegistryFault.TheVariants.{Memory, Stray, Violates, AlreadyPosted, NotYet}
 use Rattle.cl_registry.specs.Refusals.{InitiateRefusedFor, MemoryOrStray}
 use Rattle.cl_registry.specs.Parts.{EachHas, place_by, row_by}
-use Rattle.cl_registry.specs.Tables.{Shown, records_of, IsKept, looked, row_for, place_in, state_of, LacksRecord, MayEnter, SupertypesFit, MayJoin, Defines, DefinedAs, Initiates, InitiatedAs}
+use Rattle.cl_registry.specs.Tables.{Shown, records_of, IsKept, looked_row, row_for, place_in, state_of, LacksRecord, MayEnter, SupertypesFit, MayJoin, Defines, DefinedAs, Initiates, InitiatedAs}
 use Rattle.cl_registry.proofs.Looked.{place_looked, looked_records, looked_lacks}
 
 is_some_map : {A B : Type 0} (f : A → B) (o : Option A) → is_some (option_map f o) ≡ is_some o
@@ -34,7 +34,7 @@ below_count raw loader count most h e f = subst (λ (n : ℕ). n < most) e (subs
 -- ---- one look-up
 
 -- what was found is what the loader has recorded
-module _ {Q R : Type 0} (now : Q → R) (value : R → Rowed) (told : Option Content) (x : Shown) (l : ℕ) (n : List ℕ) (k : IsKept told x) (at : Option R) (is : option_map value at ≡ looked x l n) where
+module _ {Q R : Type 0} (now : Q → R) (value : R → Rowed) (told : Option Content) (x : Shown) (l : ℕ) (n : List ℕ) (k : IsKept told x) (at : Option R) (is : option_map value at ≡ looked_row x l n) where
   pub found_is : (o : Option Q) → option_map now o ≡ at → MatchOption o (LacksRecord x l n) (λ r. Records (state_of x) l n (value (now r)).class)
   found_is None e = looked_lacks told x l n k (sym (ap (option_map value) e ∙ is))
   found_is (Some r) e = looked_records told x l n (value (now r)) k (sym (ap (option_map value) e ∙ is))
@@ -42,34 +42,34 @@ module _ {Q R : Type 0} (now : Q → R) (value : R → Rowed) (told : Option Con
   pub found_none : (o : Option Q) → option_map now o ≡ at → o ≡ None → LacksRecord x l n
   found_none o e f = looked_lacks told x l n k (sym (ap (λ (p : Option Q). option_map value (option_map now p)) (sym f) ∙ ap (option_map value) e ∙ is))
 
-  pub found_row : (o : Option Q) → option_map now o ≡ at → option_map (λ r. value (now r)) o ≡ looked x l n
+  pub found_row : (o : Option Q) → option_map now o ≡ at → option_map (λ r. value (now r)) o ≡ looked_row x l n
   found_row o e = sym (map_map now value o) ∙ ap (option_map value) e ∙ is
 
-  pub found_some : (o : Option Q) (r : Q) → option_map now o ≡ at → o ≡ Some r → looked x l n ≡ Some (value (now r))
+  pub found_some : (o : Option Q) (r : Q) → option_map now o ≡ at → o ≡ Some r → looked_row x l n ≡ Some (value (now r))
   found_some o r e f = sym is ∙ ap (option_map value) (sym e) ∙ ap (λ (p : Option Q). option_map value (option_map now p)) f
 
 -- ---- a whole table
 
-module _ {R : Type 0} (value : R → Rowed) (told : Option Content) (x : Shown) (k : IsKept told x) (at : ℕ → List ℕ → Option R) (rows : (l : ℕ) (n : List ℕ) → option_map value (at l n) ≡ looked x l n) where
-  pub place_at : (l : ℕ) (n : List ℕ) → option_map (λ r. (value r).class.loader) (at l n) ≡ recorded (records_of x) l n
+module _ {R : Type 0} (value : R → Rowed) (told : Option Content) (x : Shown) (k : IsKept told x) (at : ℕ → List ℕ → Option R) (rows : (l : ℕ) (n : List ℕ) → option_map value (at l n) ≡ looked_row x l n) where
+  pub place_at : (l : ℕ) (n : List ℕ) → option_map (λ r. (value r).class.loader) (at l n) ≡ recorded_definer (records_of x) l n
   place_at l n = sym (map_map value (λ (r : Rowed). r.class.loader) (at l n)) ∙ ap (option_map (λ (r : Rowed). r.class.loader)) (rows l n) ∙ place_looked told x l n k
 
-  pub known_at : (l : ℕ) (n : List ℕ) → is_some (at l n) ≡ is_some (recorded (records_of x) l n)
+  pub known_at : (l : ℕ) (n : List ℕ) → is_some (at l n) ≡ is_some (recorded_definer (records_of x) l n)
   known_at l n = sym (is_some_map (λ r. (value r).class.loader) (at l n)) ∙ ap is_some (place_at l n)
 
-  has_recorded : (l : ℕ) (xs : List Above) → EachHas (λ n. is_some (at l n)) xs → AllByRecursion (λ (a : Above). IsSome (recorded (records_of x) l a.name)) xs
+  has_recorded : (l : ℕ) (xs : List Above) → EachHas (λ n. is_some (at l n)) xs → AllByRecursion (λ (a : Above). IsSome (recorded_definer (records_of x) l a.name)) xs
   has_recorded l [] all = tt
   has_recorded l (a ∷ xs) all = (sym (known_at l a.name) ∙ all.0, has_recorded l xs all.1)
 
-  recorded_has : (l : ℕ) (xs : List Above) → AllByRecursion (λ (a : Above). IsSome (recorded (records_of x) l a.name)) xs → EachHas (λ n. is_some (at l n)) xs
+  recorded_has : (l : ℕ) (xs : List Above) → AllByRecursion (λ (a : Above). IsSome (recorded_definer (records_of x) l a.name)) xs → EachHas (λ n. is_some (at l n)) xs
   recorded_has l [] all = tt
   recorded_has l (a ∷ xs) all = (known_at l a.name ∙ all.0, recorded_has l xs all.1)
 
-  fit_rows : (d : Drafted) (xs : List Above) → AllByRecursion (λ (a : Above). IfSome (option_map value (at d.class.loader a.name)) (FitsAs d.class a)) xs → AllByRecursion (λ (a : Above). IfSome (looked x d.class.loader a.name) (FitsAs d.class a)) xs
+  fit_rows : (d : Drafted) (xs : List Above) → AllByRecursion (λ (a : Above). IfSome (option_map value (at d.class.loader a.name)) (FitsAs d.class a)) xs → AllByRecursion (λ (a : Above). IfSome (looked_row x d.class.loader a.name) (FitsAs d.class a)) xs
   fit_rows d [] all = tt
   fit_rows d (a ∷ xs) all = (subst (λ (o : Option Rowed). IfSome o (FitsAs d.class a)) (rows d.class.loader a.name) all.0, fit_rows d xs all.1)
 
-  rows_fit : (d : Drafted) (xs : List Above) → AllByRecursion (λ (a : Above). IfSome (looked x d.class.loader a.name) (FitsAs d.class a)) xs → AllByRecursion (λ (a : Above). IfSome (option_map value (at d.class.loader a.name)) (FitsAs d.class a)) xs
+  rows_fit : (d : Drafted) (xs : List Above) → AllByRecursion (λ (a : Above). IfSome (looked_row x d.class.loader a.name) (FitsAs d.class a)) xs → AllByRecursion (λ (a : Above). IfSome (option_map value (at d.class.loader a.name)) (FitsAs d.class a)) xs
   rows_fit d [] all = tt
   rows_fit d (a ∷ xs) all = (subst (λ (o : Option Rowed). IfSome o (FitsAs d.class a)) (sym (rows d.class.loader a.name)) all.0, rows_fit d xs all.1)
 
@@ -103,7 +103,7 @@ module _ {R : Type 0} (value : R → Rowed) (told : Option Content) (x : Shown) 
   joins now h None config loader row own = λ may. own (place_at h.place h.name ∙ may.defined)
   joins now h (Some r) config loader row own = record { config = config; loader = loader; defined = sym (place_at h.place h.name) ∙ ap (option_map (λ r. (value r).class.loader)) row ∙ ap (λ (p : ℕ). Some p) own }
 
-  pub home_looked : {Q : Type 0} (now : Q → R) (h : Located) (o : Option Q) → IfSome o (λ r. at h.place h.name ≡ Some (now r)) → IfSome o (λ r. looked x h.place h.name ≡ Some (value (now r)))
+  pub home_looked : {Q : Type 0} (now : Q → R) (h : Located) (o : Option Q) → IfSome o (λ r. at h.place h.name ≡ Some (now r)) → IfSome o (λ r. looked_row x h.place h.name ≡ Some (value (now r)))
   home_looked now h None row = tt
   home_looked now h (Some r) row = sym (rows h.place h.name) ∙ ap (option_map value) row
 
@@ -117,8 +117,8 @@ join_refused x h NotYet fresh r = r
 
 -- ---- a name that is recorded
 
-pub known_defined : (x : Shown) (d : Drafted) (row : Rowed) → Records (state_of x) d.class.loader d.class.name row.class → looked x d.class.loader d.class.name ≡ Some row → Defines x x d row
+pub known_defined : (x : Shown) (d : Drafted) (row : Rowed) → Records (state_of x) d.class.loader d.class.name row.class → looked_row x d.class.loader d.class.name ≡ Some row → Defines x x d row
 known_defined x d row r is = subst (λ (o : Option ℕ). DefinedAs x x d row o) (sym r.1) (refl, is)
 
-pub known_initiated : (x : Shown) (h : Located) (row : Rowed) → Records (state_of x) h.asked h.name row.class → looked x h.asked h.name ≡ Some row → Initiates x x h row
+pub known_initiated : (x : Shown) (h : Located) (row : Rowed) → Records (state_of x) h.asked h.name row.class → looked_row x h.asked h.name ≡ Some row → Initiates x x h row
 known_initiated x h row r is = subst (λ (o : Option ℕ). InitiatedAs x x h row o) (sym r.1) (refl, is)

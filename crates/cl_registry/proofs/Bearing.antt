@@ -6,7 +6,7 @@ use Rattle.cl_model.specs.declared.class.Class.{Class}
 use Rattle.cl_model.specs.declared.settled.Settled.{Settled}
 use Rattle.cl_model.specs.declared.verdict.Verdict as rust
 use Rattle.cl_model.specs.Classes.{class}
-use Rattle.cl_model.specs.States.{State, Verdict, IsClass, IsLinked, BadEntry, ArrayMember, recorded, settled_to}
+use Rattle.cl_model.specs.States.{State, Verdict, IsClass, IsLinked, BadEntry, ArrayMember, recorded_definer, settled_to}
 use Rattle.cl_model.specs.Plans.{Load, Resolve, Link}
 use Rattle.cl_model.specs.Tables.{Bears, Records}
 use Rattle.cl_model.specs.Views.{verdict_of}
@@ -42,7 +42,7 @@ some_same v w o e f = cc
 
 -- a loader records one class for a name
 pub one_class : (s : State) (l : ℕ) (n : Name) (c d : Class) → Records s l n c → Records s l n d → c ≡ d
-one_class s l n c d r t = ap (λ (m : Name). class m c.loader) (r.0 ∙ sym t.0) ∙ ap (λ (p : ℕ). class d.name p) (value_same c.loader d.loader (recorded s.records l n) r.1 t.1)
+one_class s l n c d r t = ap (λ (m : Name). class m c.loader) (r.0 ∙ sym t.0) ∙ ap (λ (p : ℕ). class d.name p) (value_same c.loader d.loader (recorded_definer s.records l n) r.1 t.1)
 
 -- the class of a row that a loader has recorded
 row_records : (x : Shown) (l : ℕ) (n : Name) (r : Rowed) (c : Class) → Records (state_of x) l n r.class → c ≡ r.class → Records (state_of x) l n c
@@ -52,7 +52,7 @@ abbrev NeverSettled : Verdict → Type 0
 NeverSettled v = (v ≡ BadEntry) ⊎ (v ≡ ArrayMember)
 
 pub bears_unrecorded : (x : Shown) (l i : ℕ) (n : Name) (v : Verdict) → LacksRecord x l n → Bears (state_of x) (Resolve l n i) v
-bears_unrecorded x l i n v none = λ d r. absurd (none_not_some (recorded (records_of x) l n) none r.1)
+bears_unrecorded x l i n v none = λ d r. absurd (none_not_some (recorded_definer (records_of x) l n) none r.1)
 
 -- the entry of a class that is recorded is not settled
 pub bears_unsettled : (x : Shown) (l i : ℕ) (n : Name) (r : Rowed) (c : Class) (v : Verdict) → Records (state_of x) l n r.class → c ≡ r.class → IsUnsettled x c i → (NeverSettled v → ⊥) → Bears (state_of x) (Resolve l n i) v → ⊥

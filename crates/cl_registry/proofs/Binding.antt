@@ -17,7 +17,7 @@ use Rattle.cl_model.specs.declared.verdict.Verdict.TheVariants as verdicts
 use Rattle.cl_model.specs.Content.{Content}
 use Rattle.cl_model.specs.Classes.{class, same_class}
 use Rattle.cl_model.specs.Texts.{AnswerNames, VerdictNames}
-use Rattle.cl_model.specs.States.{State, IsRecorded, settled_to, recorded}
+use Rattle.cl_model.specs.States.{State, IsRecorded, settled_to, recorded_definer}
 use Rattle.cl_model.specs.States as states
 use Rattle.cl_model.specs.Machine.{Settle, May, MayKeep}
 use Rattle.cl_model.specs.Machine as machine
@@ -33,7 +33,7 @@ use Rattle.cl_constraints.specs.Books.{IsBookOf}
 use Rattle.cl_findings.specs.Findings.{Answered, Based, BasisStands, Rests, Stands}
 use Rattle.cl_findings.proofs.Answered.{standing_settles}
 use Rattle.cl_registry.specs.Kept.{Fields, IsRegistry}
-use Rattle.cl_registry.specs.Tables.{Shown, steps, state_of, settlements, settled_at, looked, IsKept}
+use Rattle.cl_registry.specs.Tables.{Shown, steps, state_of, settlements, settled_at, looked_row, IsKept}
 use Rattle.cl_registry.specs.References.{Cited, cited_by, settled_by, AddsSettled, IsReferencePut}
 use Rattle.cl_registry.specs.Settling.{SaysVerdict, IsToSettle, with_settle, Settles, SettledAs}
 use Rattle.cl_registry.specs.SettlingLaws.{AllowedIsSettled, OtherFindingIsStray}
@@ -129,8 +129,8 @@ table_settle x shared c i old new free are put =
     put c i ∙ ap (λ (o : Option Settled). if same_class shared.value.class c && (shared.value.index == i) then Some shared.value else o) (are c i) ∙ sym (settled_then x shared c i free)
 
 -- what is looked up stays so
-looked_settle : (x : Shown) (shared : Arc Settled Global) (l : ℕ) (n : Name) → looked (with_settle x shared) l n ≡ looked x l n
-looked_settle x shared l n = ap (λ (s : State). option_and_then (λ place. row_of x.rows (class n place)) (recorded s.records l n)) (state_event x x.rows (event_of shared))
+looked_settle : (x : Shown) (shared : Arc Settled Global) (l : ℕ) (n : Name) → looked_row (with_settle x shared) l n ≡ looked_row x l n
+looked_settle x shared l n = ap (λ (s : State). option_and_then (λ place. row_of x.rows (class n place)) (recorded_definer s.records l n)) (state_event x x.rows (event_of shared))
 
 pub registry_settle : (told : Option Content) (x : Shown) (f : Answered) (shared : Arc Settled Global) (g : Fields) (home : Name → ℕ → Option ℕ) (joins : Name → ℕ → ℕ → Type 0) (table : ℕ → List ℕ → Option Rowed) (wide : ℕ)
     (references : Class → ℕ → Option Settled) (prepared : List Class) (used come more : ℕ)
@@ -165,7 +165,7 @@ cited_settle x shared (requests.Link l n) = refl
 cited_settle x shared (requests.Resolve l n i) = ap (λ (s : State). cited_in s l n i) (state_event x x.rows (event_of shared))
   where
     cited_in : State → ℕ → Name → ℕ → Option Cited
-    cited_in s l n i = option_map (λ p. record { class = class n p; index = i }) (recorded s.records l n)
+    cited_in s l n i = option_map (λ p. record { class = class n p; index = i }) (recorded_definer s.records l n)
 
 if_true : (b : Bool) (s : Settled) (o : Option Settled) → b ≡ true → (if b then Some s else o) ≡ Some s
 if_true true s o e = refl

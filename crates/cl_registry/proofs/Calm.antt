@@ -7,7 +7,7 @@ use Rattle.std.proofs.lemmas.List.Folds.{find-append}
 use Rattle.cl_classfile.specs.Files.{Name}
 use Rattle.cl_model.specs.declared.event.Event.{Event}
 use Rattle.cl_model.specs.declared.event.Event.TheVariants as events
-use Rattle.cl_model.specs.States.{State, Equality, Posted, Entry, Answer, recorded, answer_to, IsPathBetween, Clashes, MayAdd}
+use Rattle.cl_model.specs.States.{State, Equality, Posted, Entry, Answer, recorded_definer, answer_to, IsPathBetween, Clashes, MayAdd}
 use Rattle.cl_model.specs.Machine.{Define, Initiate, NextRound, after, state_after}
 use Rattle.cl_model.specs.Views.{answer_at, post_of, step_of, steps_of}
 use Rattle.cl_registry.specs.Tables.{posts}
@@ -23,14 +23,14 @@ alone : (ks : List Equality) (name : Name) (a : ℕ) (path : List ℕ) (b : ℕ)
 alone ks name a [] b e h = h
 alone ks name a (c ∷ cs) b e h = absurd (no_equality h.0.equality (subst (λ (x : List Equality). Contains x h.0.equality) e h.0.imposed))
 
-pub no_clash : (s : State) (loader place : ℕ) (name : Name) → s.equalities ≡ [] → recorded s.records loader name ≡ None → Clashes s (Entry loader name place) → ⊥
+pub no_clash : (s : State) (loader place : ℕ) (name : Name) → s.equalities ≡ [] → recorded_definer s.records loader name ≡ None → Clashes s (Entry loader name place) → ⊥
 no_clash s loader place name e fresh k =
-    none_not_some (recorded s.records loader name) fresh
-    (subst (λ (o : ℕ). recorded s.records o name ≡ Some k.other_place) (sym (alone s.equalities name loader k.joined.path k.other e k.joined.along)) k.recorded_there)
+    none_not_some (recorded_definer s.records loader name) fresh
+    (subst (λ (o : ℕ). recorded_definer s.records o name ≡ Some k.other_place) (sym (alone s.equalities name loader k.joined.path k.other e k.joined.along)) k.recorded_there)
 
 -- a loader that has no record of a name may record it
-pub may_add : (s : State) (loader place : ℕ) (name : Name) → s.equalities ≡ [] → recorded s.records loader name ≡ None → MayAdd s (Entry loader name place)
-may_add s loader place name e fresh = record { unmet = λ m. none_not_some (recorded s.records loader name) fresh m; fits = λ k. no_clash s loader place name e fresh k }
+pub may_add : (s : State) (loader place : ℕ) (name : Name) → s.equalities ≡ [] → recorded_definer s.records loader name ≡ None → MayAdd s (Entry loader name place)
+may_add s loader place name e fresh = record { unmet = λ m. none_not_some (recorded_definer s.records loader name) fresh m; fits = λ k. no_clash s loader place name e fresh k }
 
 -- ---- answers
 

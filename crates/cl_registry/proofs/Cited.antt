@@ -6,7 +6,7 @@ use Rattle.cl_model.specs.declared.request.Request.{Request}
 use Rattle.cl_model.specs.declared.request.Request.TheVariants as requests
 use Rattle.cl_model.specs.declared.settled.Settled.{Settled}
 use Rattle.cl_model.specs.Classes.{class}
-use Rattle.cl_model.specs.States.{recorded}
+use Rattle.cl_model.specs.States.{recorded_definer}
 use Rattle.cl_model.specs.Tables.{Records}
 use Rattle.cl_hierarchy.specs.Rows.{Rowed}
 use Rattle.cl_registry.specs.Tables.{Shown, state_of, records_of, LacksRecord, settled_at}
@@ -17,14 +17,14 @@ use Rattle.cl_registry.proofs.Settled.{settled_is_told, unsettled_is_told}
 pub record IsCitedBy (x : Shown) (r : Request) (e : Cited) : Type 0 where
   pub loader : ℕ
   pub request : r ≡ requests.Resolve loader e.class.name e.index
-  pub recorded : recorded (records_of x) loader e.class.name ≡ Some e.class.loader
+  pub recorded : recorded_definer (records_of x) loader e.class.name ≡ Some e.class.loader
 
 pub cited_is : (x : Shown) (r : Request) (e : Cited) → cited_by x r ≡ Some e → IsCitedBy x r e
 cited_is x (requests.Load l n) e h = absurd cc
 cited_is x (requests.Link l n) e h = absurd cc
-cited_is x (requests.Resolve l n i) e h = at (recorded (records_of x) l n) refl h
+cited_is x (requests.Resolve l n i) e h = at (recorded_definer (records_of x) l n) refl h
   where
-    at : (o : Option ℕ) → recorded (records_of x) l n ≡ o → option_map (λ p. record { class = class n p; index = i }) o ≡ Some e → IsCitedBy x (requests.Resolve l n i) e
+    at : (o : Option ℕ) → recorded_definer (records_of x) l n ≡ o → option_map (λ p. record { class = class n p; index = i }) o ≡ Some e → IsCitedBy x (requests.Resolve l n i) e
     at None k m = absurd cc
     at (Some p) k m =
         let same : record { class = class n p; index = i } ≡ e = cc in

@@ -13,7 +13,7 @@ use Rattle.cl_model.specs.declared.need.Need.TheVariants as needs
 use Rattle.cl_model.specs.declared.settled.Settled.{Settled}
 use Rattle.cl_model.specs.Content.{Content}
 use Rattle.cl_model.specs.Classes.{class, Above, supers}
-use Rattle.cl_model.specs.States.{State, Record, Need, Entry, recorded, added, Refused}
+use Rattle.cl_model.specs.States.{State, Record, Need, Entry, recorded_definer, with_need, Refused}
 use Rattle.cl_model.specs.Tables.{Records}
 use Rattle.cl_model.specs.Machine.{Define, Initiate, after, May}
 use Rattle.cl_config.specs.Views.{Configured}
@@ -32,7 +32,7 @@ use Rattle.cl_registry.specs.declared.registry.RegistryFault.TheVariants.{Memory
 use Rattle.cl_registry.specs.Kept.{Fields, IsRegistry}
 use Rattle.cl_registry.specs.Parts.{IsPut}
 use Rattle.cl_registry.specs.Refusals.{AddRefusedFor, BlamesNeed, BlamesIn, DefineRefusedFor, InitiateRefusedFor, MemoryOrStray, RecordRefusedFor}
-use Rattle.cl_registry.specs.Tables.{Shown, state_of, records_of, IsKept, ArePlaced, with_define, with_initiate, looked, row_for, place_in, IsNew, LacksRecord, MayEnter, MayJoin, Defines, DefinedAs, Initiates, InitiatedAs}
+use Rattle.cl_registry.specs.Tables.{Shown, state_of, records_of, IsKept, ArePlaced, with_define, with_initiate, looked_row, row_for, place_in, IsNew, LacksRecord, MayEnter, MayJoin, Defines, DefinedAs, Initiates, InitiatedAs}
 use Rattle.cl_registry.proofs.Running.{may_record}
 use Rattle.cl_registry.proofs.Looked.{looked_push, looked_some, looked_records, at_self, fresh_row, row_push}
 use Rattle.cl_registry.proofs.Allowed.{closed_of, draft_at_home, entered_is_allowed, joined_is_allowed, recorded_at, row_of_some}
@@ -41,7 +41,7 @@ use Rattle.cl_findings.specs.Loads.{asked_record, own_record}
 
 -- what adding a need to a book comes to, in the states that it stands for
 abbrev pub BookAdds : (State → Type 0) → (State → Type 0) → Need → Type 0
-BookAdds old new need = (s : State) → old s → (Refused s need → ⊥) × new (added s need)
+BookAdds old new need = (s : State) → old s → (Refused s need → ⊥) × new (with_need s need)
 
 -- the fields of a registry after a call that adds a record: references and preparations stay, and room is left
 pub record KeepsOthers (x : Shown) (f : Fields) (wide : ℕ) (references : Class → ℕ → Option Settled) (prepared : List Class) (used come more : ℕ) : Type 0 where
@@ -64,22 +64,22 @@ state_define : (x : Shown) (d : Drafted) → state_of (with_define x d) ≡ afte
 state_define x d = state_event x (x.rows ++ row_for x d ∷ []) (events.Define d.class)
 
 -- where a content is told, what is recorded is where the search leads to
-found_by : (told : Option Content) (x : Shown) (c : Class) (a : Above) (p : ℕ) → IsKept told x → recorded (records_of x) c.loader a.name ≡ Some p → LeadsTo told x.config c.loader a.name (Some p)
+found_by : (told : Option Content) (x : Shown) (c : Class) (a : Above) (p : ℕ) → IsKept told x → recorded_definer (records_of x) c.loader a.name ≡ Some p → LeadsTo told x.config c.loader a.name (Some p)
 found_by None x c a p k at = tt
 found_by (Some content) x c a p k at = (closed_of content x k).homes c.loader p a.name at
 
-stand_above : (told : Option Content) (x : Shown) (c : Class) (others : List Above) → IsKept told x → AllByRecursion (λ (a : Above). IsSome (recorded (records_of x) c.loader a.name)) others
-    → AllByRecursion (λ (a : Above). IfSome (looked x c.loader a.name) (FitsAs c a)) others → StandAbove told x.config x.rows c others (map (place_in (records_of x) c.loader) others)
+stand_above : (told : Option Content) (x : Shown) (c : Class) (others : List Above) → IsKept told x → AllByRecursion (λ (a : Above). IsSome (recorded_definer (records_of x) c.loader a.name)) others
+    → AllByRecursion (λ (a : Above). IfSome (looked_row x c.loader a.name) (FitsAs c a)) others → StandAbove told x.config x.rows c others (map (place_in (records_of x) c.loader) others)
 stand_above told x c [] k above fit = tt
 stand_above told x c (a ∷ others) k above fit =
     let p = place_in (records_of x) c.loader a in
     let at = recorded_at x c.loader a above.0 in
     let r = looked_some told x c.loader p a.name k at in (
-      record { row = r.row; stands = r.found; fits = row_of_some (FitsAs c a) (looked x c.loader a.name) r.row r.looked fit.0; found = found_by told x c a p k at },
+      record { row = r.row; stands = r.found; fits = row_of_some (FitsAs c a) (looked_row x c.loader a.name) r.row r.looked fit.0; found = found_by told x c a p k at },
       stand_above told x c others k above.1 fit.1,
     )
 
-places_for : (x : Shown) (l : ℕ) (others : List Above) → AllByRecursion (λ (a : Above). IsSome (recorded (records_of x) l a.name)) others → ArePlaced (records_of x) l others (map (place_in (records_of x) l) others)
+places_for : (x : Shown) (l : ℕ) (others : List Above) → AllByRecursion (λ (a : Above). IsSome (recorded_definer (records_of x) l a.name)) others → ArePlaced (records_of x) l others (map (place_in (records_of x) l) others)
 places_for x l [] above = tt
 places_for x l (a ∷ others) above = (recorded_at x l a above.0, places_for x l others above.1)
 
@@ -112,7 +112,7 @@ kept_by_define told x d k draft may fresh free =
     (same_rounds x (x.rows ++ row_for x d ∷ []) (events.Define d.class) k.trusted (ap (λ (s : State). s.round) (state_define x d)))
     (none_settled told x (events.Define d.class) k refl)
 
-looked_define : (told : Option Content) (x : Shown) (d : Drafted) → IsKept told x → IsNew x d → (l : ℕ) (n : List ℕ) → looked (with_define x d) l n ≡ (if (d.class.loader == l) && pointwise nat_eq d.class.name n then Some (row_for x d) else looked x l n)
+looked_define : (told : Option Content) (x : Shown) (d : Drafted) → IsKept told x → IsNew x d → (l : ℕ) (n : List ℕ) → looked_row (with_define x d) l n ≡ (if (d.class.loader == l) && pointwise nat_eq d.class.name n then Some (row_for x d) else looked_row x l n)
 looked_define told x d k fresh =
     looked_push told x (with_define x d) (record_of d.class) (row_for x d) k (ap (λ (s : State). s.records) (state_define x d))
     (λ c s e. row_more x.rows (row_for x d ∷ []) c s e) fresh (row_push x.rows (row_for x d) d.class refl (fresh_row told x d.class k fresh))
@@ -147,7 +147,7 @@ if_self true r o e = refl
 if_self false r o e = absurd cc
 
 -- the row that was recorded is looked up
-own_looked : (told : Option Content) (x : Shown) (d : Drafted) → IsKept told x → IsNew x d → looked (with_define x d) d.class.loader d.class.name ≡ Some (row_for x d)
+own_looked : (told : Option Content) (x : Shown) (d : Drafted) → IsKept told x → IsNew x d → looked_row (with_define x d) d.class.loader d.class.name ≡ Some (row_for x d)
 own_looked told x d k fresh =
     looked_define told x d k fresh d.class.loader d.class.name ∙ if_self ((d.class.loader == d.class.loader) && pointwise nat_eq d.class.name d.class.name) (row_for x d) _ (at_self d.class.loader d.class.name)
 
@@ -155,8 +155,8 @@ module _ (told : Option Content) (x y : Shown) (d : Drafted) (v : Rowed) (k : Is
   pub is_defined : Defines x y d v
   is_defined = subst (λ (o : Option ℕ). DefinedAs x y d v o) (sym fresh) by
 
-  pub shown_defined : looked y d.class.loader d.class.name ≡ Some v
-  shown_defined = ap (λ (z : Shown). looked z d.class.loader d.class.name) by.2 ∙ own_looked told x d k fresh ∙ ap (λ (r : Rowed). Some r) (sym by.3)
+  pub shown_defined : looked_row y d.class.loader d.class.name ≡ Some v
+  shown_defined = ap (λ (z : Shown). looked_row z d.class.loader d.class.name) by.2 ∙ own_looked told x d k fresh ∙ ap (λ (r : Rowed). Some r) (sym by.3)
 
   pub records_defined : IsKept told y → Records (state_of y) d.class.loader d.class.name v.class
   records_defined kept = looked_records told y d.class.loader d.class.name v kept shown_defined
@@ -189,15 +189,15 @@ kept_by_initiate told x h k leads within may fresh free =
     (none_settled told x (event_by h) k refl)
 
 looked_initiate : (told : Option Content) (x : Shown) (h : Located) (row : Rowed) → IsKept told x → LacksRecord x h.asked h.name → row_of x.rows (class h.name h.place) ≡ Some row
-    → (l : ℕ) (n : List ℕ) → looked (with_initiate x h) l n ≡ (if (h.asked == l) && pointwise nat_eq h.name n then Some row else looked x l n)
+    → (l : ℕ) (n : List ℕ) → looked_row (with_initiate x h) l n ≡ (if (h.asked == l) && pointwise nat_eq h.name n then Some row else looked_row x l n)
 looked_initiate told x h row k fresh is =
     looked_push told x (with_initiate x h) (record { loader = h.asked; name = h.name; place = h.place }) row k (ap (λ (s : State). s.records) (state_initiate x h)) (λ c s e. e) fresh is
 
-home_found : (told : Option Content) (x : Shown) (h : Located) (row : Rowed) → IsKept told x → MayJoin x h → looked x h.place h.name ≡ Some row → row_of x.rows (class h.name h.place) ≡ Some row
+home_found : (told : Option Content) (x : Shown) (h : Located) (row : Rowed) → IsKept told x → MayJoin x h → looked_row x h.place h.name ≡ Some row → row_of x.rows (class h.name h.place) ≡ Some row
 home_found told x h row k may is = let home = looked_some told x h.place h.place h.name k may.defined in home.found ∙ sym home.looked ∙ is
 
 pub kept_initiate : (told : Option Content) (x : Shown) (h : Located) (row : Rowed) (f : Fields) (old new : State → Type 0) (table : ℕ → List ℕ → Option Rowed) (wide : ℕ) (references : Class → ℕ → Option Settled) (prepared : List Class) (used come more : ℕ)
-    → IsRegistry told x f old → LeadsTo told h.config h.asked h.name (Some h.place) → h.place < length h.config.loaders → MayJoin x h → LacksRecord x h.asked h.name → looked x h.place h.name ≡ Some row
+    → IsRegistry told x f old → LeadsTo told h.config h.asked h.name (Some h.place) → h.place < length h.config.loaders → MayJoin x h → LacksRecord x h.asked h.name → looked_row x h.place h.name ≡ Some row
     → BookAdds old new (asked_record h) → IsPut f.table table h.asked h.name row → KeepsOthers x f wide references prepared used come more
     → IsRegistry told (with_initiate x h) (moved f table wide references prepared used more) new
 kept_initiate told x h row f old new table wide references prepared used come more k leads within may fresh is adds put others =
@@ -214,14 +214,14 @@ shown_initiate x h history e = ap (λ (hs : List Event). grown x x.rows hs) e
 
 -- the same of fields that a call has made
 pub kept_initiated : (told : Option Content) (x : Shown) (h : Located) (row : Rowed) (f : Fields) (old new : State → Type 0) (table : ℕ → List ℕ → Option Rowed) (wide : ℕ) (references : Class → ℕ → Option Settled) (prepared : List Class) (used come more : ℕ) (history : List Event)
-    → IsRegistry told x f old → LeadsTo told h.config h.asked h.name (Some h.place) → h.place < length h.config.loaders → MayJoin x h → LacksRecord x h.asked h.name → looked x h.place h.name ≡ Some row
+    → IsRegistry told x f old → LeadsTo told h.config h.asked h.name (Some h.place) → h.place < length h.config.loaders → MayJoin x h → LacksRecord x h.asked h.name → looked_row x h.place h.name ≡ Some row
     → BookAdds old new (asked_record h) → IsPut f.table table h.asked h.name row → KeepsOthers x f wide references prepared used come more → history ≡ x.history ++ event_by h ∷ []
     → IsRegistry told (record x { history = history }) (moved f table wide references prepared used more) new
 kept_initiated told x h row f old new table wide references prepared used come more history k leads within may fresh is adds put others e =
     subst (λ (y : Shown). IsRegistry told y (moved f table wide references prepared used more) new) (sym (shown_initiate x h history e))
     (kept_initiate told x h row f old new table wide references prepared used come more k leads within may fresh is adds put others)
 
-asked_looked : (told : Option Content) (x : Shown) (h : Located) (row : Rowed) → IsKept told x → MayJoin x h → LacksRecord x h.asked h.name → looked x h.place h.name ≡ Some row → looked (with_initiate x h) h.asked h.name ≡ Some row
+asked_looked : (told : Option Content) (x : Shown) (h : Located) (row : Rowed) → IsKept told x → MayJoin x h → LacksRecord x h.asked h.name → looked_row x h.place h.name ≡ Some row → looked_row (with_initiate x h) h.asked h.name ≡ Some row
 asked_looked told x h row k may fresh is =
     looked_initiate told x h row k fresh (home_found told x h row k may is) h.asked h.name ∙ if_self ((h.asked == h.asked) && pointwise nat_eq h.name h.name) row _ (at_self h.asked h.name)
 
@@ -229,8 +229,8 @@ module _ (told : Option Content) (x y : Shown) (h : Located) (v : Rowed) (k : Is
   pub is_initiated : Initiates x y h v
   is_initiated = subst (λ (o : Option ℕ). InitiatedAs x y h v o) (sym fresh) by
 
-  pub shown_initiated : looked y h.asked h.name ≡ Some v
-  shown_initiated = ap (λ (z : Shown). looked z h.asked h.name) by.2 ∙ asked_looked told x h v k by.0 fresh by.3
+  pub shown_initiated : looked_row y h.asked h.name ≡ Some v
+  shown_initiated = ap (λ (z : Shown). looked_row z h.asked h.name) by.2 ∙ asked_looked told x h v k by.0 fresh by.3
 
   pub records_initiated : IsKept told y → Records (state_of y) h.asked h.name v.class
   records_initiated kept = looked_records told y h.asked h.name v kept shown_initiated

@@ -7,8 +7,8 @@ use Rattle.cl_classfile.specs.Files.{Name, Key, Member, Reference, ToClass, ToFi
 use Rattle.cl_model.specs.declared.class.Class.{Class}
 use Rattle.cl_model.specs.declared.need.Equality.{Equality}
 use Rattle.cl_model.specs.Classes.{Error, NoSuchField, NoSuchMethod, is_among}
-use Rattle.cl_model.specs.Lineages.{Forest, Bare, Tree, Kin, upward, preorder, once_after, superclasses, superinterfaces, alone, field_among, lookup_field, lookup_method, lookup_interface_method, from_superinterfaces, offering, maximally_specific, is_default, is_offered, is_maximal, is_public_instance, first, only, field_of, method_of}
-use Rattle.cl_model.specs.Preparation.{Split, splits, shifted, overrides, overridden, takes_part, class_names, equals_of, equals_with, for_declared, for_inherited, inherited_from, with_inherited, constraints_of}
+use Rattle.cl_model.specs.Lineages.{Forest, Bare, Tree, Kin, upward, preorder, once_after, superclasses, superinterfaces, alone, field_among, lookup_field, lookup_method, lookup_interface_method, from_superinterfaces, offering_superinterfaces, maximally_specific, is_default, is_offered, is_maximal, is_public_instance, first, only, field_of, method_of}
+use Rattle.cl_model.specs.Preparation.{Split, splits, shifted_split, overrides, overridden_superclasses, takes_part, class_names, equals_of, equals_with, for_declared, for_inherited, inherited_from, with_inherited, constraints_of}
 use Rattle.cl_model.specs.States.{Need, Entry, Equal, Verdict, IsField, IsMethod}
 use Rattle.cl_model.specs.Works.{Work, Made, done, need, or_fail, unless_wrong, ◌>>=◌}
 use Rattle.cl_model.specs.Plans.{class_verdict, resolve_found, resolve_field, resolve_method, resolve_in}
@@ -115,7 +115,7 @@ module _ (P : ℕ → Type 0) where
 
   split_each : (ks : List Kin) → AllByRecursion (HasAll P) ks → AllByRecursion (λ s. HasAll P s.at) (splits ks)
   split_each [] h = tt
-  split_each (k ∷ ks) h = (h.0, mapped (λ s. HasAll P s.at) (shifted k) (splits ks) (split_each ks h.1))
+  split_each (k ∷ ks) h = (h.0, mapped (λ s. HasAll P s.at) (shifted_split k) (splits ks) (split_each ks h.1))
 
   -- ---- preparation
 
@@ -133,17 +133,17 @@ module _ (P : ℕ → Type 0) where
   with_each : (key : Key) (loader : ℕ) (ks : List Kin) → P loader → AllByRecursion (HasAll P) ks → AllByRecursion (Names P) (equals_with key loader ks)
   with_each key loader ks p h = flat (HasAll P) (Names P) (λ k. equals_of key loader k.class.loader) ks (λ k q. equals key loader k.class.loader p q.own) h
 
-  overridden_each : (key : Key) (c : Kin) → HasAll P c → AllByRecursion (HasAll P) (overridden key c)
+  overridden_each : (key : Key) (c : Kin) → HasAll P c → AllByRecursion (HasAll P) (overridden_superclasses key c)
   overridden_each key c h =
       mapped (HasAll P) (λ (s : Split). s.at) (filter (λ s. overrides key c s.before s.at) (splits (superclasses c)))
       (filtered (λ (s : Split). HasAll P s.at) (λ s. overrides key c s.before s.at) (splits (superclasses c)) (split_each (superclasses c) (above c h)))
 
   declared : (c : Kin) (m : Member) → HasAll P c → AllByRecursion (Names P) (for_declared c m)
   declared c m h =
-      let sups = if is_interface c.file then [] else equals_with m.key c.class.loader (overridden m.key c) in
+      let sups = if is_interface c.file then [] else equals_with m.key c.class.loader (overridden_superclasses m.key c) in
       let ints = equals_with m.key c.class.loader (filter (takes_part m.key) (superinterfaces c)) in
       either (Names P) (takes_part m.key c) (sups ++ ints) []
-      (both (Names P) sups ints (either (Names P) (is_interface c.file) [] _ tt (with_each m.key c.class.loader (overridden m.key c) h.own (overridden_each m.key c h)))
+      (both (Names P) sups ints (either (Names P) (is_interface c.file) [] _ tt (with_each m.key c.class.loader (overridden_superclasses m.key c) h.own (overridden_each m.key c h)))
       (with_each m.key c.class.loader (filter (takes_part m.key) (superinterfaces c)) h.own (filtered (HasAll P) (takes_part m.key) (superinterfaces c) (over c h))))
       tt
 
@@ -224,8 +224,8 @@ module _ (P : ℕ → Type 0) where
   from_above : (k : Kin) (key : Key) → HasAll P k → IfSome (from_superinterfaces k key) (HasAll P)
   from_above k key h =
       let offered = filtered (HasAll P) (is_offered key) (superinterfaces k) (over k h) in
-      let most = filtered (HasAll P) (is_maximal (offering k key)) (offering k key) offered in
-      one_or (HasAll P) (only (filter (is_default key) (maximally_specific k key))) (first (offering k key)) (only_has _ (filtered (HasAll P) (is_default key) (maximally_specific k key) most)) (first_has (offering k key) offered)
+      let most = filtered (HasAll P) (is_maximal (offering_superinterfaces k key)) (offering_superinterfaces k key) offered in
+      one_or (HasAll P) (only (filter (is_default key) (maximally_specific k key))) (first (offering_superinterfaces k key)) (only_has _ (filtered (HasAll P) (is_default key) (maximally_specific k key) most)) (first_has (offering_superinterfaces k key) offered)
 
   methods : (interface : Bool) (k : Kin) (key : Key) → HasAll P k → IfSome (if interface then lookup_interface_method k key else lookup_method k key) (HasAll P)
   methods true k key h =

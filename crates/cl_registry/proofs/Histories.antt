@@ -19,7 +19,7 @@ use Rattle.cl_model.proofs.Views.{state_then}
 use Rattle.cl_config.specs.Loaders.{schedule_of}
 use Rattle.cl_delegation.specs.Worlds.{setting_of}
 use Rattle.cl_registry.specs.Kept.{left_in, open_in}
-use Rattle.cl_registry.specs.Tables.{Shown, steps, state_of, posts, defined, settlements, IsTrusted, RunsAs, with_post, IsOpen}
+use Rattle.cl_registry.specs.Tables.{Shown, steps, state_of, posts, defined_classes, settlements, IsTrusted, RunsAs, with_post, IsOpen}
 use Rattle.std.proofs.lemmas.Bool.{or_parts}
 
 pub eq_nat : (a b : ℕ) → nat_eq a b ≡ true → a ≡ b
@@ -67,7 +67,7 @@ posts_then (events.Prepare c ∷ h) k = posts_then h k
 posts_then (events.NextRound ∷ h) k = posts_then h k
 posts_then (events.Post p ∷ h) k = ap (◌∷◌ p) (posts_then h k)
 
-pub defined_then : (h k : List Event) → defined (h ++ k) ≡ defined h ++ defined k
+pub defined_then : (h k : List Event) → defined_classes (h ++ k) ≡ defined_classes h ++ defined_classes k
 defined_then [] k = refl
 defined_then (events.Define d ∷ h) k = ap (◌∷◌ d) (defined_then h k)
 defined_then (events.Initiate d l ∷ h) k = defined_then h k

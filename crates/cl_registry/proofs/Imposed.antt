@@ -14,7 +14,7 @@ use Rattle.cl_model.specs.Classes.{class}
 use Rattle.cl_model.specs.Texts.{EqualityNames}
 use Rattle.std.proofs.lemmas.List.Elements.{Contains-push}
 use Rattle.cl_model.specs.States as states
-use Rattle.cl_model.specs.States.{State, Need, Equal, Met, Refused, AllMet, IsRecorded, Joined, recorded}
+use Rattle.cl_model.specs.States.{State, Need, Equal, Met, Refused, AllMet, IsRecorded, Joined, recorded_definer}
 use Rattle.cl_model.specs.Machine.{Constrain, Prepare, after, May}
 use Rattle.cl_model.specs.Preparation.{constraints_of}
 use Rattle.cl_config.specs.Views.{Configured}
@@ -92,7 +92,7 @@ kept_constrained told x e f old new table wide references prepared used come mor
     let added_is = adds (state_of x) k.book in
     subst (λ (hs : List Event). IsRegistry told (record x { history = hs }) (moved f table wide references prepared used more) new) (sym h)
     (registry_event told x x.rows (events.Constrain e) f old new table wide references prepared used come more k (kept_constrain told x e k.kept unmet added_is.0 may names) (ap (λ (s : State). s.round) (state_constrain x e)) others.width
-    (λ l n. same l n ∙ k.rows l n ∙ sym (ap (λ (s : State). option_and_then (λ (p : ℕ). row_of x.rows (class n p)) (recorded s.records l n)) (state_constrain x e)))
+    (λ l n. same l n ∙ k.rows l n ∙ sym (ap (λ (s : State). option_and_then (λ (p : ℕ). row_of x.rows (class n p)) (recorded_definer s.records l n)) (state_constrain x e)))
     (subst (λ (s : State). new s) (sym (state_constrain x e)) added_is.1)
     (λ c i. others.references_are c i ∙ k.references c i ∙ sym (settled_same x x.rows (events.Constrain e) c i refl))
     (others.prepared_are ∙ k.prepared ∙ sym (ap (λ (s : State). s.prepared) (state_constrain x e))) others.room)
@@ -126,7 +126,7 @@ pub kept_prepared : {home : Name → ℕ → Option ℕ} {joins : Name → ℕ �
 kept_prepared {home} {joins} told x c f table wide references prepared used come more history k at free may same width references_are prepared_are room h =
     subst (λ (hs : List Event). IsRegistry told (record x { history = hs }) (moved f table wide references prepared used more) (IsBookOf home joins)) (sym h)
     (registry_event told x x.rows (events.Prepare c) f (IsBookOf home joins) (IsBookOf home joins) table wide references prepared used come more k (kept_prepare told x c k.kept at free may) (ap (λ (s : State). s.round) (state_prepare x c)) width
-    (λ l n. same l n ∙ k.rows l n ∙ sym (ap (λ (s : State). option_and_then (λ (p : ℕ). row_of x.rows (class n p)) (recorded s.records l n)) (state_prepare x c)))
+    (λ l n. same l n ∙ k.rows l n ∙ sym (ap (λ (s : State). option_and_then (λ (p : ℕ). row_of x.rows (class n p)) (recorded_definer s.records l n)) (state_prepare x c)))
     (book_event home joins x x.rows (events.Prepare c) refl refl k.book)
     (λ d i. references_are d i ∙ k.references d i ∙ sym (settled_same x x.rows (events.Prepare c) d i refl))
     (prepared_are ∙ ap (λ (cs : List Class). cs ++ c ∷ []) k.prepared ∙ sym (ap (λ (s : State). s.prepared) (state_prepare x c))) room)

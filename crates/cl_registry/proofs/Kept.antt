@@ -11,7 +11,7 @@ use Rattle.cl_model.specs.declared.settled.Settled.{Settled}
 use Rattle.cl_model.specs.Content.{Content}
 use Rattle.cl_model.specs.Classes.{Above, supers, same_class}
 use Rattle.cl_model.specs.Texts.{EventNames, VerdictNames}
-use Rattle.cl_model.specs.States.{State, Record, recorded}
+use Rattle.cl_model.specs.States.{State, Record, recorded_definer}
 use Rattle.cl_model.specs.Machine.{Step, after, May}
 use Rattle.cl_model.specs.Tables.{Allows}
 use Rattle.cl_model.specs.Views.{answers_of, answer_at, step_of}
@@ -26,7 +26,7 @@ use Rattle.cl_hierarchy.specs.RowTables.{AreRows}
 use Rattle.cl_constraints.specs.Books.{IsBookOf}
 use Rattle.cl_constraints.proofs.Standing.{stands_alike}
 use Rattle.cl_registry.specs.Kept.{Fields, IsRegistry}
-use Rattle.cl_registry.specs.Tables.{Shown, steps, state_of, records_of, round_of, posts, defined, settlements, settled_at, IsTrusted, IsKept, IsPlaced, ArePlaced, looked}
+use Rattle.cl_registry.specs.Tables.{Shown, steps, state_of, records_of, round_of, posts, defined_classes, settlements, settled_at, IsTrusted, IsKept, IsPlaced, ArePlaced, looked_row}
 use Rattle.cl_registry.proofs.Histories.{steps_more, state_more, trusted_more, run_more, posts_then, defined_then, settlements_then}
 use Rattle.cl_registry.proofs.Known.{met_after}
 
@@ -46,9 +46,9 @@ pub state_event : (x : Shown) (rows : List Rowed) (e : Event) → state_of (with
 state_event x rows e = state_more x (with_event x rows e) (step_by x e) (steps_event x rows e)
 
 -- what is recorded stays so
-pub records_event : (x : Shown) (rows : List Rowed) (e : Event) (l p : ℕ) (n : Name) → recorded (records_of x) l n ≡ Some p → recorded (records_of (with_event x rows e)) l n ≡ Some p
+pub records_event : (x : Shown) (rows : List Rowed) (e : Event) (l p : ℕ) (n : Name) → recorded_definer (records_of x) l n ≡ Some p → recorded_definer (records_of (with_event x rows e)) l n ≡ Some p
 records_event x rows e l p n h =
-    subst (λ (s : State). recorded s.records l n ≡ Some p) (sym (state_event x rows e)) (records_stay (state_of x) (step_by x e ∷ []) l p n h)
+    subst (λ (s : State). recorded_definer s.records l n ≡ Some p) (sym (state_event x rows e)) (records_stay (state_of x) (step_by x e ∷ []) l p n h)
 
 -- what is settled, after an event more that settles nothing
 pub settled_event : (x : Shown) (rows : List Rowed) (e : Event) → settlements (e ∷ []) ≡ [] → settlements (with_event x rows e).history ≡ settlements x.history
@@ -60,7 +60,7 @@ settled_same x rows e c i none = ap (λ (rs : List Settled). find (λ s. same_cl
 -- ---- rows that stay
 
 abbrev Grows : List Record → List Record → Type 0
-Grows rs ss = (l p : ℕ) (n : Name) → recorded rs l n ≡ Some p → recorded ss l n ≡ Some p
+Grows rs ss = (l p : ℕ) (n : Name) → recorded_definer rs l n ≡ Some p → recorded_definer ss l n ≡ Some p
 
 places_stay : (rs ss : List Record) (l : ℕ) (above : List Above) (places : List ℕ) → Grows rs ss → ArePlaced rs l above places → ArePlaced ss l above places
 places_stay rs ss l [] [] grows h = tt
@@ -98,7 +98,7 @@ pub record IsFine (told : Option Content) (x : Shown) (e : Event) : Type 0 where
 
 -- the rows after an event
 pub record AreRowsBy (told : Option Content) (x : Shown) (rows : List Rowed) (e : Event) : Type 0 where
-  pub classes : map (λ r. r.class) rows ≡ defined x.history ++ defined (e ∷ [])
+  pub classes : map (λ r. r.class) rows ≡ defined_classes x.history ++ defined_classes (e ∷ [])
   pub spelt : All (λ r. IsSpelt told r.class r.file) rows
   pub order : AreRows told x.config rows
   pub placed : AllByRecursion (IsPlaced (records_of (with_event x rows e))) rows
@@ -142,9 +142,9 @@ none_settled told x e k none =
     (ap (λ (rs : List Settled). settlements x.history ++ rs) none ∙ append-nil (settlements x.history)) k.named.settled
 
 -- the same rows, after an event that defines nothing
-pub rows_same : (told : Option Content) (x : Shown) (e : Event) → IsKept told x → defined (e ∷ []) ≡ [] → AreRowsBy told x x.rows e
+pub rows_same : (told : Option Content) (x : Shown) (e : Event) → IsKept told x → defined_classes (e ∷ []) ≡ [] → AreRowsBy told x x.rows e
 rows_same told x e k none = record {
-  classes = k.rows ∙ sym (append-nil (defined x.history)) ∙ sym (ap (λ (cs : List Class). defined x.history ++ cs) none);
+  classes = k.rows ∙ sym (append-nil (defined_classes x.history)) ∙ sym (ap (λ (cs : List Class). defined_classes x.history ++ cs) none);
   spelt = k.spelt;
   order = k.order;
   placed = placed_event told x x.rows e k;
@@ -169,7 +169,7 @@ come_by left round is of same = is ∙ ap (λ (n : ℕ). left + (n - (round + 1)
 
 -- a registry after an event that is no post, and begins no round
 pub registry_event : (told : Option Content) (x : Shown) (rows : List Rowed) (e : Event) (f : Fields) (old new : State → Type 0) (table : ℕ → List ℕ → Option Rowed) (wide : ℕ) (references : Class → ℕ → Option Settled) (prepared : List Class) (used come more : ℕ)
-    → IsRegistry told x f old → IsKept told (with_event x rows e) → round_of (with_event x rows e) ≡ round_of x → wide ≡ f.parts → ((l : ℕ) (n : List ℕ) → table l n ≡ looked (with_event x rows e) l n)
+    → IsRegistry told x f old → IsKept told (with_event x rows e) → round_of (with_event x rows e) ≡ round_of x → wide ≡ f.parts → ((l : ℕ) (n : List ℕ) → table l n ≡ looked_row (with_event x rows e) l n)
     → new (state_of (with_event x rows e)) → ((c : Class) (i : ℕ) → references c i ≡ settled_at (with_event x rows e) c i) → prepared ≡ (state_of (with_event x rows e)).prepared → HasRoom x f used come more
     → IsRegistry told (with_event x rows e) (moved f table wide references prepared used more) new
 registry_event told x rows e f old new table wide references prepared used come more k kept round same rows_are book references_are prepared_are room = record {

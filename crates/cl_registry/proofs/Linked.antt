@@ -7,7 +7,7 @@ use Rattle.cl_model.specs.declared.class.Class.{Class}
 use Rattle.cl_model.specs.Classes.{class}
 use Rattle.cl_model.specs.Lineages.{Kin, IsLineage, lineage}
 use Rattle.cl_model.specs.Preparation.{constraints_of}
-use Rattle.cl_model.specs.States.{State, IsLinked, AllMet, recorded}
+use Rattle.cl_model.specs.States.{State, IsLinked, AllMet, recorded_definer}
 use Rattle.cl_model.specs.Plans.{Link}
 use Rattle.cl_model.specs.Machine.{Setting, IsSound}
 use Rattle.cl_model.specs.Service.{IsLinkedIn, ComesTo}
@@ -33,7 +33,7 @@ lineage_linked g s k sound h own =
     each_linked g s (lineage k) sound (lineage_prepared g s k sound h own) (lineage_kept g.world s k sound.closed (sound.prepared k.class own).recorded h)
 
 -- a request to link a class that its loader has recorded and that is prepared comes to that
-pub prepared_comes : (g : Setting) (s : State) (loader place : ℕ) (name : Name) → IsSound g s → recorded s.records loader name ≡ Some place → Contains s.prepared (class name place) → ComesTo g s (Link loader name) (IsLinked (class name place))
+pub prepared_comes : (g : Setting) (s : State) (loader place : ℕ) (name : Name) → IsSound g s → recorded_definer s.records loader name ≡ Some place → Contains s.prepared (class name place) → ComesTo g s (Link loader name) (IsLinked (class name place))
 prepared_comes g s loader place name sound at own =
     let w = g.world in
     let d = class name place in

@@ -10,7 +10,7 @@ use Rattle.cl_model.specs.Content.{Content}
 use Rattle.cl_model.specs.Homes.{World, home}
 use Rattle.cl_model.specs.Classes.{class, Above, AtHome, NoClassDef, class_accessible, superclass_of, superinterfaces_of}
 use Rattle.cl_model.specs.Lineages.{IsLineage, Kin}
-use Rattle.cl_model.specs.States.{State, Need, Verdict, recorded, AllMet, IsRecorded, Keeps}
+use Rattle.cl_model.specs.States.{State, Need, Verdict, recorded_definer, AllMet, IsRecorded, Keeps}
 use Rattle.cl_model.specs.Works.{Work, Made, after_made, ◌>>=◌}
 use Rattle.cl_model.specs.Plans.{derive, load, resolve, resolve_in, through}
 use Rattle.cl_model.specs.Machine.{HasLineage}
@@ -54,7 +54,7 @@ closed_made d c r m e is = ap (λ (v : Made Verdict). v.needs) (some_same m _ (s
 -- a class that was reached by the list of a reference
 pub record Reached (w : World) (s : State) (d c : Kin) : Type 0 where
   pub accessible : class_accessible c.file.flags c.class d.class ≡ true
-  pub recorded : recorded s.records d.class.loader c.class.name ≡ Some c.class.loader
+  pub recorded : recorded_definer s.records d.class.loader c.class.name ≡ Some c.class.loader
 
 module _ (w : World) (s : State) (d c : Kin) (r : Reference) (made m : Made Verdict) (before : List Need) (es : List Equality) (k n : ℕ)
     (lin : HasLineage w c.class c) (found : home w d.class.loader c.class.name ≡ Some c.class.loader) (worked : resolve_in d r c ≡ Some made) (are : needs_of es ≡ made.needs)
@@ -66,7 +66,7 @@ module _ (w : World) (s : State) (d c : Kin) (r : Reference) (made m : Made Verd
       let parts : before ++ made.needs ≡ b.first.needs ++ made.needs = ap (λ (ns : List Need). before ++ ns) (sym are) ∙ list ∙ b.needs ∙ ap (λ (ns : List Need). b.first.needs ++ ns) more in
       let all : AllMet s b.first.needs = subst (AllMet s) (append_cancel_right before b.first.needs made.needs parts) met in
       let rec = (load_records w s (derive w n []) (derive_records w s n []) d.class.loader c.class.name b.first b.value l all).0 in
-      record { accessible = e; recorded = subst (λ (p : ℕ). recorded s.records d.class.loader c.class.name ≡ Some p) here rec }
+      record { accessible = e; recorded = subst (λ (p : ℕ). recorded_definer s.records d.class.loader c.class.name ≡ Some p) here rec }
   by_access b l false e next here =
       let none : b.second.needs ≡ [] = closed_made d c r b.second e next in
       let whole : before ++ needs_of es ≡ b.first.needs = list ∙ b.needs ∙ ap (λ (ns : List Need). b.first.needs ++ ns) none ∙ append-nil b.first.needs in
@@ -92,12 +92,12 @@ module _ (w : World) (s : State) (d c : Kin) (r : Reference) (made m : Made Verd
 -- what is given for a list of a preparation holds in the tables
 held : (content : Content) (x : Shown) (l : Lined) (given : Given) → IsKept (Some content) x → IsLined (Some content) l → l.config ≡ x.config → IsRecorded (state_of x) l.own.class → HoldsIn (world_of x.config content) (state_of x) l given
     → HoldsFor x l given
-held content x l givens.Nothing kept lined config recorded h = tt
-held content x l givens.Superclass kept lined config recorded h =
+held content x l givens.Nothing kept lined config recorded_definer h = tt
+held content x l givens.Superclass kept lined config recorded_definer h =
     let w = world_of x.config content in
     let f = file_of l.own.file in
     let lin = subst (λ (c : Configured). IsLineage (world_of c content) (kin_of l)) config lined.lineage in
-    let stand = (closed_of content x kept).above l.own.class f recorded lin.has_file in
+    let stand = (closed_of content x kept).above l.own.class f recorded_definer lin.has_file in
     home_prepared content x l.own.class (superclass_of f) h
     (all_left (λ (a : Above). AtHome w l.own.class (Keeps (state_of x) l.own.class.loader) a.name) (superclass_of f) (superinterfaces_of f) stand)
 

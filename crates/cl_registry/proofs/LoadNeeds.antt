@@ -9,7 +9,7 @@ use Rattle.cl_model.specs.Classes.{class, is_among, Error, NoClassDef, Above, su
 use Rattle.cl_model.specs.Lineages.{Kin}
 use Rattle.cl_model.specs.States.{Need, Entry}
 use Rattle.cl_model.specs.Works.{Work, Made, done, need, ask, or_fail, unless_wrong, of_result, ◌>>=◌}
-use Rattle.cl_model.specs.Plans.{initiating, load_by, loads_above, derive_new, derive, load}
+use Rattle.cl_model.specs.Plans.{initiating_needs, load_by, loads_above, derive_new, derive, load}
 use Rattle.cl_model.proofs.Bind.{pieces, some_same}
 use Rattle.cl_model.proofs.Heights.{loaded, found, sought, grown, others_after, checked, finished, interfaces_next, superclass_next, circle_or}
 use Rattle.cl_model.proofs.Progress.{IsEntry}
@@ -48,7 +48,7 @@ load_only w d ih absent loader name =
     only_then (ask loader name) (sought w d absent loader name) (none_only _ refl) (λ u.
     only_then (or_fail (absent (class name loader)) (home w loader name)) (found w d loader name) (or_fail_only (absent (class name loader)) (home w loader name)) (λ place.
     only_then (d (class name place)) (loaded w loader name place) (ih (class name place)) (λ k.
-    only_then (need (initiating loader name place)) (λ (b : Unit {0}). done k) (need_only (initiating loader name place) (initiating_only loader place name (loader == place))) (λ b. none_only _ refl))))
+    only_then (need (initiating_needs loader name place)) (λ (b : Unit {0}). done k) (need_only (initiating_needs loader name place) (initiating_only loader place name (loader == place))) (λ b. none_only _ refl))))
 
 above_only : (w : World) (d : Class → Work Kin) → ((c : Class) → Only (d c)) → (c : Class) (others : List Above) → Only (loads_above w d c others)
 above_only w d ih c [] = none_only _ refl

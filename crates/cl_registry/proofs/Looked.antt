@@ -9,14 +9,14 @@ use Rattle.cl_classfile.specs.Files.{same_name}
 use Rattle.cl_model.specs.declared.class.Class.{Class}
 use Rattle.cl_model.specs.Content.{Content}
 use Rattle.cl_model.specs.Classes.{class, same_class}
-use Rattle.cl_model.specs.States.{IsRecorded, Record, recorded}
+use Rattle.cl_model.specs.States.{IsRecorded, Record, recorded_definer}
 use Rattle.cl_model.specs.Tables.{Records}
 use Rattle.cl_model.proofs.Runs.{names_equal}
 use Rattle.cl_model.proofs.Ancestors.{same_self}
 use Rattle.cl_model.proofs.Complete.{is_class}
 use Rattle.cl_hierarchy.specs.Rows.{Rowed}
 use Rattle.cl_hierarchy.specs.Lineages.{row_of}
-use Rattle.cl_registry.specs.Tables.{Shown, state_of, records_of, defined, IsKept, looked, LacksRecord}
+use Rattle.cl_registry.specs.Tables.{Shown, state_of, records_of, defined_classes, IsKept, looked_row, LacksRecord}
 use Rattle.cl_registry.proofs.Histories.{eq_nat}
 use Rattle.cl_registry.proofs.Running.{recorded_hold, all_known}
 use Rattle.cl_model.proofs.Bind.{none_not_some, some_same}
@@ -38,7 +38,7 @@ place_or (Some x) b r = refl
 place_or None true r = refl
 place_or None false r = refl
 
-pub recorded_push : (rs : List Record) (r : Record) (l : ℕ) (n : List ℕ) → recorded (rs ++ r ∷ []) l n ≡ option_or (recorded rs l n) (if (r.loader == l) && same_name r.name n then Some r.place else None)
+pub recorded_push : (rs : List Record) (r : Record) (l : ℕ) (n : List ℕ) → recorded_definer (rs ++ r ∷ []) l n ≡ option_or (recorded_definer rs l n) (if (r.loader == l) && same_name r.name n then Some r.place else None)
 recorded_push rs r l n =
     ap (option_map (λ (r : Record). r.place)) (found_push (λ r. (r.loader == l) && same_name r.name n) rs r)
     ∙ place_or (find (λ r. (r.loader == l) && same_name r.name n) rs) ((r.loader == l) && same_name r.name n) r
@@ -79,12 +79,12 @@ row_is (x ∷ rows) c r e = by_test (same_class x.class c) refl e (row_is rows c
     by_test false t f ih = ih f
 
 -- a class that its loader has not recorded has no row
-none_found : (rs : List Record) (rows : List Rowed) (c : Class) → AllByRecursion (λ (c : Class). recorded rs c.loader c.name ≡ Some c.loader) (map (λ r. r.class) rows) → recorded rs c.loader c.name ≡ None → row_of rows c ≡ None
+none_found : (rs : List Record) (rows : List Rowed) (c : Class) → AllByRecursion (λ (c : Class). recorded_definer rs c.loader c.name ≡ Some c.loader) (map (λ r. r.class) rows) → recorded_definer rs c.loader c.name ≡ None → row_of rows c ≡ None
 none_found rs [] c known fresh = refl
 none_found rs (x ∷ rows) c known fresh = by_test (same_class x.class c) refl (none_found rs rows c known.1 fresh)
   where
     by_test : (b : Bool) → same_class x.class c ≡ b → row_of rows c ≡ None → (if b then Some x else row_of rows c) ≡ None
-    by_test true t ih = absurd (none_not_some _ fresh (subst (λ (k : Class). recorded rs k.loader k.name ≡ Some k.loader) (is_class x.class c t) known.0))
+    by_test true t ih = absurd (none_not_some _ fresh (subst (λ (k : Class). recorded_definer rs k.loader k.name ≡ Some k.loader) (is_class x.class c t) known.0))
     by_test false t ih = ih
 
 -- a row more is found for its class, where none was
@@ -96,7 +96,7 @@ row_push (x ∷ rows) r c e none = by_test (same_class x.class c) none (row_push
     by_test true f ih = absurd cc
     by_test false f ih = ih f
 
-pub fresh_row : (told : Option Content) (x : Shown) (c : Class) → IsKept told x → recorded (records_of x) c.loader c.name ≡ None → row_of x.rows c ≡ None
+pub fresh_row : (told : Option Content) (x : Shown) (c : Class) → IsKept told x → recorded_definer (records_of x) c.loader c.name ≡ None → row_of x.rows c ≡ None
 fresh_row told x c k fresh = none_found (records_of x) x.rows c (subst (AllByRecursion (IsRecorded (state_of x))) (sym k.rows) (all_known x k.trusted)) fresh
 
 -- ---- what is looked up
@@ -109,12 +109,12 @@ some_of (Some x) e = (x, refl)
 pub record IsRowOf (x : Shown) (l p : ℕ) (n : List ℕ) : Type 0 where
   pub row : Rowed
   pub found : row_of x.rows (class n p) ≡ Some row
-  pub looked : looked x l n ≡ Some row
+  pub looked : looked_row x l n ≡ Some row
   pub named : row.class ≡ class n p
 
-pub looked_some : (told : Option Content) (x : Shown) (l p : ℕ) (n : List ℕ) → IsKept told x → recorded (records_of x) l n ≡ Some p → IsRowOf x l p n
+pub looked_some : (told : Option Content) (x : Shown) (l p : ℕ) (n : List ℕ) → IsKept told x → recorded_definer (records_of x) l n ≡ Some p → IsRowOf x l p n
 looked_some told x l p n k e =
-    let all : AllByRecursion (λ (c : Class). IsSome (row_of x.rows c)) (defined x.history) = subst (AllByRecursion (λ (c : Class). IsSome (row_of x.rows c))) k.rows (all_found x.rows) in
+    let all : AllByRecursion (λ (c : Class). IsSome (row_of x.rows c)) (defined_classes x.history) = subst (AllByRecursion (λ (c : Class). IsSome (row_of x.rows c))) k.rows (all_found x.rows) in
     let is = some_of (row_of x.rows (class n p)) (recorded_hold (λ (c : Class). IsSome (row_of x.rows c)) x k.trusted all l p n e) in
     record {
       row = is.0;
@@ -123,24 +123,24 @@ looked_some told x l p n k e =
       named = row_is x.rows (class n p) is.0 is.1;
     }
 
-pub looked_none : (x : Shown) (l : ℕ) (n : List ℕ) → recorded (records_of x) l n ≡ None → looked x l n ≡ None
+pub looked_none : (x : Shown) (l : ℕ) (n : List ℕ) → recorded_definer (records_of x) l n ≡ None → looked_row x l n ≡ None
 looked_none x l n e = ap (option_and_then (λ (q : ℕ). row_of x.rows (class n q))) e
 
 -- who defined the class of a row is the place of its record
-pub place_looked : (told : Option Content) (x : Shown) (l : ℕ) (n : List ℕ) → IsKept told x → option_map (λ (r : Rowed). r.class.loader) (looked x l n) ≡ recorded (records_of x) l n
-place_looked told x l n k = by_record (recorded (records_of x) l n) refl
+pub place_looked : (told : Option Content) (x : Shown) (l : ℕ) (n : List ℕ) → IsKept told x → option_map (λ (r : Rowed). r.class.loader) (looked_row x l n) ≡ recorded_definer (records_of x) l n
+place_looked told x l n k = by_record (recorded_definer (records_of x) l n) refl
   where
-    by_record : (o : Option ℕ) → recorded (records_of x) l n ≡ o → option_map (λ (r : Rowed). r.class.loader) (looked x l n) ≡ recorded (records_of x) l n
+    by_record : (o : Option ℕ) → recorded_definer (records_of x) l n ≡ o → option_map (λ (r : Rowed). r.class.loader) (looked_row x l n) ≡ recorded_definer (records_of x) l n
     by_record None e = ap (option_map (λ (r : Rowed). r.class.loader)) (looked_none x l n e) ∙ sym e
     by_record (Some p) e =
         let is = looked_some told x l p n k e in
         ap (option_map (λ (r : Rowed). r.class.loader)) is.looked ∙ ap (λ (c : Class). Some c.loader) is.named ∙ sym e
 
 -- a row that is looked up is of the class that is recorded
-pub looked_records : (told : Option Content) (x : Shown) (l : ℕ) (n : List ℕ) (r : Rowed) → IsKept told x → looked x l n ≡ Some r → Records (state_of x) l n r.class
-looked_records told x l n r k e = by_record (recorded (records_of x) l n) refl
+pub looked_records : (told : Option Content) (x : Shown) (l : ℕ) (n : List ℕ) (r : Rowed) → IsKept told x → looked_row x l n ≡ Some r → Records (state_of x) l n r.class
+looked_records told x l n r k e = by_record (recorded_definer (records_of x) l n) refl
   where
-    by_record : (o : Option ℕ) → recorded (records_of x) l n ≡ o → Records (state_of x) l n r.class
+    by_record : (o : Option ℕ) → recorded_definer (records_of x) l n ≡ o → Records (state_of x) l n r.class
     by_record None f = absurd (none-some r (sym (looked_none x l n f) ∙ e))
     by_record (Some p) f =
         let is = looked_some told x l p n k f in
@@ -148,14 +148,14 @@ looked_records told x l n r k e = by_record (recorded (records_of x) l n) refl
         let of : r.class ≡ class n p = ap (λ (s : Rowed). s.class) (sym same) ∙ is.named in
         (ap (λ (c : Class). c.name) of, f ∙ ap (λ (c : Class). Some c.loader) (sym of))
 
-pub looked_lacks : (told : Option Content) (x : Shown) (l : ℕ) (n : List ℕ) → IsKept told x → looked x l n ≡ None → LacksRecord x l n
-looked_lacks told x l n k e = by_record (recorded (records_of x) l n) refl
+pub looked_lacks : (told : Option Content) (x : Shown) (l : ℕ) (n : List ℕ) → IsKept told x → looked_row x l n ≡ None → LacksRecord x l n
+looked_lacks told x l n k e = by_record (recorded_definer (records_of x) l n) refl
   where
-    by_record : (o : Option ℕ) → recorded (records_of x) l n ≡ o → LacksRecord x l n
+    by_record : (o : Option ℕ) → recorded_definer (records_of x) l n ≡ o → LacksRecord x l n
     by_record None f = f
     by_record (Some p) f = let is = looked_some told x l p n k f in absurd (none-some is.row (sym e ∙ is.looked))
 
-pub looked_is : (told : Option Content) (x : Shown) (l : ℕ) (n : List ℕ) (o : Option Rowed) → IsKept told x → o ≡ looked x l n → MatchOption o (LacksRecord x l n) (λ r. Records (state_of x) l n r.class)
+pub looked_is : (told : Option Content) (x : Shown) (l : ℕ) (n : List ℕ) (o : Option Rowed) → IsKept told x → o ≡ looked_row x l n → MatchOption o (LacksRecord x l n) (λ r. Records (state_of x) l n r.class)
 looked_is told x l n None k e = looked_lacks told x l n k (sym e)
 looked_is told x l n (Some r) k e = looked_records told x l n r k (sym e)
 
@@ -166,33 +166,33 @@ same_at a b m n e = let both = and_parts (a == b) (same_name m n) e in (eq_nat a
 
 -- what is looked up after a record more
 pub looked_push : (told : Option Content) (x y : Shown) (r : Record) (row : Rowed) → IsKept told x → records_of y ≡ records_of x ++ r ∷ [] → ((c : Class) (s : Rowed) → row_of x.rows c ≡ Some s → row_of y.rows c ≡ Some s)
-    → recorded (records_of x) r.loader r.name ≡ None → row_of y.rows (class r.name r.place) ≡ Some row → (l : ℕ) (n : List ℕ) → looked y l n ≡ (if (r.loader == l) && pointwise nat_eq r.name n then Some row else looked x l n)
-looked_push told x y r row k more stays fresh here l n = by_cases (recorded (records_of x) l n) ((r.loader == l) && same_name r.name n) refl refl
+    → recorded_definer (records_of x) r.loader r.name ≡ None → row_of y.rows (class r.name r.place) ≡ Some row → (l : ℕ) (n : List ℕ) → looked_row y l n ≡ (if (r.loader == l) && pointwise nat_eq r.name n then Some row else looked_row x l n)
+looked_push told x y r row k more stays fresh here l n = by_cases (recorded_definer (records_of x) l n) ((r.loader == l) && same_name r.name n) refl refl
   where
-    now : looked y l n ≡ option_and_then (λ (p : ℕ). row_of y.rows (class n p)) (option_or (recorded (records_of x) l n) (if (r.loader == l) && same_name r.name n then Some r.place else None))
-    now = ap (λ (rs : List Record). option_and_then (λ (p : ℕ). row_of y.rows (class n p)) (recorded rs l n)) more ∙ ap (option_and_then (λ (p : ℕ). row_of y.rows (class n p))) (recorded_push (records_of x) r l n)
+    now : looked_row y l n ≡ option_and_then (λ (p : ℕ). row_of y.rows (class n p)) (option_or (recorded_definer (records_of x) l n) (if (r.loader == l) && same_name r.name n then Some r.place else None))
+    now = ap (λ (rs : List Record). option_and_then (λ (p : ℕ). row_of y.rows (class n p)) (recorded_definer rs l n)) more ∙ ap (option_and_then (λ (p : ℕ). row_of y.rows (class n p))) (recorded_push (records_of x) r l n)
 
-    by_cases : (o : Option ℕ) (b : Bool) → recorded (records_of x) l n ≡ o → ((r.loader == l) && same_name r.name n) ≡ b → looked y l n ≡ (if (r.loader == l) && pointwise nat_eq r.name n then Some row else looked x l n)
+    by_cases : (o : Option ℕ) (b : Bool) → recorded_definer (records_of x) l n ≡ o → ((r.loader == l) && same_name r.name n) ≡ b → looked_row y l n ≡ (if (r.loader == l) && pointwise nat_eq r.name n then Some row else looked_row x l n)
     by_cases None true e t =
         let same = same_at r.loader l r.name n t in
         now
         ∙ ap (λ (o : Option ℕ). option_and_then (λ (p : ℕ). row_of y.rows (class n p)) (option_or o (if (r.loader == l) && same_name r.name n then Some r.place else None))) e
         ∙ ap (λ (b : Bool). option_and_then (λ (p : ℕ). row_of y.rows (class n p)) (if b then Some r.place else None)) t
         ∙ ap (λ (m : List ℕ). row_of y.rows (class m r.place)) (sym same.1) ∙ here
-        ∙ sym (ap (λ (b : Bool). if b then Some row else looked x l n) t)
+        ∙ sym (ap (λ (b : Bool). if b then Some row else looked_row x l n) t)
     by_cases (Some p) true e t =
         let same = same_at r.loader l r.name n t in
-        absurd (none_not_some _ fresh (subst (λ (i : ℕ). recorded (records_of x) i r.name ≡ Some p) (sym same.0) (subst (λ (m : List ℕ). recorded (records_of x) l m ≡ Some p) (sym same.1) e)))
+        absurd (none_not_some _ fresh (subst (λ (i : ℕ). recorded_definer (records_of x) i r.name ≡ Some p) (sym same.0) (subst (λ (m : List ℕ). recorded_definer (records_of x) l m ≡ Some p) (sym same.1) e)))
     by_cases None false e t =
         now
         ∙ ap (λ (o : Option ℕ). option_and_then (λ (p : ℕ). row_of y.rows (class n p)) (option_or o (if (r.loader == l) && same_name r.name n then Some r.place else None))) e
         ∙ ap (λ (b : Bool). option_and_then (λ (p : ℕ). row_of y.rows (class n p)) (if b then Some r.place else None)) t
         ∙ sym (looked_none x l n e)
-        ∙ sym (ap (λ (b : Bool). if b then Some row else looked x l n) t)
+        ∙ sym (ap (λ (b : Bool). if b then Some row else looked_row x l n) t)
     by_cases (Some p) false e t =
         let is = looked_some told x l p n k e in
         now
         ∙ ap (λ (o : Option ℕ). option_and_then (λ (p : ℕ). row_of y.rows (class n p)) (option_or o (if (r.loader == l) && same_name r.name n then Some r.place else None))) e
         ∙ stays (class n p) is.row is.found
         ∙ sym is.looked
-        ∙ sym (ap (λ (b : Bool). if b then Some row else looked x l n) t)
+        ∙ sym (ap (λ (b : Bool). if b then Some row else looked_row x l n) t)

@@ -5,7 +5,7 @@ use Rattle.std.proofs.lemmas.List.Elements.{recursion_from_All}
 use Rattle.cl_classfile.specs.Files.{Name}
 use Rattle.cl_model.specs.declared.event.Event.{Event}
 use Rattle.cl_model.specs.declared.event.Event.TheVariants as events
-use Rattle.cl_model.specs.States.{State, Record, start, Answer, recorded}
+use Rattle.cl_model.specs.States.{State, Record, start, Answer, recorded_definer}
 use Rattle.cl_model.specs.Machine.{after, state_after}
 use Rattle.cl_model.specs.Texts.{EventNames}
 use Rattle.cl_model.specs.Views.{answers_of, answer_at, step_of, steps_of}
@@ -16,7 +16,7 @@ use Rattle.cl_registry.proofs.Placed.{post_same, no_record}
 
 -- each record is of one of so many loaders, and of a class of one of these
 abbrev AreNamed : ℕ → List Record → Type 0
-AreNamed count rs = (loader place : ℕ) (name : Name) → recorded rs loader name ≡ Some place → (loader < count) × (place < count)
+AreNamed count rs = (loader place : ℕ) (name : Name) → recorded_definer rs loader name ≡ Some place → (loader < count) × (place < count)
 
 named_added : (count : ℕ) (rs : List Record) (r : Record) → AreNamed count rs → r.loader < count → r.place < count → AreNamed count (rs ++ r ∷ [])
 named_added count rs r named asked below loader place name at = elim (recorded_added rs r loader place name at) [
@@ -38,7 +38,7 @@ all_named count now [] s names named = named
 all_named count now (e ∷ h) s names named = all_named count now h (after s (step_of now e)) names.1 (step_named count s now e names.0 named)
 
 -- the loader of a record, and the one that defined its class
-pub record_is_named : (x : Shown) (loader place : ℕ) (name : Name) → NamesLoaders x → recorded (records_of x) loader name ≡ Some place → (loader < length x.config.loaders) × (place < length x.config.loaders)
+pub record_is_named : (x : Shown) (loader place : ℕ) (name : Name) → NamesLoaders x → recorded_definer (records_of x) loader name ≡ Some place → (loader < length x.config.loaders) × (place < length x.config.loaders)
 record_is_named x loader place name names at =
     let count = length x.config.loaders in
     all_named count (answers_of x.answers) x.history start (recursion_from_All (EventNames count) x.history names.history) (λ l p n h. absurd (no_record h)) loader place name at

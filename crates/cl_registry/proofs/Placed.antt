@@ -10,7 +10,7 @@ use Rattle.cl_model.specs.declared.event.Event.{Event}
 use Rattle.cl_model.specs.declared.event.Event.TheVariants as events
 use Rattle.cl_model.specs.Content.{Content}
 use Rattle.cl_model.specs.Classes.{class, same_class}
-use Rattle.cl_model.specs.States.{State, Record, start, Answer, recorded}
+use Rattle.cl_model.specs.States.{State, Record, start, Answer, recorded_definer}
 use Rattle.cl_model.specs.Machine.{Scheduled, Define, after, state_after}
 use Rattle.cl_model.specs.Tables.{Orderly}
 use Rattle.cl_model.specs.Views.{answers_of, answer_at, post_of, step_of, steps_of}
@@ -22,7 +22,7 @@ use Rattle.cl_config.specs.Loaders.{schedule_of}
 use Rattle.cl_hierarchy.specs.Drafts.{IsSpelt}
 use Rattle.cl_hierarchy.specs.Rows.{Rowed}
 use Rattle.cl_hierarchy.specs.Lineages.{row_of}
-use Rattle.cl_registry.specs.Tables.{Shown, steps, records_of, defined, looked, IsTrusted, IsKept}
+use Rattle.cl_registry.specs.Tables.{Shown, steps, records_of, defined_classes, looked_row, IsTrusted, IsKept}
 use Rattle.cl_model.proofs.Bind.{none_not_some}
 
 -- ---- what is recorded by the loader that defined it has its event
@@ -33,7 +33,7 @@ is_one c cs = list_any (λ d. same_class d c) cs
 
 -- it is recorded, or its definition comes
 abbrev Comes : State → Class → List Event → Type 0
-Comes s c h = (recorded s.records c.loader c.name ≡ Some c.loader) ⊎ (is_one c (defined h) ≡ true)
+Comes s c h = (recorded_definer s.records c.loader c.name ≡ Some c.loader) ⊎ (is_one c (defined_classes h) ≡ true)
 
 pub post_same : (s : State) (q : ℕ) (o : Option Answer) → (after s (post_of q o)).records ≡ s.records
 post_same s q None = refl
@@ -43,20 +43,20 @@ class_of : (c d : Class) → c.name ≡ d.name → c.loader ≡ d.loader → c �
 class_of c d n l = ap (λ (m : Name). class m c.loader) n ∙ ap (λ (k : ℕ). class d.name k) l
 
 comes : (script : List Scheduled) (rounds : ℕ) (now : List (Option Answer)) (c : Class) (h : List Event) (s : State) → Orderly script rounds s (steps_of now h)
-    → recorded (state_after s (steps_of now h)).records c.loader c.name ≡ Some c.loader → Comes s c h
+    → recorded_definer (state_after s (steps_of now h)).records c.loader c.name ≡ Some c.loader → Comes s c h
 comes script rounds now c [] s fine at = inl at
 comes script rounds now c (events.Define d ∷ h) s fine at = elim (comes script rounds now c h (after s (Define d)) fine.1 at) [
   | inl k ↦ elim (recorded_added s.records (record { loader = d.loader; name = d.name; place = d.loader }) c.loader c.loader c.name k) [
     | inl old ↦ inl old
-    | inr new ↦ inr (or_left (same_class d c) (is_one c (defined h)) (ap (λ (e : Class). same_class e c) (class_of d c new.1 new.0) ∙ same_self c))
+    | inr new ↦ inr (or_left (same_class d c) (is_one c (defined_classes h)) (ap (λ (e : Class). same_class e c) (class_of d c new.1 new.0) ∙ same_self c))
   ]
-  | inr k ↦ inr (or_right (same_class d c) (is_one c (defined h)) k)
+  | inr k ↦ inr (or_right (same_class d c) (is_one c (defined_classes h)) k)
 ]
 comes script rounds now c (events.Initiate d loader ∷ h) s fine at = elim (comes script rounds now c h (after s (step_of now (events.Initiate d loader))) fine.1 at) [
   | inl k ↦ elim (recorded_added s.records (record { loader = loader; name = d.name; place = d.loader }) c.loader c.loader c.name k) [
     | inl old ↦ inl old
-    | inr new ↦ absurd (none_not_some (recorded s.records loader d.name) fine.0.1.fresh
-        (subst (λ (l : ℕ). recorded s.records l d.name ≡ Some d.loader) (new.2 ∙ sym new.0) fine.0.0))
+    | inr new ↦ absurd (none_not_some (recorded_definer s.records loader d.name) fine.0.1.fresh
+        (subst (λ (l : ℕ). recorded_definer s.records l d.name ≡ Some d.loader) (new.2 ∙ sym new.0) fine.0.0))
   ]
   | inr k ↦ inr k
 ]
@@ -65,14 +65,14 @@ comes script rounds now c (events.Settle r ∷ h) s fine at = comes script round
 comes script rounds now c (events.Prepare d ∷ h) s fine at = comes script rounds now c h (after s (step_of now (events.Prepare d))) fine.1 at
 comes script rounds now c (events.NextRound ∷ h) s fine at = comes script rounds now c h (after s (step_of now events.NextRound)) fine.1 at
 comes script rounds now c (events.Post q ∷ h) s fine at = elim (comes script rounds now c h (after s (post_of q (answer_at now q))) fine.1 at) [
-  | inl k ↦ inl (subst (λ (rs : List Record). recorded rs c.loader c.name ≡ Some c.loader) (post_same s q (answer_at now q)) k)
+  | inl k ↦ inl (subst (λ (rs : List Record). recorded_definer rs c.loader c.name ≡ Some c.loader) (post_same s q (answer_at now q)) k)
   | inr k ↦ inr k
 ]
 
 pub no_record : {x : ℕ} → None ≡ Some x → ⊥
 no_record h = cc
 
-is_defined : (x : Shown) (c : Class) → IsTrusted x → recorded (records_of x) c.loader c.name ≡ Some c.loader → is_one c (defined x.history) ≡ true
+is_defined : (x : Shown) (c : Class) → IsTrusted x → recorded_definer (records_of x) c.loader c.name ≡ Some c.loader → is_one c (defined_classes x.history) ≡ true
 is_defined x c trusted at = elim (comes (schedule_of x.script) x.script.rounds (answers_of x.answers) c x.history start trusted.tables at) [ inl k ↦ absurd (no_record k) | inr k ↦ k ]
 
 -- ---- and its row
@@ -96,7 +96,7 @@ found_row told c (r ∷ rows) spelt h = by_test (same_class r.class c) refl (fou
     by_test false t more h = more h
 
 -- what a loader has recorded has the row that is found there
-pub recorded_row : (told : Option Content) (x : Shown) (loader place : ℕ) (name : Name) → IsKept told x → recorded (records_of x) loader name ≡ Some place → HasRow told (looked x loader name) (class name place)
+pub recorded_row : (told : Option Content) (x : Shown) (loader place : ℕ) (name : Name) → IsKept told x → recorded_definer (records_of x) loader name ≡ Some place → HasRow told (looked_row x loader name) (class name place)
 recorded_row told x loader place name kept at =
     let own = (trusted_is_consistent (schedule_of x.script) x.script.rounds (steps x) kept.trusted.tables).own loader place name at in
     let r = found_row told (class name place) x.rows (recursion_from_All (Spelt told) x.rows kept.spelt) (subst (λ (cs : List Class). is_one (class name place) cs ≡ true) (sym kept.rows) (is_defined x (class name place) kept.trusted own)) in

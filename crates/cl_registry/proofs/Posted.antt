@@ -13,7 +13,7 @@ use Rattle.cl_model.specs.declared.answer.Answer as rust
 use Rattle.cl_model.specs.declared.answer.Answer.TheVariants as answers
 use Rattle.cl_model.specs.Content.{Content}
 use Rattle.cl_model.specs.Classes.{class}
-use Rattle.cl_model.specs.States.{State, start, IsClass, IsLinked, Answer, recorded, settled_to}
+use Rattle.cl_model.specs.States.{State, start, IsClass, IsLinked, Answer, recorded_definer, settled_to}
 use Rattle.cl_model.specs.Plans.{Load, Resolve, Link}
 use Rattle.cl_model.specs.Machine.{Setting, Scheduled, AnswersPlan, IsSound, MaySay, MayAnswer}
 use Rattle.cl_model.specs.Tables.{Bears, BearsAnswer, Records}
@@ -104,7 +104,7 @@ settled_bears x r s at =
     let is = settled_by_in x r s at in
     subst (λ (q : Request). Bears (state_of x) (request_of q) (verdict_of s.verdict)) (sym e.request)
     (λ d rec.
-    let same : s.class ≡ d = ap (λ (p : ℕ). class s.class.name p) (value_same s.class.loader d.loader (recorded (records_of x) e.loader s.class.name) e.recorded rec.1) ∙ ap (λ (n : Name). class n d.loader) (sym rec.0) in
+    let same : s.class ≡ d = ap (λ (p : ℕ). class s.class.name p) (value_same s.class.loader d.loader (recorded_definer (records_of x) e.loader s.class.name) e.recorded rec.1) ∙ ap (λ (n : Name). class n d.loader) (sym rec.0) in
     inr (inr (subst (λ (c : Class). settled_to (state_of x).settled c s.index ≡ Some (verdict_of s.verdict)) same is.verdict)))
 
 -- and it is what the machine answers

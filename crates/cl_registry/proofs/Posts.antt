@@ -15,7 +15,7 @@ use Rattle.cl_model.specs.declared.answer.Answer.TheVariants as answers
 use Rattle.cl_model.specs.Content.{Content}
 use Rattle.cl_model.specs.Classes.{class, same_class}
 use Rattle.cl_model.specs.Texts.{AnswerNames, EventNames, VerdictNames}
-use Rattle.cl_model.specs.States.{State, Record, start, Answer, recorded}
+use Rattle.cl_model.specs.States.{State, Record, start, Answer, recorded_definer}
 use Rattle.cl_model.specs.Tables.{MayTell}
 use Rattle.cl_model.specs.Machine.{Post}
 use Rattle.cl_model.specs.Views.{answer_of, answers_of, answer_at}
@@ -26,7 +26,7 @@ use Rattle.cl_findings.specs.Findings.{Answered, Rests}
 use Rattle.cl_hierarchy.specs.Imposed.{needs_of}
 use Rattle.cl_hierarchy.specs.Lineages.{row_of}
 use Rattle.cl_registry.specs.Kept.{Fields, IsRegistry, open_in}
-use Rattle.cl_registry.specs.Tables.{Shown, state_of, records_of, round_of, defined, posts, settlements, settled_at, with_post, IsTrusted, IsKept, IsLater, IsPlaced, NamesLoaders}
+use Rattle.cl_registry.specs.Tables.{Shown, state_of, records_of, round_of, defined_classes, posts, settlements, settled_at, with_post, IsTrusted, IsKept, IsLater, IsPlaced, NamesLoaders}
 use Rattle.cl_registry.specs.Posting.{AnswerFits}
 use Rattle.cl_registry.proofs.Calm.{unposted_stays}
 use Rattle.cl_registry.proofs.Histories.{trusted_more, run_more, posts_then, defined_then, settlements_then, is_in_push, swap_nat, eq_nat, other_answer, this_answer, left_set, open_set, steps_posts, state_posts, posted_by, unposted, less}
@@ -93,7 +93,7 @@ kept told x q f k fits rests =
       named = named_post x q a k.named fits.backed.within.answer;
       run = run_more told x y (Post q (answer_of a)) refl refl step k.run
           (λ content e. fitting_is_allowed content x q f (subst (λ (t : Option Content). IsKept t x) e k) fits (subst (λ (t : Option Content). Rests t f) e rests));
-      rows = k.rows ∙ sym (append-nil (defined x.history)) ∙ sym (defined_then x.history (events.Post q ∷ []));
+      rows = k.rows ∙ sym (append-nil (defined_classes x.history)) ∙ sym (defined_then x.history (events.Post q ∷ []));
       spelt = k.spelt;
       order = k.order;
       placed = subst (λ (rs : List Record). AllByRecursion (IsPlaced rs) x.rows) (sym (ap (λ (s : State). s.records) (state_posts x q a out is))) k.placed;
@@ -159,7 +159,7 @@ kept_post {home} {joins} told x f q n a used room less unanswered k fits rests a
       kept = kept told x q a k.kept fits rests;
       script = k.script;
       width = k.width;
-      rows = λ l n. k.rows l n ∙ ap (λ (rs : List Record). option_and_then (λ place. row_of x.rows (class n place)) (recorded rs l n)) (sym records);
+      rows = λ l n. k.rows l n ∙ ap (λ (rs : List Record). option_and_then (λ place. row_of x.rows (class n place)) (recorded_definer rs l n)) (sym records);
       book = stands_alike home joins (state_of x) (state_of y) records (ap (λ (s : State). s.equalities) state) k.book;
       references = λ c i. k.references c i ∙ sym (same_settled x q a.answer c i);
       prepared = k.prepared ∙ sym (ap (λ (s : State). s.prepared) state);

@@ -12,14 +12,14 @@ use Rattle.cl_model.specs.declared.event.Event.TheVariants as events
 use Rattle.cl_model.specs.declared.answer.Answer as rust
 use Rattle.cl_model.specs.Classes.{class}
 use Rattle.cl_model.specs.Texts.{AnswerNames, EventNames, VerdictNames}
-use Rattle.cl_model.specs.States.{State, start, Record, IsRecorded, Posted, Need, Entry, Answer, recorded, answer_to, Met, MayAdd, Refused}
+use Rattle.cl_model.specs.States.{State, start, Record, IsRecorded, Posted, Need, Entry, Answer, recorded_definer, answer_to, Met, MayAdd, Refused}
 use Rattle.cl_model.specs.Machine.{Scheduled, Define, Initiate, NextRound, after, state_after}
 use Rattle.cl_model.specs.Tables.{Orderly, MayRecord}
 use Rattle.cl_model.specs.Views.{answers_of, answer_at, post_of, step_of, steps_of}
 use Rattle.cl_model.proofs.Runs.{recorded_added, record_found, run_later}
 use Rattle.cl_registry.specs.declared.report.Report.{Report}
 use Rattle.cl_registry.specs.Reports.{IsReport, IsNamed}
-use Rattle.cl_registry.specs.Tables.{Shown, state_of, posts, defined, settlements, IsTrusted, NamesLoaders}
+use Rattle.cl_registry.specs.Tables.{Shown, state_of, posts, defined_classes, settlements, IsTrusted, NamesLoaders}
 use Rattle.cl_registry.proofs.Histories.{eq_nat, swap_nat, or_right}
 use Rattle.cl_registry.proofs.Placed.{post_same}
 use Rattle.cl_model.proofs.Bind.{none_not_some}
@@ -27,14 +27,14 @@ use Rattle.cl_model.proofs.Bind.{none_not_some}
 -- ---- what may be recorded
 
 -- what has no record and is not refused may be recorded
-pub may_record : (s : State) (l p : ℕ) (name : Name) → recorded s.records l name ≡ None → (Refused s (Entry l name p) → ⊥) → MayRecord s l p name
+pub may_record : (s : State) (l p : ℕ) (name : Name) → recorded_definer s.records l name ≡ None → (Refused s (Entry l name p) → ⊥) → MayRecord s l p name
 may_record s l p name fresh free =
-    record { fresh = fresh; fits = λ k. free (record { unmet = λ m. none_not_some (recorded s.records l name) fresh m; clashes = k }) }
+    record { fresh = fresh; fits = λ k. free (record { unmet = λ m. none_not_some (recorded_definer s.records l name) fresh m; clashes = k }) }
 
 -- and is a need that may be added
-pub may_add : (s : State) (l p : ℕ) (name : Name) → recorded s.records l name ≡ None → (Refused s (Entry l name p) → ⊥) → MayAdd s (Entry l name p)
+pub may_add : (s : State) (l p : ℕ) (name : Name) → recorded_definer s.records l name ≡ None → (Refused s (Entry l name p) → ⊥) → MayAdd s (Entry l name p)
 may_add s l p name fresh free =
-    let unmet : Met s (Entry l name p) → ⊥ = λ m. none_not_some (recorded s.records l name) fresh m in
+    let unmet : Met s (Entry l name p) → ⊥ = λ m. none_not_some (recorded_definer s.records l name) fresh m in
     record { unmet = unmet; fits = λ k. free (record { unmet = unmet; clashes = k }) }
 
 -- what may be added is not refused
@@ -102,8 +102,8 @@ answered x q t = answered_after (answers_of x.answers) x.history start q ∙ bot
 -- ---- the records of the state are of classes that are defined
 
 -- what holds of each class that is recorded or defined holds of each that is recorded after it
-records_hold : (P : Class → Type 0) (script : List Scheduled) (rounds : ℕ) (now : List (Option Answer)) (h : List Event) (s : State) → Orderly script rounds s (steps_of now h) → ((l p : ℕ) (n : Name) → recorded s.records l n ≡ Some p → P (class n p))
-    → AllByRecursion P (defined h) → (l p : ℕ) (n : Name) → recorded (state_after s (steps_of now h)).records l n ≡ Some p → P (class n p)
+records_hold : (P : Class → Type 0) (script : List Scheduled) (rounds : ℕ) (now : List (Option Answer)) (h : List Event) (s : State) → Orderly script rounds s (steps_of now h) → ((l p : ℕ) (n : Name) → recorded_definer s.records l n ≡ Some p → P (class n p))
+    → AllByRecursion P (defined_classes h) → (l p : ℕ) (n : Name) → recorded_definer (state_after s (steps_of now h)).records l n ≡ Some p → P (class n p)
 records_hold P script rounds now [] s run here all l p n e = here l p n e
 records_hold P script rounds now (events.Define c ∷ h) s run here all l p n e =
     records_hold P script rounds now h (after s (Define c)) run.1
@@ -125,18 +125,18 @@ records_hold P script rounds now (events.Prepare c ∷ h) s run here all l p n e
 records_hold P script rounds now (events.NextRound ∷ h) s run here all l p n e = records_hold P script rounds now h (after s NextRound) run.1 here all l p n e
 records_hold P script rounds now (events.Post q ∷ h) s run here all l p n e =
     records_hold P script rounds now h (after s (post_of q (answer_at now q))) run.1
-    (λ k m o f. here k m o (subst (λ (rs : List Record). recorded rs k o ≡ Some m) (post_same s q (answer_at now q)) f))
+    (λ k m o f. here k m o (subst (λ (rs : List Record). recorded_definer rs k o ≡ Some m) (post_same s q (answer_at now q)) f))
     all l p n e
 
-none_before : (P : Class → Type 0) (l p : ℕ) (n : Name) → recorded start.records l n ≡ Some p → P (class n p)
+none_before : (P : Class → Type 0) (l p : ℕ) (n : Name) → recorded_definer start.records l n ≡ Some p → P (class n p)
 none_before P l p n e = absurd cc
 
 -- what holds of each class that is defined holds of each that is recorded
-pub recorded_hold : (P : Class → Type 0) (x : Shown) → IsTrusted x → AllByRecursion P (defined x.history) → (l p : ℕ) (n : Name) → recorded (state_of x).records l n ≡ Some p → P (class n p)
+pub recorded_hold : (P : Class → Type 0) (x : Shown) → IsTrusted x → AllByRecursion P (defined_classes x.history) → (l p : ℕ) (n : Name) → recorded_definer (state_of x).records l n ≡ Some p → P (class n p)
 recorded_hold P x t all l p n e = records_hold P _ _ (answers_of x.answers) x.history start t.tables (none_before P) all l p n e
 
 -- each class that is defined is recorded by its loader
-defined_known : (script : List Scheduled) (rounds : ℕ) (now : List (Option Answer)) (h : List Event) (s : State) → Orderly script rounds s (steps_of now h) → AllByRecursion (IsRecorded (state_after s (steps_of now h))) (defined h)
+defined_known : (script : List Scheduled) (rounds : ℕ) (now : List (Option Answer)) (h : List Event) (s : State) → Orderly script rounds s (steps_of now h) → AllByRecursion (IsRecorded (state_after s (steps_of now h))) (defined_classes h)
 defined_known script rounds now [] s run = tt
 defined_known script rounds now (events.Define c ∷ h) s run = (
   (run_later (after s (Define c)) (steps_of now h)).records c.loader c.loader c.name (record_found s.records (record { loader = c.loader; name = c.name; place = c.loader }) run.0.fresh),
@@ -149,7 +149,7 @@ defined_known script rounds now (events.Prepare c ∷ h) s run = defined_known s
 defined_known script rounds now (events.NextRound ∷ h) s run = defined_known script rounds now h (after s NextRound) run.1
 defined_known script rounds now (events.Post q ∷ h) s run = defined_known script rounds now h (after s (post_of q (answer_at now q))) run.1
 
-pub all_known : (x : Shown) → IsTrusted x → AllByRecursion (IsRecorded (state_of x)) (defined x.history)
+pub all_known : (x : Shown) → IsTrusted x → AllByRecursion (IsRecorded (state_of x)) (defined_classes x.history)
 all_known x t = defined_known _ _ (answers_of x.answers) x.history start t.tables
 
 -- ---- loaders

@@ -17,7 +17,7 @@ use Rattle.cl_model.specs.declared.class.Class.{Class}
 use Rattle.cl_model.specs.declared.need.Equality.{Equality}
 use Rattle.cl_model.specs.Classes.{class, same_class}
 use Rattle.cl_model.specs.Content.{Content}
-use Rattle.cl_model.specs.States.{State, AllMet, Answer, start, recorded}
+use Rattle.cl_model.specs.States.{State, AllMet, Answer, start, recorded_definer}
 use Rattle.cl_model.specs.Machine.{Scheduled, Step, Run, state_after}
 use Rattle.cl_model.specs.Tables as tables
 use Rattle.cl_model.specs.Views.{answers_of, answer_at, request_of, steps_of}
@@ -33,7 +33,7 @@ use Rattle.cl_hierarchy.specs.RowTables.{AreRows}
 use Rattle.cl_hierarchy.specs.Lineages.{row_of}
 use Rattle.cl_constraints.specs.Books.{IsBookOf}
 use Rattle.cl_registry.specs.Kept.{left_in, open_in, Fields, IsRegistry}
-use Rattle.cl_registry.specs.Tables.{Shown, steps, state_of, records_of, round_of, posts, defined, settlements, reference_in, RunsAs, IsPlaced, with_round, RoundMayBegin}
+use Rattle.cl_registry.specs.Tables.{Shown, steps, state_of, records_of, round_of, posts, defined_classes, settlements, reference_in, RunsAs, IsPlaced, with_round, RoundMayBegin}
 use Rattle.cl_registry.proofs.Histories.{given, open_answer, eq_nat}
 use Rattle.cl_registry.proofs.Running.{answered, named_new}
 use Rattle.cl_registry.proofs.Allowed.{round_is_allowed}
@@ -179,7 +179,7 @@ kept_round {home} {joins} told x f used more k may one same =
           (none_settled told x events.NextRound k.kept refl);
       script = k.script;
       width = k.width;
-      rows = λ l n. k.rows l n ∙ sym (ap (λ (s : State). option_and_then (λ (p : ℕ). row_of x.rows (class n p)) (recorded s.records l n)) (state_event x x.rows events.NextRound));
+      rows = λ l n. k.rows l n ∙ sym (ap (λ (s : State). option_and_then (λ (p : ℕ). row_of x.rows (class n p)) (recorded_definer s.records l n)) (state_event x x.rows events.NextRound));
       book = book_event home joins x x.rows events.NextRound refl refl k.book;
       references = λ c i. k.references c i ∙ sym (settled_same x x.rows events.NextRound c i refl);
       prepared = k.prepared ∙ sym (ap (λ (s : State). s.prepared) (state_event x x.rows events.NextRound));
@@ -248,14 +248,14 @@ kept_new {stands} told x f r h a s script width bare counts each first zero-used
         };
         named = named_new x f.left h a;
         run = run_new told x no-steps;
-        rows = ap (map (λ (r : Rowed). r.class)) r ∙ sym (ap defined h);
+        rows = ap (map (λ (r : Rowed). r.class)) r ∙ sym (ap defined_classes h);
         spelt = All-same (λ s. IsSpelt told s.class s.file) x.rows [] r (All-nil (λ s. IsSpelt told s.class s.file));
         order = subst (λ (rows : List Rowed). AreRows told x.config rows) (sym r) tt;
         placed = subst (λ (rows : List Rowed). AllByRecursion (IsPlaced (records_of x)) rows) (sym r) tt;
       };
       script = script;
       width = width;
-      rows = λ l n. bare.table l n ∙ sym (ap (λ (s : State). option_and_then (λ (p : ℕ). row_of x.rows (class n p)) (recorded s.records l n)) no-state);
+      rows = λ l n. bare.table l n ∙ sym (ap (λ (s : State). option_and_then (λ (p : ℕ). row_of x.rows (class n p)) (recorded_definer s.records l n)) no-state);
       book = subst (λ (s : State). stands s) (sym no-state) bare.book;
       references = λ c i. bare.references c i ∙ sym (ap (λ (es : List Event). find (λ s. same_class s.class c && (s.index == i)) (settlements es)) h);
       prepared = bare.prepared ∙ sym (ap (λ (s : State). s.prepared) no-state);

@@ -3,21 +3,21 @@ use Rattle.std.proofs.Common.{◌≡◌, ◌+◌, ◌<◌, ◌∙◌, ℕ, zero,
 use Rattle.std.specs.Prelude.{◌==◌, ◌&&◌, nat_eq, slice_get, option_map}
 use Rattle.std.specs.Cmp.Lexicographic.{pointwise}
 use Rattle.cl_model.specs.Classes.{Above}
-use Rattle.cl_registry.specs.Parts.{EachHas, HasSame, IsPut, is_there, shared, place_by, place_there}
+use Rattle.cl_registry.specs.Parts.{EachHas, HasSame, IsPut, is_there, shared_values, place_by, place_there}
 
 pub shared_put : {R V : Type 0} (value : R → V) (b : Bool) (row : R) (v : V) (old new : Option R) → v ≡ value row → new ≡ (if b then Some row else old) → option_map value new ≡ (if b then Some v else option_map value old)
 shared_put value true row v old new e is = ap (option_map value) is ∙ ap (λ x. Some x) (sym e)
 shared_put value false row v old new e is = ap (option_map value) is
 
 pub put_shared : {R V : Type 0} (value : R → V) (old new : ℕ → List ℕ → Option R) (loader loader' : ℕ) (name name' : List ℕ) (row : R) (v : V) → loader ≡ loader' → name ≡ name' → v ≡ value row
-    → IsPut old new loader name row → IsPut (shared value old) (shared value new) loader' name' v
+    → IsPut old new loader name row → IsPut (shared_values value old) (shared_values value new) loader' name' v
 put_shared value old new loader loader' name name' row v i j e is l n =
     shared_put value ((loader' == l) && pointwise nat_eq name' n) row v (old l n) (new l n) e
     (is l n ∙ ap (λ (k : ℕ). if (k == l) && pointwise nat_eq name n then Some row else old l n) i ∙ ap (λ (m : List ℕ). if (loader' == l) && pointwise nat_eq m n then Some row else old l n) j)
 
 -- the same after room was made
 pub put_after : {R V : Type 0} (value : R → V) (old mid new : ℕ → List ℕ → Option R) (loader loader' : ℕ) (name name' : List ℕ) (row : R) (v : V) → loader ≡ loader' → name ≡ name' → v ≡ value row
-    → HasSame old mid → IsPut mid new loader name row → IsPut (shared value old) (shared value new) loader' name' v
+    → HasSame old mid → IsPut mid new loader name row → IsPut (shared_values value old) (shared_values value new) loader' name' v
 put_after value old mid new loader loader' name name' row v i j e same put l n =
     put_shared value mid new loader loader' name name' row v i j e put l n
     ∙ ap (λ o. if (loader' == l) && pointwise nat_eq name' n then Some v else option_map value o) (same l n)

@@ -10,7 +10,7 @@ use Rattle.cl_model.specs.Classes.{class, Above, class_accessible, same_class, s
 use Rattle.cl_model.proofs.Complete.{is_class}
 use Rattle.std.proofs.lemmas.Map.Views.{Contains-from_any}
 use Rattle.indexmap.specs.IndexSet.{insert_key}
-use Rattle.cl_model.specs.States.{State, Need, Met, AllMet, Refused, recorded}
+use Rattle.cl_model.specs.States.{State, Need, Met, AllMet, Refused, recorded_definer}
 use Rattle.cl_model.specs.Tables.{Records}
 use Rattle.cl_hierarchy.specs.Imposed.{Listed, Sprung, OfPreparation, equal_need, needs_of}
 use Rattle.cl_hierarchy.specs.Lineages.{Lined}
@@ -66,23 +66,23 @@ insert_new keys c absent = by_test (list_any (same_class c) keys) refl
 -- ---- what a list was made from
 
 -- the class of a lineage of this configuration is recorded
-pub standing_at : (x : Shown) (l : Lined) (k : Class) (b : Bool) (at : ℕ → List ℕ → Option ℕ) → k ≡ l.own.class → l.config ≡ x.config → ((i : ℕ) (n : List ℕ) → at i n ≡ recorded (records_of x) i n)
+pub standing_at : (x : Shown) (l : Lined) (k : Class) (b : Bool) (at : ℕ → List ℕ → Option ℕ) → k ≡ l.own.class → l.config ≡ x.config → ((i : ℕ) (n : List ℕ) → at i n ≡ recorded_definer (records_of x) i n)
     → Decides b (at k.loader k.name ≡ Some k.loader) → Decides b (IsStanding x l)
-standing_at x l k true at is config same h = record { config = config; recorded = subst (λ (c : Class). recorded (records_of x) c.loader c.name ≡ Some c.loader) is (sym (same k.loader k.name) ∙ h) }
-standing_at x l k false at is config same h = λ stands. h (same k.loader k.name ∙ subst (λ (c : Class). recorded (records_of x) c.loader c.name ≡ Some c.loader) (sym is) stands.recorded)
+standing_at x l k true at is config same h = record { config = config; recorded = subst (λ (c : Class). recorded_definer (records_of x) c.loader c.name ≡ Some c.loader) is (sym (same k.loader k.name) ∙ h) }
+standing_at x l k false at is config same h = λ stands. h (same k.loader k.name ∙ subst (λ (c : Class). recorded_definer (records_of x) c.loader c.name ≡ Some c.loader) (sym is) stands.recorded)
 
 -- the class of another is another than the one that is recorded
-pub not_reached : (x : Shown) (d c : Lined) (m k : Class) (at : ℕ → List ℕ → Option ℕ) → m ≡ d.own.class → k ≡ c.own.class → ((i : ℕ) (n : List ℕ) → at i n ≡ recorded (records_of x) i n) → (at m.loader k.name ≡ Some k.loader → ⊥) → IsReached x d c → ⊥
+pub not_reached : (x : Shown) (d c : Lined) (m k : Class) (at : ℕ → List ℕ → Option ℕ) → m ≡ d.own.class → k ≡ c.own.class → ((i : ℕ) (n : List ℕ) → at i n ≡ recorded_definer (records_of x) i n) → (at m.loader k.name ≡ Some k.loader → ⊥) → IsReached x d c → ⊥
 not_reached x d c m k at e f same none r =
-    none (same m.loader k.name ∙ subst (λ (i : ℕ). recorded (records_of x) i k.name ≡ Some k.loader) (sym (ap (λ (z : Class). z.loader) e)) (subst (λ (z : Class). recorded (records_of x) d.own.class.loader z.name ≡ Some z.loader) (sym f) r.recorded))
+    none (same m.loader k.name ∙ subst (λ (i : ℕ). recorded_definer (records_of x) i k.name ≡ Some k.loader) (sym (ap (λ (z : Class). z.loader) e)) (subst (λ (z : Class). recorded_definer (records_of x) d.own.class.loader z.name ≡ Some z.loader) (sym f) r.recorded))
 
 -- or it is that one, and accessible or not
-pub reached_at : (x : Shown) (d c : Lined) (m k from : Class) (row : Rowed) (b : Bool) (at : ℕ → List ℕ → Option ℕ) → m ≡ d.own.class → k ≡ c.own.class → c.config ≡ x.config → ((i : ℕ) (n : List ℕ) → at i n ≡ recorded (records_of x) i n)
+pub reached_at : (x : Shown) (d c : Lined) (m k from : Class) (row : Rowed) (b : Bool) (at : ℕ → List ℕ → Option ℕ) → m ≡ d.own.class → k ≡ c.own.class → c.config ≡ x.config → ((i : ℕ) (n : List ℕ) → at i n ≡ recorded_definer (records_of x) i n)
     → at m.loader k.name ≡ Some k.loader → row ≡ c.own → from ≡ d.own.class → b ≡ class_accessible (file_of row.file).flags row.class from → Decides b (IsReached x d c)
 reached_at x d c m k from row b at e f config same found is to told = by_test b (told ∙ ap (λ (r : Rowed). class_accessible (file_of r.file).flags r.class from) is ∙ ap (λ (z : Class). class_accessible (file_of c.own.file).flags c.own.class z) to)
   where
-    there : recorded (records_of x) d.own.class.loader c.own.class.name ≡ Some c.own.class.loader
-    there = subst (λ (z : Class). recorded (records_of x) d.own.class.loader z.name ≡ Some z.loader) f (subst (λ (z : Class). recorded (records_of x) z.loader k.name ≡ Some k.loader) e (sym (same m.loader k.name) ∙ found))
+    there : recorded_definer (records_of x) d.own.class.loader c.own.class.name ≡ Some c.own.class.loader
+    there = subst (λ (z : Class). recorded_definer (records_of x) d.own.class.loader z.name ≡ Some z.loader) f (subst (λ (z : Class). recorded_definer (records_of x) z.loader k.name ≡ Some k.loader) e (sym (same m.loader k.name) ∙ found))
 
     by_test : (t : Bool) → t ≡ class_accessible (file_of c.own.file).flags c.own.class d.own.class → Decides t (IsReached x d c)
     by_test true g = record { config = config; recorded = there; accessible = sym g }

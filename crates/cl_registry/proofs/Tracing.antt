@@ -6,13 +6,13 @@ use Rattle.std.proofs.lemmas.Cmp.{nat_eq_equiv}
 use Rattle.cl_model.specs.declared.class.Class.{Class}
 use Rattle.cl_model.specs.Content.{Content}
 use Rattle.cl_model.specs.Classes.{class, same_class}
-use Rattle.cl_model.specs.States.{IsRecorded, recorded}
+use Rattle.cl_model.specs.States.{IsRecorded, recorded_definer}
 use Rattle.cl_model.specs.Tables.{Records}
 use Rattle.cl_model.proofs.Complete.{is_class}
 use Rattle.cl_hierarchy.specs.Lineages.{IsRowIn, Lined, rows_in, row_of}
 use Rattle.cl_hierarchy.specs.RowTables.{IsMadeOf}
 use Rattle.cl_hierarchy.specs.Rows.{Rowed}
-use Rattle.cl_registry.specs.Tables.{Shown, state_of, records_of, looked, IsKept, IsPlaced, LacksRecord}
+use Rattle.cl_registry.specs.Tables.{Shown, state_of, records_of, looked_row, IsKept, IsPlaced, LacksRecord}
 use Rattle.cl_registry.specs.Traced.{IsRowOf, IsTraced}
 use Rattle.cl_registry.proofs.Looked.{row_is}
 use Rattle.cl_registry.proofs.Placed.{recorded_row}
@@ -52,7 +52,7 @@ lacks : (r : Rowed) (o : Option Rowed) → o ≡ None → o ≡ Some r → ⊥
 lacks r o e f = cc
 
 -- what is found for a class that is recorded
-pub looked_row : (x : Shown) (l p : ℕ) (n : List ℕ) → recorded (records_of x) l n ≡ Some p → looked x l n ≡ row_of x.rows (class n p)
+pub looked_row : (x : Shown) (l p : ℕ) (n : List ℕ) → recorded_definer (records_of x) l n ≡ Some p → looked_row x l n ≡ row_of x.rows (class n p)
 looked_row x l p n e = ap (λ (o : Option ℕ). option_and_then (λ place. row_of x.rows (class n place)) o) e
 
 -- one that has no row is not recorded
@@ -68,15 +68,15 @@ none_or : (o : Option Rowed) → ((r : Rowed) → o ≡ Some r → ⊥) → o �
 none_or None h = refl
 none_or (Some r) h = absurd (h r refl)
 
-pub own_row : (x : Shown) (l : ℕ) (n : List ℕ) (r : Rowed) → Records (state_of x) l n r.class → looked x l n ≡ Some r → r.class.loader ≡ l → Some r ≡ row_of x.rows (class n l)
+pub own_row : (x : Shown) (l : ℕ) (n : List ℕ) (r : Rowed) → Records (state_of x) l n r.class → looked_row x l n ≡ Some r → r.class.loader ≡ l → Some r ≡ row_of x.rows (class n l)
 own_row x l n r rec at own = sym at ∙ looked_row x l l n (rec.1 ∙ ap (λ (p : ℕ). Some p) own)
 
 pub other_row : (told : Option Content) (x : Shown) (l : ℕ) (n : List ℕ) (r : Rowed) → IsKept told x → Records (state_of x) l n r.class → (r.class.loader ≡ l → ⊥) → None ≡ row_of x.rows (class n l)
 other_row told x l n r k rec other =
-    sym (none_or (row_of x.rows (class n l)) (λ s e. other (value_same r.class.loader l (recorded (records_of x) l n) rec.1 (row_recorded told x (class n l) s k e))))
+    sym (none_or (row_of x.rows (class n l)) (λ s e. other (value_same r.class.loader l (recorded_definer (records_of x) l n) rec.1 (row_recorded told x (class n l) s k e))))
 
 pub lacks_row : (told : Option Content) (x : Shown) (l : ℕ) (n : List ℕ) → IsKept told x → LacksRecord x l n → None ≡ row_of x.rows (class n l)
-lacks_row told x l n k none = sym (none_or (row_of x.rows (class n l)) (λ s e. none_not_some (recorded (records_of x) l n) none (row_recorded told x (class n l) s k e)))
+lacks_row told x l n k none = sym (none_or (row_of x.rows (class n l)) (λ s e. none_not_some (recorded_definer (records_of x) l n) none (row_recorded told x (class n l) s k e)))
 
 -- ---- lineages
 

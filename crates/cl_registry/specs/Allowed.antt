@@ -3,7 +3,7 @@ use Rattle.std.specs.Prelude.{◌≡◌, ◌⊎◌, ◌<◌, ℕ, List, ◌++◌
 use Rattle.cl_model.specs.declared.answer.Answer.TheVariants as answers
 use Rattle.cl_model.specs.declared.need.Equality.{Equality}
 use Rattle.cl_model.specs.declared.verdict.Verdict.{Verdict}
-use Rattle.cl_model.specs.States.{Need, recorded, AllMet, Met, Refused}
+use Rattle.cl_model.specs.States.{Need, recorded_definer, AllMet, Met, Refused}
 use Rattle.cl_model.specs.Content.{Content}
 use Rattle.cl_model.specs.Views.{answer_of}
 use Rattle.cl_model.specs.Machine.{MayConstrain, MayDefine, MayInitiate, MayPost, MayPrepare, NextRound, May}
@@ -108,4 +108,4 @@ OtherConfigIsStray =
 
 -- what is recorded was defined by a loader of the configuration, where the tables name its loaders alone (5.3)
 abbrev pub RecordedIsNamed : Type 0
-RecordedIsNamed = (x : Shown) (loader place : ℕ) (name : List ℕ) → NamesLoaders x → recorded (records_of x) loader name ≡ Some place → place < length x.config.loaders
+RecordedIsNamed = (x : Shown) (loader place : ℕ) (name : List ℕ) → NamesLoaders x → recorded_definer (records_of x) loader name ≡ Some place → place < length x.config.loaders

@@ -10,7 +10,7 @@ use Rattle.cl_model.specs.Homes.{World, home}
 use Rattle.cl_model.specs.Machine.{IsResolution, MayConstrain, MayPrepare}
 use Rattle.cl_model.specs.Preparation.{constraints_of}
 use Rattle.cl_model.specs.Works.{Made}
-use Rattle.cl_model.specs.States.{State, Need, Verdict, recorded, IsRecorded, Keeps, Met, Refused, AllMet}
+use Rattle.cl_model.specs.States.{State, Need, Verdict, recorded_definer, IsRecorded, Keeps, Met, Refused, AllMet}
 use Rattle.cl_model.specs.Content.{Content}
 use Rattle.cl_config.specs.Views.{Configured}
 use Rattle.cl_hierarchy.specs.Imposed.{Listed, AreEnough, Sprung, OfPreparation, OfReference, equal_need, known_by, needs_of}
@@ -34,7 +34,7 @@ pub record IsReached (x : Shown) (d c : Lined) : Type 0 where
 -- the supertype of a class, as its loader has recorded it, is prepared (5.4.2)
 pub record IsPreparedAbove (x : Shown) (c : Class) (a : Above) : Type 0 where
   pub place : ℕ
-  pub recorded : recorded (records_of x) c.loader a.name ≡ Some place
+  pub recorded : recorded_definer (records_of x) c.loader a.name ≡ Some place
   pub prepared : Contains (state_of x).prepared (class a.name place)
 
 -- each of these is

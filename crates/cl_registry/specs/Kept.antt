@@ -9,7 +9,7 @@ use Rattle.cl_model.specs.States.{State, AllMet}
 use Rattle.cl_config.specs.Scripts.{IsScript}
 use Rattle.cl_hierarchy.specs.Imposed.{needs_of}
 use Rattle.cl_hierarchy.specs.Rows.{Rowed}
-use Rattle.cl_registry.specs.Tables.{Shown, IsKept, looked, round_of, settled_at, state_of}
+use Rattle.cl_registry.specs.Tables.{Shown, IsKept, looked_row, round_of, settled_at, state_of}
 
 -- how many have no answer
 abbrev pub left_in : List (Option Answer) → ℕ
@@ -46,7 +46,7 @@ pub record IsRegistry (told : Option Content) (x : Shown) (f : Fields) (stands :
   pub kept : IsKept told x
   pub script : IsScript x.script
   pub width : f.parts ≡ length x.config.loaders
-  pub rows : (loader : ℕ) (name : List ℕ) → f.table loader name ≡ looked x loader name
+  pub rows : (loader : ℕ) (name : List ℕ) → f.table loader name ≡ looked_row x loader name
   pub book : stands (state_of x)
   pub references : (c : Class) (index : ℕ) → f.references c index ≡ settled_at x c index
   pub prepared : f.prepared ≡ (state_of x).prepared

@@ -37,8 +37,8 @@ abbrev pub HasSpare : {R S : Type 0} → List (HashMap (List ℕ) R S) → ℕ �
 HasSpare tables loader = IfSome (slice_get tables loader) (λ m. 0 < spare m)
 
 -- a table of handles, as one of what they share
-abbrev pub shared : {K L R V : Type 0} → (R → V) → (K → L → Option R) → K → L → Option V
-shared value table k l = option_map value (table k l)
+abbrev pub shared_values : {K L R V : Type 0} → (R → V) → (K → L → Option R) → K → L → Option V
+shared_values value table k l = option_map value (table k l)
 
 -- a supertype has a row, if there is one (5.3.5, steps 3 and 4)
 abbrev pub is_there : (List ℕ → Bool) → Option Above → Bool

@@ -9,7 +9,7 @@ use Rattle.cl_model.specs.declared.request.Request.{Request}
 use Rattle.cl_model.specs.declared.request.Request.TheVariants as requests
 use Rattle.cl_model.specs.declared.settled.Settled.{Settled}
 use Rattle.cl_model.specs.Classes.{class, same_class}
-use Rattle.cl_model.specs.States.{recorded, settled_to}
+use Rattle.cl_model.specs.States.{recorded_definer, settled_to}
 use Rattle.cl_model.specs.Views.{verdict_of}
 use Rattle.cl_registry.specs.Parts.{IsPutWhere}
 use Rattle.cl_registry.specs.Tables.{Shown, state_of, records_of, settled_at}
@@ -22,7 +22,7 @@ pub record Cited : Type 0 where
 -- the entry that a request resolves: of the class that the loader which is asked has recorded (5.4.3)
 abbrev pub cited_by : Shown → Request → Option Cited
 cited_by x (requests.Load loader name) = None
-cited_by x (requests.Resolve loader name index) = option_map (λ place. record { class = class name place; index = index }) (recorded (records_of x) loader name)
+cited_by x (requests.Resolve loader name index) = option_map (λ place. record { class = class name place; index = index }) (recorded_definer (records_of x) loader name)
 cited_by x (requests.Link loader name) = None
 
 -- what the entry that a request resolves is settled to, if it is (5.4.3)

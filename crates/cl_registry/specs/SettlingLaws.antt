@@ -12,13 +12,13 @@ use Rattle.cl_model.specs.declared.settled.Settled.{Settled}
 use Rattle.cl_model.specs.declared.verdict.Verdict as verdict
 use Rattle.cl_model.specs.Content.{Content}
 use Rattle.cl_model.specs.Classes.{class}
-use Rattle.cl_model.specs.States.{Verdict, IsLinked, BadEntry, ArrayMember, Said, recorded, settled_to}
+use Rattle.cl_model.specs.States.{Verdict, IsLinked, BadEntry, ArrayMember, Said, recorded_definer, settled_to}
 use Rattle.cl_model.specs.Plans.{Link}
 use Rattle.cl_model.specs.Machine.{MaySettle}
 use Rattle.cl_model.specs.Service.{ComesTo}
 use Rattle.cl_model.specs.Tables.{BearsAnswer, Records}
 use Rattle.cl_model.specs.Views.{answer_of, request_of, verdict_of}
-use Rattle.cl_findings.specs.Findings.{Answered, Based, IsLookedUp, Rests, Stands, ungrounded}
+use Rattle.cl_findings.specs.Findings.{Answered, Based, IsLookedUp, Rests, Stands, ungrounded_answer}
 use Rattle.cl_registry.specs.declared.registry.RegistryFault.TheVariants.{Stray}
 use Rattle.cl_registry.specs.Tables.{Shown, state_of, records_of, IsKept, settled_at, machine}
 use Rattle.cl_registry.specs.References.{IsSettledIn, IsUnsettled, cited_by, settled_by}
@@ -43,7 +43,7 @@ SettledStays =
 -- a request to link a class that its loader has recorded and that is prepared comes to that (5.4)
 abbrev pub PreparedComes : Type 0
 PreparedComes =
-    (content : Content) (x : Shown) (loader place : ℕ) (name : Name) → IsKept (Some content) x → recorded (records_of x) loader name ≡ Some place
+    (content : Content) (x : Shown) (loader place : ℕ) (name : Name) → IsKept (Some content) x → recorded_definer (records_of x) loader name ≡ Some place
     → Contains (state_of x).prepared (class name place)
     → ComesTo (machine x content) (state_of x) (Link loader name) (IsLinked (class name place))
 
@@ -84,7 +84,7 @@ FittingIsBorne = (x : Shown) (q : ℕ) (f : Answered) → AnswerFits x q f → B
 abbrev pub PostedIsSettled : Type 0
 PostedIsSettled =
     (x : Shown) (q : ℕ) (f : Answered) (loader place index : ℕ) (name : Name) (v : Verdict) → AnswerFits x q f
-    → f.request ≡ requests.Resolve loader name index → recorded (records_of x) loader name ≡ Some place
+    → f.request ≡ requests.Resolve loader name index → recorded_definer (records_of x) loader name ≡ Some place
     → answer_of f.answer ≡ Said v → v ≢ BadEntry → v ≢ ArrayMember
     → settled_to (state_of x).settled (class name place) index ≡ Some v
 
@@ -99,4 +99,4 @@ PostedLinkIsPrepared =
 abbrev pub SettledIsBacked : Type 0
 SettledIsBacked =
     (told : Option Content) (x : Shown) (r : Request) (s : Arc Settled Global) → IsKept told x → settled_by x r ≡ Some s.value
-    → IsBacked x (ungrounded r (answers.Shared s))
+    → IsBacked x (ungrounded_answer r (answers.Shared s))

@@ -14,7 +14,7 @@ use Rattle.cl_model.specs.declared.settled.Settled.{Settled}
 use Rattle.cl_model.specs.Content.{Content}
 use Rattle.cl_model.specs.Classes.{class, same_class, Above, supers}
 use Rattle.cl_model.specs.Texts.{AnswerNames, EventNames, VerdictNames}
-use Rattle.cl_model.specs.States.{State, IsRecorded, Record, recorded, start, Refused}
+use Rattle.cl_model.specs.States.{State, IsRecorded, Record, recorded_definer, start, Refused}
 use Rattle.cl_model.specs.Machine.{Step, state_after, Run, Setting, EndsRound}
 use Rattle.cl_model.specs.Tables as tables
 use Rattle.cl_model.specs.Views.{answers_of, answer_at, steps_of}
@@ -73,15 +73,15 @@ posts (events.NextRound ∷ es) = posts es
 posts (events.Post q ∷ es) = q ∷ posts es
 
 -- the classes that are defined, in order (5.3.5)
-abbrev pub defined : List Event → List Class
-defined [] = []
-defined (events.Define c ∷ es) = c ∷ defined es
-defined (events.Initiate c loader ∷ es) = defined es
-defined (events.Constrain e ∷ es) = defined es
-defined (events.Settle s ∷ es) = defined es
-defined (events.Prepare c ∷ es) = defined es
-defined (events.NextRound ∷ es) = defined es
-defined (events.Post q ∷ es) = defined es
+abbrev pub defined_classes : List Event → List Class
+defined_classes [] = []
+defined_classes (events.Define c ∷ es) = c ∷ defined_classes es
+defined_classes (events.Initiate c loader ∷ es) = defined_classes es
+defined_classes (events.Constrain e ∷ es) = defined_classes es
+defined_classes (events.Settle s ∷ es) = defined_classes es
+defined_classes (events.Prepare c ∷ es) = defined_classes es
+defined_classes (events.NextRound ∷ es) = defined_classes es
+defined_classes (events.Post q ∷ es) = defined_classes es
 
 -- the references that are settled, in order (5.4.3)
 abbrev pub settlements : List Event → List Settled
@@ -120,7 +120,7 @@ pub record NamesLoaders (x : Shown) : Type 0 where
 
 -- each direct supertype of a class is recorded by a loader as the class that this one defined (5.3; 5.3.5, steps 3 and 4)
 abbrev pub ArePlaced : List Record → ℕ → List Above → List ℕ → Type 0
-ArePlaced records loader above places = AllZip (λ a place. recorded records loader a.name ≡ Some place) above places
+ArePlaced records loader above places = AllZip (λ a place. recorded_definer records loader a.name ≡ Some place) above places
 
 -- the direct supertypes of a row are recorded by its class's loader (5.3; 5.3.5, steps 3 and 4)
 abbrev pub IsPlaced : List Record → Rowed → Type 0
@@ -132,7 +132,7 @@ pub record IsKept (told : Option Content) (x : Shown) : Type 0 where
   pub trusted : IsTrusted x
   pub named : NamesLoaders x
   pub run : RunsAs told x
-  pub rows : map (λ r. r.class) x.rows ≡ defined x.history
+  pub rows : map (λ r. r.class) x.rows ≡ defined_classes x.history
   pub spelt : All (λ r. IsSpelt told r.class r.file) x.rows
   pub order : AreRows told x.config x.rows
   pub placed : AllByRecursion (IsPlaced (records_of x)) x.rows
@@ -140,16 +140,16 @@ pub record IsKept (told : Option Content) (x : Shown) : Type 0 where
 -- ---- rows
 
 -- the row of the class that a loader has recorded for a name (5.3)
-abbrev pub looked : Shown → ℕ → List ℕ → Option Rowed
-looked x loader name = option_and_then (λ place. row_of x.rows (class name place)) (recorded (records_of x) loader name)
+abbrev pub looked_row : Shown → ℕ → List ℕ → Option Rowed
+looked_row x loader name = option_and_then (λ place. row_of x.rows (class name place)) (recorded_definer (records_of x) loader name)
 
 -- which loader defined the class that a loader has recorded for a name (5.3); nothing is asked where none is
 abbrev pub place_in : List Record → ℕ → Above → ℕ
-place_in records loader a = place_by (recorded records loader) a
+place_in records loader a = place_by (recorded_definer records loader) a
 
 -- the row that the class of a draft gets: each supertype is the one that its loader has recorded (5.3.5, steps 3 to 5)
 abbrev pub row_for : Shown → Drafted → Rowed
-row_for x d = row_by (recorded (records_of x) d.class.loader) d
+row_for x d = row_by (recorded_definer (records_of x) d.class.loader) d
 
 -- the row in a table of each loader (5.3)
 abbrev pub row_at : {R S : Type 0} → List (HashMap (List ℕ) R S) → ℕ → List ℕ → Option R
@@ -171,7 +171,7 @@ settled_at x c index = find (λ s. same_class s.class c && (s.index == index)) (
 
 -- the loader has not recorded the name (5.3)
 abbrev pub LacksRecord : Shown → ℕ → List ℕ → Type 0
-LacksRecord x loader name = recorded (records_of x) loader name ≡ None
+LacksRecord x loader name = recorded_definer (records_of x) loader name ≡ None
 
 -- the class's own loader has not recorded it (5.3.5)
 abbrev pub IsNew : Shown → Drafted → Type 0
@@ -186,8 +186,8 @@ SupertypesFit table d = AllByRecursion (λ (a : Above). IfSome (table d.class.lo
 pub record MayEnter (x : Shown) (d : Drafted) : Type 0 where
   pub config : d.home.config ≡ x.config
   pub loader : d.class.loader < length x.config.loaders
-  pub above : AllByRecursion (λ (a : Above). IsSome (recorded (records_of x) d.class.loader a.name)) (supers (file_of d.file))
-  pub fit : SupertypesFit (looked x) d
+  pub above : AllByRecursion (λ (a : Above). IsSome (recorded_definer (records_of x) d.class.loader a.name)) (supers (file_of d.file))
+  pub fit : SupertypesFit (looked_row x) d
 
 -- an event more
 abbrev pub with_event : Shown → Event → Shown
@@ -202,11 +202,11 @@ with_define x d = record (with_event x (events.Define d.class)) { rows = x.rows 
 abbrev pub DefinedAs : Shown → Shown → Drafted → Rowed → Option ℕ → Type 0
 DefinedAs old new d row None =
     MayEnter old d × (Refused (state_of old) (own_record d) → ⊥) × (new ≡ with_define old d) × (row ≡ row_for old d)
-DefinedAs old new d row (Some place) = (new ≡ old) × (looked old d.class.loader d.class.name ≡ Some row)
+DefinedAs old new d row (Some place) = (new ≡ old) × (looked_row old d.class.loader d.class.name ≡ Some row)
 
 -- the class is recorded, by an event more unless its loader has recorded the name before (5.3.5)
 abbrev pub Defines : Shown → Shown → Drafted → Rowed → Type 0
-Defines old new d row = DefinedAs old new d row (recorded (records_of old) d.class.loader d.class.name)
+Defines old new d row = DefinedAs old new d row (recorded_definer (records_of old) d.class.loader d.class.name)
 
 -- a loader may be recorded as initiating: the home was found under this configuration, the loader is one of these, and the
 -- home has defined the class (5.3)
@@ -224,12 +224,12 @@ with_initiate x h = with_event x (events.Initiate (home_class h) h.asked)
 abbrev pub InitiatedAs : Shown → Shown → Located → Rowed → Option ℕ → Type 0
 InitiatedAs old new h row None =
     MayJoin old h × (Refused (state_of old) (asked_record h) → ⊥) × (new ≡ with_initiate old h)
-    × (looked old h.place h.name ≡ Some row)
-InitiatedAs old new h row (Some place) = (new ≡ old) × (looked old h.asked h.name ≡ Some row)
+    × (looked_row old h.place h.name ≡ Some row)
+InitiatedAs old new h row (Some place) = (new ≡ old) × (looked_row old h.asked h.name ≡ Some row)
 
 -- the loader that was asked is recorded, by an event more unless it has recorded the name before (5.3)
 abbrev pub Initiates : Shown → Shown → Located → Rowed → Type 0
-Initiates old new h row = InitiatedAs old new h row (recorded (records_of old) h.asked h.name)
+Initiates old new h row = InitiatedAs old new h row (recorded_definer (records_of old) h.asked h.name)
 
 -- an answer more, and its event
 abbrev pub with_post : Shown → ℕ → Answer → Shown

@@ -7,7 +7,7 @@ ghost use Rattle.cl_classfile.specs.Files.{file_of};
 ghost use Rattle.cl_model.specs.Classes.{supers};
 ghost use Rattle.cl_hierarchy.specs.Drafts.{home_class};
 ghost use Rattle.cl_model.specs.declared.event.Event.TheVariants as events;
-ghost use Rattle.cl_registry.specs.Parts.{AddsEvent, EachHas, HasRoom, HasSame, IsPut, is_there, place_by, place_there, row_by, shared};
+ghost use Rattle.cl_registry.specs.Parts.{AddsEvent, EachHas, HasRoom, HasSame, IsPut, is_there, place_by, place_there, row_by, shared_values};
 ghost use Rattle.cl_model.specs.declared.need.Need.TheVariants as needs;
 ghost use Rattle.cl_constraints.specs.Books.{Adds};
 ghost use Rattle.cl_registry.specs.Refusals.{BlamesIn, fault_of};
@@ -190,8 +190,8 @@ pub fn record<T: Told>(
         ≡ row_by (placed_at tables.old.items draft.now.class.loader) draft.now) }
     ensures event { OnOk result (AddsEvent history.old history.new
         (events.Define draft.now.class)) }
-    ensures put { IfOk result (λ r. IsPut (shared (λ c. c.value) (row_at tables.old.items))
-        (shared (λ c. c.value) (row_at tables.new.items)) draft.now.class.loader
+    ensures put { IfOk result (λ r. IsPut (shared_values (λ c. c.value) (row_at tables.old.items))
+        (shared_values (λ c. c.value) (row_at tables.new.items)) draft.now.class.loader
         draft.now.class.name r.value) }
     ensures rows { IfOk result (λ r. map (λ c. c.value) rows.new.items ≡ map
         (λ c. c.value) rows.old.items ++ r.value ∷ []) }
@@ -276,8 +276,8 @@ pub fn join<T: Told>(
     ensures row { IfOk result (λ r. r.value ≡ row.value) }
     ensures event { OnOk result (AddsEvent history.old history.new (events.Initiate
         (home_class home.now) home.now.asked)) }
-    ensures put { OnOk result (IsPut (shared (λ c. c.value) (row_at tables.old.items))
-        (shared (λ c. c.value) (row_at tables.new.items)) home.now.asked home.now.name
+    ensures put { OnOk result (IsPut (shared_values (λ c. c.value) (row_at tables.old.items))
+        (shared_values (λ c. c.value) (row_at tables.new.items)) home.now.asked home.now.name
         row.value) }
     ensures entered { OnOk result (Adds ⟦<GroupedBook as ConstraintBook>⟧.stands_for book.old
         book.new (asked_record home.now)) }

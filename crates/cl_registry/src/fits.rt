@@ -5,7 +5,7 @@ ghost use Rattle.cl_classfile.specs.Files.{file_of};
 ghost use Rattle.cl_model.specs.Classes.{supers};
 ghost use Rattle.cl_findings.specs.Findings.{Decides};
 ghost use Rattle.cl_hierarchy.specs.Rows.{FitsAs};
-ghost use Rattle.cl_registry.specs.Parts.{shared};
+ghost use Rattle.cl_registry.specs.Parts.{shared_values};
 ghost use Rattle.cl_registry.specs.Tables.{SupertypesFit, row_at};
 
 use crate::tables::{Rows, find};
@@ -16,7 +16,7 @@ use cl_model::Told;
 /// role (JVMS SE 8, 5.3.5, steps 3 and 4).
 fn supertype_fits<T: Told>(tables: &Rows<T>, draft: &Draft<T>, at: usize) -> bool
     ensures { Decides result (IfSome (slice_get (supers (file_of draft.now.file)) at)
-        (λ a. IfSome (shared (λ r. r.value) (row_at tables.now.items) draft.now.class.loader a.name)
+        (λ a. IfSome (shared_values (λ r. r.value) (row_at tables.now.items) draft.now.class.loader a.name)
         (FitsAs draft.now.class a))) }
 {
     let class = draft.class();
@@ -32,7 +32,7 @@ fn supertype_fits<T: Told>(tables: &Rows<T>, draft: &Draft<T>, at: usize) -> boo
 /// Whether each direct supertype of a draft that the draft's loader has recorded fits in its role (JVMS SE 8, 5.3.5, steps 3
 /// and 4).
 pub fn supertypes_fit<T: Told>(tables: &Rows<T>, draft: &Draft<T>) -> bool
-    ensures { Decides result (SupertypesFit (shared (λ r. r.value) (row_at tables.now.items))
+    ensures { Decides result (SupertypesFit (shared_values (λ r. r.value) (row_at tables.now.items))
         draft.now) }
 {
     for at in 0..draft.supertypes() {

@@ -6,7 +6,7 @@ ghost use Rattle.cl_findings.specs.Findings.{Decides};
 ghost use Rattle.cl_model.specs.Tables.{Records};
 ghost use Rattle.cl_registry.specs.declared.registry.RegistryFault.TheVariants.{Memory};
 ghost use Rattle.cl_registry.specs.Refusals.{AddRefusedFor, DefineRefusedFor, InitiateRefusedFor, MemoryOrStray};
-ghost use Rattle.cl_registry.specs.Tables.{DefinedAs, Defines, InitiatedAs, Initiates, IsKept, IsNew, LacksRecord, MayEnter, MayJoin, looked, state_of};
+ghost use Rattle.cl_registry.specs.Tables.{DefinedAs, Defines, InitiatedAs, Initiates, IsKept, IsNew, LacksRecord, MayEnter, MayJoin, looked_row, state_of};
 ghost use Rattle.cl_findings.specs.Loads.{asked_record, own_record};
 
 use crate::entries::{asked_row, defined_row, has_supers, join, own_row, record};
@@ -43,7 +43,7 @@ impl<T: Told> Registry<T> {
         ensures defined { IfOk result (λ r. Defines self.old self.new draft r.value) }
         ensures found { IfOk result (λ r. Records (state_of self.new) draft.class.loader
             draft.class.name r.value.class) }
-        ensures shown { IfOk result (λ r. looked self.new draft.class.loader draft.class.name
+        ensures shown { IfOk result (λ r. looked_row self.new draft.class.loader draft.class.name
             ≡ Some r.value) }
         ensures refused { IfErr result (λ e. DefineRefusedFor self.old draft e.fault) }
         ensures unchanged { IfErr result (λ e. (self.new ≡ self.old) × (e.draft ≡ draft)) }
@@ -75,7 +75,7 @@ impl<T: Told> Registry<T> {
         ensures initiated { IfOk result (λ r. Initiates self.old self.new home.now r.value) }
         ensures found { IfOk result (λ r. Records (state_of self.new) home.now.asked
             home.now.name r.value.class) }
-        ensures shown { IfOk result (λ r. looked self.new home.now.asked home.now.name
+        ensures shown { IfOk result (λ r. looked_row self.new home.now.asked home.now.name
             ≡ Some r.value) }
         ensures refused { IfErr result (λ fault. InitiateRefusedFor self.old home.now fault) }
         ensures unchanged { IfErr result (λ fault. self.new ≡ self.old) }
@@ -253,7 +253,7 @@ impl<T: Told> Registry<T> {
     fn home_row(&self, home: &Home<T>) -> Option<&Arc<ClassRow<T>>>
         ensures none { MatchOption result (MayJoin self.now home.now → ⊥)
             (λ r. MayJoin self.now home.now) }
-        ensures row { IfSome result (λ r. looked self.now home.now.place home.now.name
+        ensures row { IfSome result (λ r. looked_row self.now home.now.place home.now.name
             ≡ Some r.now.value) }
         ensures leads { LeadsTo T.told home.now.config home.now.asked home.now.name
             (Some home.now.place) }
@@ -269,7 +269,7 @@ impl<T: Told> Registry<T> {
     /// The same row, shared once more.
     fn shared_row(&self, home: &Home<T>) -> Result<Arc<ClassRow<T>>, RegistryFault>
         ensures may { IfOk result (λ r. MayJoin self.now home.now) }
-        ensures row { IfOk result (λ r. looked self.now home.now.place home.now.name
+        ensures row { IfOk result (λ r. looked_row self.now home.now.place home.now.name
             ≡ Some r.value) }
         ensures refused { IfErr result (MemoryOrStray (MayJoin self.now home.now)) }
         ensures leads { LeadsTo T.told home.now.config home.now.asked home.now.name

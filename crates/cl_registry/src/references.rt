@@ -4,7 +4,7 @@ ghost use Rattle.std.specs.Prelude.{◌≡◌, ◌+◌, None, IfOk, OnOk, OnErr,
 ghost use Rattle.std.specs.Vec.{VecUnchanged};
 ghost use Rattle.indexmap.specs.IndexMap.{IsUnchanged, get};
 ghost use Rattle.cl_model.specs.Classes.{same_class};
-ghost use Rattle.cl_registry.specs.Parts.{HasRoom, HasSame, shared};
+ghost use Rattle.cl_registry.specs.Parts.{HasRoom, HasSame, shared_values};
 ghost use Rattle.cl_registry.specs.References.{AddsSettled, IsReferencePut};
 ghost use Rattle.cl_registry.specs.Tables.{reference_in};
 
@@ -88,8 +88,8 @@ pub fn bind(
     ensures event { OnOk result (AddsSettled history.old.items history.new.items settled) }
     ensures used { OnOk result (vec_len history.new ≡ vec_len history.old + 1) }
     ensures put { OnOk result (IsReferencePut
-        (shared (λ s. s.value) (reference_in references.old))
-        (shared (λ s. s.value) (reference_in references.new))
+        (shared_values (λ s. s.value) (reference_in references.old))
+        (shared_values (λ s. s.value) (reference_in references.new))
         settled.class settled.index settled) }
     ensures same_history { OnErr result (VecUnchanged history.old history.new) }
     ensures same_references { OnErr result (HasSame (reference_in references.old)

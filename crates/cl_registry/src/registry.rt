@@ -3,7 +3,7 @@
 ghost use Rattle.std.specs.Prelude.{◌≡◌, OnOk, IfOk, IfErr, MatchOption, map};
 ghost use Rattle.std.specs.Option.{option_map};
 ghost use Rattle.cl_model.specs.Tables.{Records};
-ghost use Rattle.cl_registry.specs.Tables.{IsKept, LacksRecord, RoundMayBegin, empty_of, looked, round_of, state_of, with_round};
+ghost use Rattle.cl_registry.specs.Tables.{IsKept, LacksRecord, RoundMayBegin, empty_of, looked_row, round_of, state_of, with_round};
 ghost use Rattle.cl_registry.specs.Refusals.{RoundRefusedFor};
 ghost use Rattle.cl_registry.specs.Reports.{IsBack, IsReported};
 ghost use Rattle.cl_findings.specs.Findings.{Decides};
@@ -101,7 +101,7 @@ impl<T: Told> Drop for Registry<T> {
 
 impl<T: Told> Model for Registry<T> {
     ghost use Rattle.std.specs.Prelude.{length, vec_len, vec_capacity};
-    ghost use Rattle.cl_registry.specs.Parts.{shared};
+    ghost use Rattle.cl_registry.specs.Parts.{shared_values};
     ghost use Rattle.cl_registry.specs.Tables.{Shown, reference_in, row_at};
     ghost use Rattle.cl_registry.specs.Kept.{IsRegistry};
 
@@ -111,7 +111,7 @@ impl<T: Told> Model for Registry<T> {
 
     ghost view = { shown };
 
-    ghost invariant = { λ r. IsRegistry T.told (shown r) (record { table = shared (λ c. c.value) (row_at r.tables.items); parts = length r.tables.items; references = shared (λ s. s.value) (reference_in r.references); prepared = r.prepared.keys; met = r.met.items; events = vec_len r.history; room_for_events = vec_capacity r.history; left = r.left; unanswered = r.unanswered.items; round = r.round; filled = vec_len r.room; room = vec_capacity r.room }) (⟦<GroupedBook as ConstraintBook>⟧.stands_for r.book) };
+    ghost invariant = { λ r. IsRegistry T.told (shown r) (record { table = shared_values (λ c. c.value) (row_at r.tables.items); parts = length r.tables.items; references = shared_values (λ s. s.value) (reference_in r.references); prepared = r.prepared.keys; met = r.met.items; events = vec_len r.history; room_for_events = vec_capacity r.history; left = r.left; unanswered = r.unanswered.items; round = r.round; filled = vec_len r.room; room = vec_capacity r.room }) (⟦<GroupedBook as ConstraintBook>⟧.stands_for r.book) };
 }
 
 /// A registry could not be made.
@@ -194,7 +194,7 @@ impl<T: Told> Registry<T> {
 
     /// The class that a loader has recorded for a name (JVMS SE 8, 5.3).
     pub fn look(&self, loader: LoaderId, name: &Name) -> Option<&Arc<ClassRow<T>>>
-        ensures row { option_map (λ r. r.now.value) result ≡ looked self.now loader name.now }
+        ensures row { option_map (λ r. r.now.value) result ≡ looked_row self.now loader name.now }
         ensures found { MatchOption result (LacksRecord self.now loader name.now)
             (λ r. Records (state_of self.now) loader name.now r.now.value.class) }
         ensures kept { IsKept T.told self.now }

@@ -19,7 +19,7 @@ use Rattle.cl_model.specs.declared.settled.Settled.{Settled}
 use Rattle.cl_model.specs.Content.{Content}
 use Rattle.cl_model.specs.Classes.{class, Above, superclass_of, supers}
 use Rattle.cl_model.specs.Machine.{Setting}
-use Rattle.cl_model.specs.States.{Need, AllMet, Refused, recorded}
+use Rattle.cl_model.specs.States.{Need, AllMet, Refused, recorded_definer}
 use Rattle.cl_model.specs.Tables.{Bears}
 use Rattle.cl_model.specs.Views.{request_of, verdict_of}
 use Rattle.cl_model.proofs.Sound.{runs_are_sound}
@@ -28,7 +28,7 @@ use Rattle.cl_registry.specs.Imposing.{ArePreparedAbove, HoldsFor, IsReadyBy, Is
 use Rattle.cl_registry.specs.Posting.{AnswerBacked, IsBacked}
 use Rattle.cl_registry.specs.References.{Cited, cited_by, settled_by}
 use Rattle.cl_registry.specs.Settling.{FindingSettles}
-use Rattle.cl_registry.specs.Tables.{Shown, IsKept, MayEnter, looked, records_of, settled_at, state_of, steps, machine}
+use Rattle.cl_registry.specs.Tables.{Shown, IsKept, MayEnter, looked_row, records_of, settled_at, state_of, steps, machine}
 use Rattle.cl_registry.proofs.Placed.{recorded_row}
 use Rattle.cl_registry.proofs.Tracing.{looked_row}
 use Rattle.cl_tasks.specs.Follows.{AnswerFollows, Backed}
@@ -49,22 +49,22 @@ some_later : (o n : Option ℕ) → ((p : ℕ) → o ≡ Some p → n ≡ Some p
 some_later None n stays is = absurd cc
 some_later (Some p) n stays is = subst IsSome (sym (stays p refl)) is
 
-above_later : (old new : Shown) (loader : ℕ) (above : List Above) → GoesOn old new → AllByRecursion (λ (a : Above). IsSome (recorded (records_of old) loader a.name)) above → AllByRecursion (λ (a : Above). IsSome (recorded (records_of new) loader a.name)) above
+above_later : (old new : Shown) (loader : ℕ) (above : List Above) → GoesOn old new → AllByRecursion (λ (a : Above). IsSome (recorded_definer (records_of old) loader a.name)) above → AllByRecursion (λ (a : Above). IsSome (recorded_definer (records_of new) loader a.name)) above
 above_later old new loader [] h all = tt
 above_later old new loader (a ∷ above) h all = (
-  some_later (recorded (records_of old) loader a.name) (recorded (records_of new) loader a.name) (λ p is. record_later old new loader p a.name h is) all.0,
+  some_later (recorded_definer (records_of old) loader a.name) (recorded_definer (records_of new) loader a.name) (λ p is. record_later old new loader p a.name h is) all.0,
   above_later old new loader above h all.1,
 )
 
 -- the row of a class that is recorded stays the one that is found
-looked_later : (told : Option Content) (old new : Shown) (loader : ℕ) (name : List ℕ) → IsKept told old → GoesOn old new → IsSome (recorded (records_of old) loader name) → looked old loader name ≡ looked new loader name
+looked_later : (told : Option Content) (old new : Shown) (loader : ℕ) (name : List ℕ) → IsKept told old → GoesOn old new → IsSome (recorded_definer (records_of old) loader name) → looked_row old loader name ≡ looked_row new loader name
 looked_later told old new loader name kept h is =
-    let at = some_is (recorded (records_of old) loader name) is in
+    let at = some_is (recorded_definer (records_of old) loader name) is in
     let r = recorded_row told old loader at.0 name kept at.1 in
     r.found ∙ sym (looked_row new loader at.0 name (record_later old new loader at.0 name h at.1) ∙ row_stays old.rows h.more new.rows (class name at.0) r.row h.rows (sym (looked_row old loader at.0 name at.1) ∙ r.found))
 
-fit_later : (told : Option Content) (old new : Shown) (c : Class) (above : List Above) → IsKept told old → GoesOn old new → AllByRecursion (λ (a : Above). IsSome (recorded (records_of old) c.loader a.name)) above
-    → AllByRecursion (λ (a : Above). IfSome (looked old c.loader a.name) (FitsAs c a)) above → AllByRecursion (λ (a : Above). IfSome (looked new c.loader a.name) (FitsAs c a)) above
+fit_later : (told : Option Content) (old new : Shown) (c : Class) (above : List Above) → IsKept told old → GoesOn old new → AllByRecursion (λ (a : Above). IsSome (recorded_definer (records_of old) c.loader a.name)) above
+    → AllByRecursion (λ (a : Above). IfSome (looked_row old c.loader a.name) (FitsAs c a)) above → AllByRecursion (λ (a : Above). IfSome (looked_row new c.loader a.name) (FitsAs c a)) above
 fit_later told old new c [] kept h all fit = tt
 fit_later told old new c (a ∷ above) kept h all fit = (
   subst (λ (o : Option Rowed). IfSome o (FitsAs c a)) (looked_later told old new c.loader a.name kept h all.0) fit.0,
@@ -155,7 +155,7 @@ pub cited_later : (old new : Shown) (r : Request) (e : Cited) → GoesOn old new
 cited_later old new (requests.Load loader name) e h is = is
 cited_later old new (requests.Link loader name) e h is = is
 cited_later old new (requests.Resolve loader name i) e h is =
-    map_later (λ (p : ℕ). the_cited p) (recorded (records_of old) loader name) (recorded (records_of new) loader name) e (λ p at. record_later old new loader p name h at) is
+    map_later (λ (p : ℕ). the_cited p) (recorded_definer (records_of old) loader name) (recorded_definer (records_of new) loader name) e (λ p at. record_later old new loader p name h at) is
   where
     the_cited : ℕ → Cited
     the_cited p = record { class = class name p; index = i }

@@ -9,7 +9,7 @@ use Rattle.cl_model.specs.declared.request.Request.{Request}
 use Rattle.cl_model.specs.declared.request.Request.TheVariants as requests
 use Rattle.cl_model.specs.declared.settled.Settled.{Settled}
 use Rattle.cl_model.specs.Classes.{class}
-use Rattle.cl_model.specs.States.{IsRecorded, Need, Refused, recorded}
+use Rattle.cl_model.specs.States.{IsRecorded, Need, Refused, recorded_definer}
 use Rattle.cl_model.specs.Machine.{Step, Define, Initiate, Constrain, Settle, Prepare}
 use Rattle.cl_model.specs.Tables.{Records}
 use Rattle.cl_model.specs.Views.{need_of, verdict_of}
@@ -37,14 +37,14 @@ use Rattle.cl_findings.specs.Loads.{asked_record, own_record}
 -- ---- what was done
 
 pub did_define : (x new : Shown) (d : Drafted) (row : Rowed) → Defines x new d row → Did x new (λ e. e ≡ Define d.class)
-did_define x new d row defines = by_record (recorded (records_of x) d.class.loader d.class.name) defines
+did_define x new d row defines = by_record (recorded_definer (records_of x) d.class.loader d.class.name) defines
   where
     by_record : (o : Option ℕ) → DefinedAs x new d row o → Did x new (λ e. e ≡ Define d.class)
     by_record None (may, fits, more, is) = inr (Define d.class, refl, goes_by x new (events.Define d.class) (row_for x d ∷ []) more refl)
     by_record (Some place) (same, shown) = inl same
 
 pub did_initiate : (x new : Shown) (h : Located) (row : Rowed) → Initiates x new h row → Did x new (λ e. e ≡ Initiate h.name h.place h.asked)
-did_initiate x new h row initiates = by_record (recorded (records_of x) h.asked h.name) initiates
+did_initiate x new h row initiates = by_record (recorded_definer (records_of x) h.asked h.name) initiates
   where
     by_record : (o : Option ℕ) → InitiatedAs x new h row o → Did x new (λ e. e ≡ Initiate h.name h.place h.asked)
     by_record None (may, fits, more, shown) = inr (Initiate h.name h.place h.asked, refl, goes_event x new (events.Initiate (class h.name h.place) h.asked) more refl)
@@ -174,15 +174,15 @@ pub record IsEntryOf (x : Shown) (r : Request) (s : Settled) : Type 0 where
 pub settled_entry : (x : Shown) (r : Request) (s : Settled) → settled_by x r ≡ Some s → IsEntryOf x r s
 settled_entry x (requests.Load loader name) s e = absurd cc
 settled_entry x (requests.Link loader name) s e = absurd cc
-settled_entry x (requests.Resolve loader name i) s e = by_record (recorded (records_of x) loader name) refl
+settled_entry x (requests.Resolve loader name i) s e = by_record (recorded_definer (records_of x) loader name) refl
   where
-    found : (place : ℕ) → recorded (records_of x) loader name ≡ Some place → IsSettledIn x (class name place) i s
+    found : (place : ℕ) → recorded_definer (records_of x) loader name ≡ Some place → IsSettledIn x (class name place) i s
     found place at = settled_is_told x (class name place) i s (sym (ap (λ (o : Option ℕ). option_and_then (λ (c : Cited). settled_at x c.class c.index) (option_map (λ (p : ℕ). record { class = class name p; index = i }) o)) at) ∙ e)
 
     request_is : (place : ℕ) → IsSettledIn x (class name place) i s → requests.Resolve loader name i ≡ requests.Resolve loader s.class.name s.index
     request_is place is = rw (is.class, is.index) refl
 
-    by_record : (o : Option ℕ) → recorded (records_of x) loader name ≡ o → IsEntryOf x (requests.Resolve loader name i) s
+    by_record : (o : Option ℕ) → recorded_definer (records_of x) loader name ≡ o → IsEntryOf x (requests.Resolve loader name i) s
     by_record None at = absurd (none-some _ (sym (ap (λ (o : Option ℕ). option_and_then (λ (c : Cited). settled_at x c.class c.index) (option_map (λ (p : ℕ). record { class = class name p; index = i }) o)) at) ∙ e))
     by_record (Some place) at = record {
       fits = request_is place (found place at);

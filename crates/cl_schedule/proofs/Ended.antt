@@ -22,7 +22,7 @@ use Rattle.cl_registry.specs.Tables.{Shown, IsTrusted, RunsAs, posts, round_of, 
 use Rattle.cl_registry.proofs.Histories.{eq_nat, swap_nat}
 use Rattle.cl_registry.proofs.Running.{is_or}
 use Rattle.cl_schedule.specs.Headline.{EachSpelt, Alike, ReferencesAlike, CirclesExact, IsServed}
-use Rattle.cl_schedule.specs.Serving.{once_below, reported, times}
+use Rattle.cl_schedule.specs.Serving.{once_below, reported_registry, times}
 use Rattle.cl_schedule.proofs.Serving.{bare, bare_runs, bare_trusted, report_tells}
 use Rattle.cl_schedule.proofs.Headline.{each_spelt, alike, references_alike, circles_exact, consistent}
 
@@ -148,7 +148,7 @@ is_served told x c s r made config script =
     let y = bare x in
     let trusted : IsTrusted y = bare_trusted x kept.trusted in
     let run : RunsAs told y = bare_runs told x kept.run in
-    let same : y ≡ reported c r = report_tells x r c is (sym config) in
+    let same : y ≡ reported_registry c r = report_tells x r c is (sym config) in
     record {
       of_script = is.script ∙ sym script;
       each_once = λ q. ap (λ (h : List Event). times q (posts h)) is.history ∙ posted_once x r q kept.trusted is ∙ ap (λ (k : Scripted). once_below q (length k.requests)) (sym script);

@@ -18,7 +18,7 @@ use Rattle.cl_model.specs.Content.{Content}
 use Rattle.cl_model.specs.Classes.{class, same_class, Above, supers}
 use Rattle.cl_model.specs.Frames.{Frame}
 use Rattle.cl_model.specs.Machine.{Step, Post, state_after}
-use Rattle.cl_model.specs.States.{State, Need, Met, Refused, Verdict, recorded, settled_to, start}
+use Rattle.cl_model.specs.States.{State, Need, Met, Refused, Verdict, recorded_definer, settled_to, start}
 use Rattle.cl_model.specs.Views.{answer_of, verdict_of}
 use Rattle.cl_model.proofs.Runs.{IsLater, met_later, refused_later, run_later}
 use Rattle.cl_model.proofs.Sound.{prepared_stay, settled_stay}
@@ -95,7 +95,7 @@ is_later old new h = subst (λ (s : State). IsLater (state_of old) s) (sym (stat
 
 -- ---- records and rows
 
-pub record_later : (old new : Shown) (loader place : ℕ) (name : List ℕ) → GoesOn old new → recorded (records_of old) loader name ≡ Some place → recorded (records_of new) loader name ≡ Some place
+pub record_later : (old new : Shown) (loader place : ℕ) (name : List ℕ) → GoesOn old new → recorded_definer (records_of old) loader name ≡ Some place → recorded_definer (records_of new) loader name ≡ Some place
 record_later old new loader place name h is = (is_later old new h).records loader place name is
 
 pub prepared_later : (old new : Shown) (c : Class) → GoesOn old new → Contains (state_of old).prepared c → Contains (state_of new).prepared c

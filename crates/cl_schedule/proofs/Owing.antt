@@ -16,7 +16,7 @@ use Rattle.cl_tasks.specs.declared.turn.Turn.{Turn}
 use Rattle.cl_tasks.specs.declared.turn.Turn.TheVariants as turn
 use Rattle.cl_schedule.specs.declared.choices.Room.{Room}
 use Rattle.cl_schedule.specs.declared.seats.Seat.{Seat}
-use Rattle.cl_schedule.specs.Counting.{CountGrows, CountsFaults, Grows, RoseBy, debt, fault, faults, owed, owed_all, owed_at, owed_of, told_faults}
+use Rattle.cl_schedule.specs.Counting.{CountGrows, CountsFaults, Grows, RoseBy, debt, fault, faults, owed_fault, owed_all, owed_at, owed_of, told_faults}
 use Rattle.cl_schedule.specs.Places.{seat_at, seat_of}
 use Rattle.cl_schedule.specs.Replies.{CallSays, IsCall, IsStepOf}
 use Rattle.cl_schedule.specs.Rooms.{HasTaken, RoomIsOver, IsServing, NoneSeated, ServesOn}
@@ -59,30 +59,30 @@ count_beside n a b c d k l one two g = record { number = g.number; counted = let
 -- ---- a turn
 
 -- a turn posts a fault of the source where the reply before it told of one, and nowhere else
-pub owed_told : {A : Type 0} (t : Tasked) (r : Reply A) (u : Turn A) → Expects t r → Refuses (refusal t r) u → owed u ≡ told_faults r
+pub owed_told : {A : Type 0} (t : Tasked) (r : Reply A) (u : Turn A) → Expects t r → Refuses (refusal t r) u → owed_fault u ≡ told_faults r
 owed_told t r (turn.Post f) e h = told_fault t r f e h
 owed_told {A = A} t r other e h = sym (told_none A t r other h tt)
 
-owed_call : {A : Type 0} (u : Turn A) → IsCall u → owed u ≡ 0
+owed_call : {A : Type 0} (u : Turn A) → IsCall u → owed_fault u ≡ 0
 owed_call (turn.Post f) call = absurd call
 owed_call other call = refl
 
 -- ---- a choice of one request
 
 -- its answer is posted
-pub count_posted : {A : Type 0} (old new : Shown) (u : Turn A) (f : Answered) (q k : ℕ) → u ≡ turn.Post f → IsOpen old q → new ≡ with_post old q f.answer → CountGrows (faults old.answers + owed u) (faults new.answers + 0) k k
+pub count_posted : {A : Type 0} (old new : Shown) (u : Turn A) (f : Answered) (q k : ℕ) → u ≡ turn.Post f → IsOpen old q → new ≡ with_post old q f.answer → CountGrows (faults old.answers + owed_fault u) (faults new.answers + 0) k k
 count_posted old new u f q k is opened posted = record {
   number = 0;
   counted =
-      let one = ap owed is in
+      let one = ap owed_fault is in
       let two = ap (λ (x : Shown). faults x.answers) posted ∙ faults_set old.answers q f.answer opened in
       omega arith;
   grows = grows_none k;
 }
 
 -- its call is made
-pub count_called : {A S : Type 0} (told : Option Content) (old new : Shown) (u w : Turn A) (given : Reply A) (k l m : ℕ) (since source : S) → CallSays told old new u given k l since source → CountGrows (told_faults given) (owed w) l m
-    → CountGrows (faults old.answers + owed u) (faults new.answers + owed w) k m
+pub count_called : {A S : Type 0} (told : Option Content) (old new : Shown) (u w : Turn A) (given : Reply A) (k l m : ℕ) (since source : S) → CallSays told old new u given k l since source → CountGrows (told_faults given) (owed_fault w) l m
+    → CountGrows (faults old.answers + owed_fault u) (faults new.answers + owed_fault w) k m
 count_called told old new u w given k l m since source says g = record {
   number = told_faults given + g.number;
   counted =
@@ -157,7 +157,7 @@ owed_taken {A = A} room mid q taken = elim taken.tasks [
 ]
 
 -- a request is put in a place that has none
-owed_put : {A : Type 0} (ts : List (Option Tasked)) (us : List (Option (Turn A))) (q : ℕ) (t : Tasked) (u : Turn A) → q < length ts → slice_get us q ≡ Some None → owed_all (slice_set ts q (Some t)) (slice_set us q (Some u)) ≡ owed_all ts us + owed u
+owed_put : {A : Type 0} (ts : List (Option Tasked)) (us : List (Option (Turn A))) (q : ℕ) (t : Tasked) (u : Turn A) → q < length ts → slice_get us q ≡ Some None → owed_all (slice_set ts q (Some t)) (slice_set us q (Some u)) ≡ owed_all ts us + owed_fault u
 owed_put [] us q t u below none = absurd (omega arith)
 owed_put (s ∷ ts) [] q t u below none = absurd cc
 owed_put {A = A} (s ∷ ts) (None ∷ us) zero t u below none = let empty = empty_call A (Some s) in omega arith
@@ -190,9 +190,9 @@ pub debt_advanced : {A : Type 0} (old new : Shown) (room mid done : Room A) (o :
 debt_advanced {A = A} old new room mid done o s q k l some taken in_tasks in_calls g tasks calls =
     let left = owed_all mid.tasks.items mid.calls.items in
     let was = owed_taken room mid q taken in
-    let more : owed_of o ≡ owed s.call = ap owed_of some in
+    let more : owed_of o ≡ owed_fault s.call = ap owed_of some in
     let free : slice_get mid.calls.items q ≡ Some None = ap (λ (us : List (Option (Turn A))). slice_get us q) taken.calls ∙ same_set room.calls.items q None in_calls in
-    let here : owed_all done.tasks.items done.calls.items ≡ left + owed s.call =
+    let here : owed_all done.tasks.items done.calls.items ≡ left + owed_fault s.call =
     ap (λ (ts : List (Option Tasked)). owed_all ts done.calls.items) tasks ∙ ap (λ (us : List (Option (Turn A))). owed_all (slice_set mid.tasks.items q (Some s.task)) us) calls
     ∙ owed_put mid.tasks.items mid.calls.items q s.task s.call (let whole = mid_tasks room mid q taken in omega arith) free in
     count_beside left (faults old.answers + owed_at room q) (faults new.answers + owed_of o) (debt old room) (debt new done) k l (omega arith) (omega arith) g

@@ -8,7 +8,7 @@ use Rattle.cl_model.specs.declared.request.Request.{Request}
 use Rattle.cl_model.specs.Content.{Content}
 use Rattle.cl_model.specs.Homes.{World}
 use Rattle.cl_model.specs.Service.{MayEnd}
-use Rattle.cl_model.specs.States.{Verdict, recorded}
+use Rattle.cl_model.specs.States.{Verdict, recorded_definer}
 use Rattle.cl_model.specs.Machine.{IsPlan}
 use Rattle.cl_model.specs.Plans.{Plan, cost}
 use Rattle.cl_model.specs.Views.{answer_of, request_of}
@@ -102,15 +102,15 @@ starts_within told x r t next within pays = λ w p is. over (made_by t.waits) (c
 
 -- ---- later on
 
-none_before : (old new : Shown) → GoesOn old new → (l : ℕ) (name : List ℕ) → recorded (state_of new).records l name ≡ None → recorded (state_of old).records l name ≡ None
-none_before old new goes l name none = by_record (recorded (state_of old).records l name) (λ place is. (is_later old new goes).records l place name is)
+none_before : (old new : Shown) → GoesOn old new → (l : ℕ) (name : List ℕ) → recorded_definer (state_of new).records l name ≡ None → recorded_definer (state_of old).records l name ≡ None
+none_before old new goes l name none = by_record (recorded_definer (state_of old).records l name) (λ place is. (is_later old new goes).records l place name is)
   where
     apart : (o : Option ℕ) (place : ℕ) → o ≡ Some place → o ≡ None → ⊥
     apart o place e k = cc
 
-    by_record : (o : Option ℕ) → ((place : ℕ) → o ≡ Some place → recorded (state_of new).records l name ≡ Some place) → o ≡ None
+    by_record : (o : Option ℕ) → ((place : ℕ) → o ≡ Some place → recorded_definer (state_of new).records l name ≡ Some place) → o ≡ None
     by_record None stays = refl
-    by_record (Some place) stays = absurd (apart (recorded (state_of new).records l name) place (stays place refl) none)
+    by_record (Some place) stays = absurd (apart (recorded_definer (state_of new).records l name) place (stays place refl) none)
 
 -- no more calls are left where the registry went on
 fewer_later : (old new : Shown) (w : World) (p : Plan) (t : Tasked) → GoesOn old new → AreLeft t.calls → calls_in t.calls w p (state_of new) ≤ calls_in t.calls w p (state_of old)

@@ -16,7 +16,7 @@ use Rattle.cl_config.specs.Views.{Configured}
 use Rattle.cl_registry.specs.Tables.{Shown, IsTrusted, RunsAs, IsOpen, posts}
 use Rattle.cl_registry.specs.Reports.{IsReport}
 use Rattle.cl_registry.proofs.Histories.{unposted}
-use Rattle.cl_schedule.specs.Serving.{reported}
+use Rattle.cl_schedule.specs.Serving.{reported_registry}
 
 pub numbers_push : (a n j : ℕ) → a + n ≡ j → range_with_len a n ++ j ∷ [] ≡ range_with_len a (suc n)
 numbers_push a zero j e = let same : j ≡ a = omega arith in ap (λ (k : ℕ). k ∷ []) same
@@ -29,7 +29,7 @@ next_upto q xs ys e h = e ∙ ap (λ (zs : List ℕ). zs ++ q ∷ []) h ∙ numb
 abbrev pub bare : Shown → Shown
 bare x = record x { rows = [] }
 
-pub report_tells : (x : Shown) (r : Report) (c : Configured) → IsReport x r → x.config ≡ c → bare x ≡ reported c r
+pub report_tells : (x : Shown) (r : Report) (c : Configured) → IsReport x r → x.config ≡ c → bare x ≡ reported_registry c r
 report_tells x r c is e = same x.config c x.script r.script.value x.history r.history x.answers (map (λ a. Some a) r.answers) e is.script is.history is.answers
   where
     same : (f e : Configured) (s u : _) (h k : _) (a b : List (Option Answer)) → f ≡ e → u ≡ s → k ≡ h → b ≡ a

@@ -6,7 +6,7 @@ use Rattle.cl_model.specs.declared.class.Class.{Class}
 use Rattle.cl_model.specs.declared.request.Request.{Request}
 use Rattle.cl_model.specs.declared.request.Request.TheVariants as requests
 use Rattle.cl_model.specs.declared.verdict.Verdict.TheVariants as verdicts
-use Rattle.cl_model.specs.States.{State, Verdict, Said, IsClass, IsLinked, recorded, settled_to}
+use Rattle.cl_model.specs.States.{State, Verdict, Said, IsClass, IsLinked, recorded_definer, settled_to}
 use Rattle.cl_model.specs.Views.{answer_of, request_of, verdict_of}
 use Rattle.cl_hierarchy.specs.Rows.{Rowed}
 use Rattle.cl_findings.specs.Findings.{Answered, loader_of, name_of}
@@ -48,7 +48,7 @@ has_of x (requests.Link loader name) v row h k =
     let same = one_class (state_of x) loader name h.0 row.class h.1 k.records in
     (subst (λ (c : Class). Contains (state_of x).prepared c) same h.2.0, h.2.1 ∙ ap (λ (c : Class). IsLinked c) same)
 
-has_record : (s : State) (r : Request) (v : Verdict) → HasVerdict s (request_of r) v → (place : ℕ) × (recorded s.records (loader_of r) (name_of r) ≡ Some place)
+has_record : (s : State) (r : Request) (v : Verdict) → HasVerdict s (request_of r) v → (place : ℕ) × (recorded_definer s.records (loader_of r) (name_of r) ≡ Some place)
 has_record s (requests.Load loader name) v h = (h.0.loader, h.1.1)
 has_record s (requests.Resolve loader name i) v h = (h.0.loader, h.1.1)
 has_record s (requests.Link loader name) v h = (h.0.loader, h.1.1)
@@ -79,7 +79,7 @@ own_call s r v t new other u at q own refused call = absurd at
 
 look_told : {A : Type 0} (x : Shown) (r : Request) (v : Verdict) (t : Tasked) (told : Reply A) → HasVerdict (state_of x) (request_of r) v → IsReplied x (Looking (loader_of r) (name_of r)) told → t.waits ≡ Looking (loader_of r) (name_of r) → t.frames ≡ [] → t.facts ≡ [] → AtHand (state_of x) r v t told
 look_told x r v t reply.Start has is waits frames facts = tt
-look_told x r v t (reply.Looked None) has is waits frames facts = let k = has_record (state_of x) r v has in absurd (some_none (recorded (records_of x) (loader_of r) (name_of r)) k.0 k.1 is.shows)
+look_told x r v t (reply.Looked None) has is waits frames facts = let k = has_record (state_of x) r v has in absurd (some_none (recorded_definer (records_of x) (loader_of r) (name_of r)) k.0 k.1 is.shows)
 look_told x r v t (reply.Looked (Some row)) has is waits frames facts = (waits, frames, facts, has_of x r v row.value has is.tells)
 look_told x r v t (reply.LookedReference o) has is waits frames facts = absurd is.fits
 look_told x r v t (reply.LookedPrepared b) has is waits frames facts = absurd is.fits

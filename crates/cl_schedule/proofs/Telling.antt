@@ -10,7 +10,7 @@ use Rattle.cl_model.specs.declared.request.Request.TheVariants as requests
 use Rattle.cl_model.specs.declared.settled.Settled.{Settled}
 use Rattle.cl_model.specs.Content.{Content}
 use Rattle.cl_model.specs.Classes.{class}
-use Rattle.cl_model.specs.States.{Met, recorded}
+use Rattle.cl_model.specs.States.{Met, recorded_definer}
 use Rattle.cl_model.specs.Views.{need_of}
 use Rattle.cl_registry.specs.Imposing.{IsPreparedBy}
 use Rattle.cl_registry.specs.References.{Cited, IsSettledIn, cited_by}
@@ -34,7 +34,7 @@ settled_of_later : (old new : Shown) (r : Request) (s : Settled) → GoesOn old 
 settled_of_later old new (requests.Load loader name) s h (e, cited) so = absurd cc
 settled_of_later old new (requests.Link loader name) s h (e, cited) so = absurd cc
 settled_of_later old new (requests.Resolve loader name i) s h (e, cited) so = λ d kept.
-    let at = some_of_map (λ (p : ℕ). the_cited name i p) (recorded (records_of old) loader name) e cited in
+    let at = some_of_map (λ (p : ℕ). the_cited name i p) (recorded_definer (records_of old) loader name) e cited in
     let there : Some at.0 ≡ Some d.loader = sym (record_later old new loader at.0 name h at.1) ∙ kept.1 in
     let same : class name at.0 ≡ d = one_class name at.0 d (sym kept.0) there in
     subst (λ (c : Class). IsSettledIn new c i s) same (settled_in_later old new (class name at.0) i s h (so (class name at.0) (refl, at.1)))

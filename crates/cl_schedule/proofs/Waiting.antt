@@ -27,7 +27,7 @@ use Rattle.cl_registry.proofs.Histories.{open_answer, eq_nat, steps_posts, swap_
 use Rattle.cl_registry.proofs.Running.{answered}
 use Rattle.cl_registry.proofs.Schedules.{some_at, schedule_round}
 use Rattle.cl_registry.proofs.Calm.{post_other}
-use Rattle.cl_schedule.specs.Choices.{Takes, is_waiting, taken_by, waiting, waiting_from}
+use Rattle.cl_schedule.specs.Choices.{Takes, is_waiting, taken_by, waiting_requests, waiting_from}
 use Rattle.cl_schedule.specs.Rooms.{MayBeTaken}
 use Rattle.cl_schedule.specs.Rounds.{RoundsPassed}
 use Rattle.cl_schedule.specs.Seats.{HasGathered, MayGather}
@@ -129,7 +129,7 @@ pub record Waits (x : Shown) (q : ℕ) : Type 0 where
   pub below : q < length x.script.requests
 
 -- who stands in the list of those that wait does so
-waits_there : (x : Shown) (ws : List ℕ) (i q : ℕ) → IsTrusted x → ws ≡ waiting (schedule_of x.script) (state_of x) → slice_get ws i ≡ Some q → Waits x q
+waits_there : (x : Shown) (ws : List ℕ) (i q : ℕ) → IsTrusted x → ws ≡ waiting_requests (schedule_of x.script) (state_of x) → slice_get ws i ≡ Some q → Waits x q
 waits_there x ws i q t is h =
     let w = waiting_at (state_of x) 0 (schedule_of x.script) i q (subst (λ (xs : List ℕ). slice_get xs i ≡ Some q) is h) in
     let place : w.place ≡ q = let e = w.is in omega arith in
@@ -161,7 +161,7 @@ waits_there x ws i q t is h =
         omega arith
 
 -- where nobody waits, each request of the round has its answer
-all_answered : (x : Shown) → [] ≡ waiting (schedule_of x.script) (state_of x) → (p : ℕ) (e : Scheduled) → slice_get (schedule_of x.script) p ≡ Some e → e.round ≡ round_of x → IsSome (answer_to (state_of x).answers p)
+all_answered : (x : Shown) → [] ≡ waiting_requests (schedule_of x.script) (state_of x) → (p : ℕ) (e : Scheduled) → slice_get (schedule_of x.script) p ≡ Some e → e.round ≡ round_of x → IsSome (answer_to (state_of x).answers p)
 all_answered x none p e at same =
     some_then (nat_eq e.round (round_of x)) (answer_to (state_of x).answers p) (subst (λ (n : ℕ). nat_eq e.round n ≡ true) same (nat_eq_equiv.refl e.round))
     (none_waits (state_of x) 0 (schedule_of x.script) p p e (sym none) (omega arith) at)
@@ -188,7 +188,7 @@ gathered_same : (x new : Shown) (ws : List ℕ) (next : ℕ) → new.script ≡ 
 gathered_same x new ws next script answers round posted h = record {
   waits =
       h.waits ∙ sym (waiting_same (state_of x) (state_of new) 0 (schedule_of x.script) round (λ p least. ap (λ (ps : List Posted). is_none (answer_to ps p)) posted))
-      ∙ ap (λ (s : Scripted). waiting (schedule_of s) (state_of new)) (sym script);
+      ∙ ap (λ (s : Scripted). waiting_requests (schedule_of s) (state_of new)) (sym script);
   front = record {
     within = subst (λ (s : Scripted). next ≤ length s.requests) (sym script) h.front.within;
     begun = λ p below late. h.front.begun p below (later_down new x p (sym script) (at_most (round_of x) (round_of new) (sym round)) late);
@@ -260,7 +260,7 @@ gathered_post x ws next i q a t h at =
     (subst (λ (xs : List ℕ). slice_get xs i ≡ Some q) h.waits at) in
     let before : q < next = is_before w (cases_lt q next) in
     record {
-      waits = ap (λ (xs : List ℕ). remove xs i) h.waits ∙ sym left ∙ ap (waiting (schedule_of x.script)) (sym there);
+      waits = ap (λ (xs : List ℕ). remove xs i) h.waits ∙ sym left ∙ ap (waiting_requests (schedule_of x.script)) (sym there);
       front = record {
         within = h.front.within;
         begun = λ p below late. h.front.begun p below (later_down (with_post x q a) x p refl (at_most (round_of x) (round_of (with_post x q a)) (sym round)) late);

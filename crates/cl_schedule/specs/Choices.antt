@@ -11,7 +11,7 @@ use Rattle.cl_registry.specs.Tables.{Shown, steps, machine}
 use Rattle.cl_schedule.specs.Blames.{EachBlames}
 use Rattle.cl_schedule.specs.Headline.{IsServed}
 use Rattle.cl_schedule.specs.Known.{HasVerdict, SaysOrLacks}
-use Rattle.cl_schedule.specs.Serving.{reported}
+use Rattle.cl_schedule.specs.Serving.{reported_registry}
 
 -- ---- who waits
 
@@ -25,14 +25,14 @@ waiting_from s q [] = []
 waiting_from s q (r ∷ rs) = if is_waiting s q r then q ∷ waiting_from s (suc q) rs else waiting_from s (suc q) rs
 
 -- the numbers of the requests of the round that have no answer yet, in order
-abbrev pub waiting : List Scheduled → State → List ℕ
-waiting script s = waiting_from s 0 script
+abbrev pub waiting_requests : List Scheduled → State → List ℕ
+waiting_requests script s = waiting_from s 0 script
 
 -- ---- choices
 
 -- whom a choice takes: of k requests that wait, the one at the place which the choice leaves modulo k
 abbrev pub taken_by : List Scheduled → State → ℕ → Option ℕ
-taken_by script s choice = slice_get (waiting script s) (choice % length (waiting script s))
+taken_by script s choice = slice_get (waiting_requests script s) (choice % length (waiting_requests script s))
 
 -- a choice takes this request
 pub record Takes (g : Setting) (s : State) (choice q : ℕ) (r : Scheduled) : Type 0 where
@@ -149,5 +149,5 @@ PlayedAs (Some content) x schedule = IsPlayed (machine x content) schedule (step
 -- blames (5.3 to 5.4.3)
 pub record IsSimulated (told : Option Content) (config : Configured) (script : Scripted) (schedule : List ℕ) (r : Report) : Type 0 where
   pub served : IsServed told config script r
-  pub played : PlayedAs told (reported config r) schedule
-  pub blames : EachBlames told (reported config r)
+  pub played : PlayedAs told (reported_registry config r) schedule
+  pub blames : EachBlames told (reported_registry config r)

@@ -57,14 +57,14 @@ CountsFaults r old new = RoseBy (faults (map (λ a. Some a) r.answers)) old new
 -- ---- what is still to be posted
 
 -- one where a turn asks to post a fault of the source
-abbrev pub owed : {A : Type 0} → Turn A → ℕ
-owed (turn.Post f) = fault f.answer
-owed other = 0
+abbrev pub owed_fault : {A : Type 0} → Turn A → ℕ
+owed_fault (turn.Post f) = fault f.answer
+owed_fault other = 0
 
 -- one where the request that has a seat is to post such an answer
 abbrev pub owed_of : {A : Type 0} → Option (Seat A) → ℕ
 owed_of None = 0
-owed_of (Some s) = owed s.call
+owed_of (Some s) = owed_fault s.call
 
 -- how many requests were begun and are to post such an answer
 abbrev pub owed_all : {A : Type 0} → List (Option Tasked) → List (Option (Turn A)) → ℕ

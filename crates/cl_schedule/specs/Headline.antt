@@ -17,7 +17,7 @@ use Rattle.cl_registry.specs.Reports.{IsNamed}
 use Rattle.cl_registry.specs.Tables.{Shown, IsTrusted, RunsAs, posts, round_of, state_of, machine}
 use Rattle.cl_schedule.specs.Blames.{EachBlames}
 use Rattle.cl_schedule.specs.Known.{KnownStays}
-use Rattle.cl_schedule.specs.Serving.{HasEachBelow, InOrder, reported}
+use Rattle.cl_schedule.specs.Serving.{HasEachBelow, InOrder, reported_registry}
 
 -- each class that is recorded is spelt by its defining loader's bytes, by the grammar (4.1; 5.3.5)
 abbrev pub EachSpelt : Option Content → Shown → Type 0
@@ -69,14 +69,14 @@ pub record IsServed (told : Option Content) (config : Configured) (script : Scri
   pub of_script : r.script.value ≡ script
   pub each_once : HasEachBelow (length script.requests) (posts r.history)
   pub named : IsNamed (length config.loaders) r
-  pub last : script.rounds ≤ round_of (reported config r) + 1
-  pub trusted : IsTrusted (reported config r)
-  pub consistent : IsConsistent (state_of (reported config r))
-  pub run : RunsAs told (reported config r)
-  pub spelt : EachSpelt told (reported config r)
-  pub alike : Alike told (reported config r)
-  pub references : ReferencesAlike told (reported config r)
-  pub circles : CirclesExact told (reported config r)
+  pub last : script.rounds ≤ round_of (reported_registry config r) + 1
+  pub trusted : IsTrusted (reported_registry config r)
+  pub consistent : IsConsistent (state_of (reported_registry config r))
+  pub run : RunsAs told (reported_registry config r)
+  pub spelt : EachSpelt told (reported_registry config r)
+  pub alike : Alike told (reported_registry config r)
+  pub references : ReferencesAlike told (reported_registry config r)
+  pub circles : CirclesExact told (reported_registry config r)
 
 -- the report of a script that was served in order under a configuration: each request is posted in the script's order. Where a content is told,
 -- each one is served alone, and the next round begins as soon as it may. Under any source what the tables have of a request is its answer,
@@ -84,6 +84,6 @@ pub record IsServed (told : Option Content) (config : Configured) (script : Scri
 pub record IsServedInOrder (told : Option Content) (config : Configured) (script : Scripted) (r : Report) : Type 0 where
   pub served : IsServed told config script r
   pub posted : posts r.history ≡ range_with_len 0 (length script.requests)
-  pub known : KnownStays (reported config r)
-  pub in_order : InOrder told (reported config r)
-  pub blames : EachBlames told (reported config r)
+  pub known : KnownStays (reported_registry config r)
+  pub in_order : InOrder told (reported_registry config r)
+  pub blames : EachBlames told (reported_registry config r)

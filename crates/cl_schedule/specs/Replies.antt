@@ -2,7 +2,7 @@
 use Rattle.std.specs.Prelude.{◌≡◌, ◌⊎◌, ℕ, false, Option, Some, None, IsSome, MatchOption, slice_get, Contains}
 use Rattle.cl_model.specs.declared.need.Equality.{Equality}
 use Rattle.cl_model.specs.declared.settled.Settled.{Settled}
-use Rattle.cl_model.specs.States.{recorded, settled_to}
+use Rattle.cl_model.specs.States.{recorded_definer, settled_to}
 use Rattle.cl_model.specs.Machine.{Step, Define, Initiate, Settle, Prepare, step_for}
 use Rattle.cl_model.specs.Views.{verdict_of}
 use Rattle.cl_delegation.specs.Searches.{Located}
@@ -44,7 +44,7 @@ IsOfTables other = Unit {0}
 -- shared (5.3, 5.4.2, 5.4.3)
 abbrev pub Shows : {A : Type 0} → Shown → Waits → Reply A → Type 0
 Shows x (Looking l n) (reply.Looked None) = LacksRecord x l n
-Shows x (Looking l n) reply.Memory = IsSome (recorded (records_of x) l n)
+Shows x (Looking l n) reply.Memory = IsSome (recorded_definer (records_of x) l n)
 Shows x (LookingReference c i) (reply.LookedReference None) = settled_to (state_of x).settled c i ≡ None
 Shows x (LookingReference c i) reply.Memory = IsSome (settled_to (state_of x).settled c i)
 Shows x (LookingPrepared c) (reply.LookedPrepared false) = Contains (state_of x).prepared c → ⊥

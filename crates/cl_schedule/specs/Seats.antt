@@ -27,7 +27,7 @@ use Rattle.cl_tasks.specs.declared.turn.Reply.TheVariants as reply
 use Rattle.cl_tasks.specs.declared.turn.Turn.{Turn}
 use Rattle.cl_tasks.specs.declared.turn.Turn.TheVariants as turn
 use Rattle.cl_schedule.specs.Blames.{IsAskedFor}
-use Rattle.cl_schedule.specs.Choices.{waiting}
+use Rattle.cl_schedule.specs.Choices.{waiting_requests}
 use Rattle.cl_schedule.specs.Replies.{Did, IsCall, AsksForRead}
 
 -- ---- a registry later on
@@ -134,7 +134,7 @@ pub record IsRoundFront (x : Shown) (next : ℕ) : Type 0 where
 
 -- these are the numbers of those that wait; the requests from another number on are of later rounds
 pub record HasGathered (x : Shown) (ws : List ℕ) (next : ℕ) : Type 0 where
-  pub waits : ws ≡ waiting (schedule_of x.script) (state_of x)
+  pub waits : ws ≡ waiting_requests (schedule_of x.script) (state_of x)
   pub front : IsRoundFront x next
   pub later : (p : ℕ) → next ≤ p → p < length x.script.requests → IsLater x p
 

@@ -7,7 +7,7 @@ ghost use Rattle.cl_findings.specs.Findings.{loader_of};
 ghost use Rattle.cl_model.specs.States.{Verdict};
 ghost use Rattle.cl_registry.specs.Tables.{Shown, IsKept, state_of};
 ghost use Rattle.cl_tasks.specs.Turns.{Expects};
-ghost use Rattle.cl_schedule.specs.Counting.{CountGrows, faults, owed, owed_of, told_faults};
+ghost use Rattle.cl_schedule.specs.Counting.{CountGrows, faults, owed_fault, owed_of, told_faults};
 ghost use Rattle.cl_schedule.specs.Nearing.{AtHand, IsNear, calls_after};
 ghost use Rattle.cl_schedule.specs.Paying.{PaysFor, StartsWithin};
 ghost use Rattle.cl_schedule.specs.Rooms.{HasTurned};
@@ -42,7 +42,7 @@ pub(crate) fn read_on<T: Told, S: Source<T>>(
     ensures seated { (x : Shown) (q : ℕ) (r : requests.Request) → TaskIsReady T.told x task reply r
         → IsSeated T.told x result.task result.call q r }
     ensures less { result.task.left < task.left }
-    ensures faults { CountGrows (told_faults reply) (owed result.call)
+    ensures faults { CountGrows (told_faults reply) (owed_fault result.call)
         (S.refused source.old) (S.refused source.new) }
     ensures known { (x : Shown) (r : requests.Request) (v : Verdict)
         → AtHand (state_of x) r v task reply → task.request ≡ Some r
@@ -71,7 +71,7 @@ pub(crate) fn begin<T: Told, S: Source<T>>(
         → IsSeated T.told x s.task s.call q request) }
     ensures request { IfErr result (λ f. f.request ≡ request) }
     ensures memory { IfErr result (λ f. f.answer ≡ answers.Memory) }
-    ensures faults { IfOk result (λ s. CountGrows 0 (owed s.call)
+    ensures faults { IfOk result (λ s. CountGrows 0 (owed_fault s.call)
         (S.refused source.old) (S.refused source.new)) }
     ensures unread { OnErr result (source.new ≡ source.old) }
     ensures known { IfOk result (λ s. (x : Shown) (v : Verdict)
@@ -98,7 +98,7 @@ pub(crate) fn advance<T: Told, S: Source<T>>(
     requires seated { IsSeatedAt T.told registry.old seat.task seat.call q }
     ensures turned { IfOk result (HasTurned T.told registry.old registry.new q (Some seat)) }
     ensures faults { IfOk result (λ o.
-        CountGrows (faults registry.old.answers + owed seat.call)
+        CountGrows (faults registry.old.answers + owed_fault seat.call)
         (faults registry.new.answers + owed_of o) (S.refused source.old) (S.refused source.new)) }
     ensures stray { IfErr result (λ e. (e ≡ ServeFault.Stray) × (T.told ≡ None)) }
     ensures kept { IsKept T.told registry.new }

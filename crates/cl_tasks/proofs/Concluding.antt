@@ -7,7 +7,7 @@ use Rattle.cl_model.specs.declared.request.Request.TheVariants as requests
 use Rattle.cl_model.specs.declared.verdict.Verdict as verdict
 use Rattle.cl_model.specs.declared.verdict.Verdict.TheVariants as verdicts
 use Rattle.cl_model.specs.Content.{Content}
-use Rattle.cl_findings.specs.Findings.{Answered, Based, grounded}
+use Rattle.cl_findings.specs.Findings.{Answered, Based, grounded_answer}
 use Rattle.cl_registry.specs.Tables.{Shown}
 use Rattle.cl_tasks.specs.Ends.{ConcludesBy, IsAftermath}
 use Rattle.cl_tasks.specs.Follows.{EndsAsRefused, LooksAgain, NoFault}
@@ -22,7 +22,7 @@ use Rattle.cl_tasks.proofs.Ending.{Ended, concludes}
 
 -- of this finding
 pub concludes_found : {A : Type 0} (told : Option Content) (j : Job A) (f : Answered) (v : verdict.Verdict) (b : Based) (holds : Shown → Type 0) (a : Aftermath A) (n : Next A) → IsJob told j.path.config j → Ended told j v b holds → IsAftermath j a
-    → f ≡ grounded j.request v b → ConcludesBy j.q a f n → Leads told j (past_room j) holds n
+    → f ≡ grounded_answer j.request v b → ConcludesBy j.q a f n → Leads told j (past_room j) holds n
 concludes_found told j f v b holds a n job ended is same by = concludes told j v b holds a n job ended is (subst (λ (u : Answered). ConcludesBy j.q a u n) same by)
 
 -- it reads nothing, and posts no fault

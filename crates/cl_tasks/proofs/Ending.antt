@@ -7,10 +7,10 @@ use Rattle.cl_model.specs.declared.verdict.Verdict as verdict
 use Rattle.cl_model.specs.Content.{Content}
 use Rattle.cl_model.specs.Homes.{World}
 use Rattle.cl_model.specs.Plans.{Plan}
-use Rattle.cl_model.specs.States.{State, recorded}
+use Rattle.cl_model.specs.States.{State, recorded_definer}
 use Rattle.cl_findings.specs.declared.load.Target.{Target}
 use Rattle.cl_findings.specs.declared.load.Target.TheVariants as targets
-use Rattle.cl_findings.specs.Findings.{Based, Rests, loader_of, name_of, grounded}
+use Rattle.cl_findings.specs.Findings.{Based, Rests, loader_of, name_of, grounded_answer}
 use Rattle.cl_registry.specs.Tables.{Shown, records_of, state_of}
 use Rattle.cl_tasks.specs.Calls.{calls_in, past_loads}
 use Rattle.cl_tasks.specs.Ends.{ConcludesBy, IsAftermath, IsCheck, IsForEntry, IsNoResolution, IsOwnTarget}
@@ -36,7 +36,7 @@ use Rattle.cl_tasks.proofs.Said.{IsRecordIn, OwnFails, Settling, Stood, failure_
 pub record Ended {A : Type 0} (told : Option Content) (j : Job A) (v : verdict.Verdict) (b : Based) (holds : Shown → Type 0) : Type 0 where
   pub stood : Stood told j.path.config j.request v b holds
   pub failure : IsFailure v
-  pub load : IsOwnTarget j.target → Rests told (grounded (load_of j.request) v b)
+  pub load : IsOwnTarget j.target → Rests told (grounded_answer (load_of j.request) v b)
   pub record_is : IsRecordIn b.refused
   pub facts : (x : Shown) → holds x → AreSo x (target_facts j.request j.target)
 
@@ -50,7 +50,7 @@ some_left targets.Own = omega arith
 some_left (targets.Reference d) = omega arith
 
 answers_so : {A : Type 0} (told : Option Content) (j : Job A) (v : verdict.Verdict) (b : Based) (holds : Shown → Type 0) → IsJob told j.path.config j → Ended told j v b holds → IsOwnTarget j.target × IsNoResolution j.request
-    → Leads told j (past_room j) holds (record { stage = stages.Done j.q; turn = turn.Post (grounded j.request v b) })
+    → Leads told j (past_room j) holds (record { stage = stages.Done j.q; turn = turn.Post (grounded_answer j.request v b) })
 answers_so told j v b holds job e is =
     leads_post refl (some_left j.target) (past_has j) (λ x config named consistent h. failure_backed told j.path.config j.request v b holds e.stood is.1 e.failure x config named h)
     (λ g x s h. own_comes told j.path.config j.request v b holds (own_fails told j v b holds e is.0) g x s h)
@@ -68,9 +68,9 @@ check_calls {A = A} r targets.Own loader name i w p s own is =
 check_calls r (targets.Reference d) loader name i w p s own is = absurd own
 
 checks_so : {A : Type 0} (told : Option Content) (j : Job A) (v : verdict.Verdict) (b : Based) (holds : Shown → Type 0) (r : Request) (loader : ℕ) (name : List ℕ) → IsJob told j.path.config j → Ended told j v b holds → IsCheck j r loader name
-    → Leads told j (past_room j) holds (record { stage = stages.Resolve (resolutions.Checking (record { q = j.q; request = r; finding = grounded j.request v b })); turn = turn.Look loader name })
+    → Leads told j (past_room j) holds (record { stage = stages.Resolve (resolutions.Checking (record { q = j.q; request = r; finding = grounded_answer j.request v b })); turn = turn.Look loader name })
 checks_so told j v b holds r loader name job e is =
-    let load : Rests told (grounded (load_of r) v b) = subst (λ (q : Request). Rests told (grounded (load_of q) v b)) (sym is.same) (e.load is.own) in
+    let load : Rests told (grounded_answer (load_of r) v b) = subst (λ (q : Request). Rests told (grounded_answer (load_of q) v b)) (sym is.same) (e.load is.own) in
     record {
       kept = record {
         index = is.index;
@@ -107,14 +107,14 @@ settle_calls r targets.Own d w p s is = absurd cc
 settle_calls r (targets.Reference e) d w p s is = omega arith
 
 settles_so : {A : Type 0} (told : Option Content) (j : Job A) (v : verdict.Verdict) (b : Based) (holds : Shown → Type 0) (e : entries.Entry A) → IsJob told j.path.config j → Ended told j v b holds → IsForEntry j e
-    → Leads told j (past_room j) holds (record { stage = stages.Resolve (resolutions.Settling e); turn = turn.Settle (grounded j.request v b) })
+    → Leads told j (past_room j) holds (record { stage = stages.Resolve (resolutions.Settling e); turn = turn.Settle (grounded_answer j.request v b) })
 settles_so told j v b holds e job ended is =
     let c = j.path.config in
     let d = e.d.value.class in
     let rows : is.row.value.class ≡ d = ap (λ r. r.class) (sym is.class) in
-    let kept : (x : Shown) → holds x → recorded (records_of x) (loader_of j.request) d.name ≡ Some d.loader =
+    let kept : (x : Shown) → holds x → recorded_definer (records_of x) (loader_of j.request) d.name ≡ Some d.loader =
     λ x h.
-    subst (λ (k : Class). recorded (records_of x) (loader_of j.request) k.name ≡ Some k.loader) rows
+    subst (λ (k : Class). recorded_definer (records_of x) (loader_of j.request) k.name ≡ Some k.loader) rows
     (subst (λ (t : Target _). AreSo x (target_facts j.request t)) is.target (ended.facts x h)).0 in
     let resolves : j.request ≡ requests.Resolve (loader_of j.request) d.name e.index =
     sym is.same ∙ is.of ∙ ap (λ (q : Request). requests.Resolve (loader_of q) d.name e.index) is.same in
@@ -132,7 +132,7 @@ settles_so told j v b holds e job ended is =
       calls = λ g x p served plan h. settle_calls j.request j.target is.row g.world p (state_of x) is.target;
       keeps = λ x h. record {
         frames = tt;
-        facts = (subst (λ (q : Request). recorded (records_of x) (loader_of q) d.name ≡ Some d.loader) (sym is.same) (kept x h), tt);
+        facts = (subst (λ (q : Request). recorded_definer (records_of x) (loader_of q) d.name ≡ Some d.loader) (sym is.same) (kept x h), tt);
       };
       backed = λ x config named consistent h. may_settle told c j.request d e.index v b holds ended.stood may x config named h;
       follows = λ g x s h. settled_next told c j.request d e.index v b holds ended.stood may g x s h;
@@ -141,7 +141,7 @@ settles_so told j v b holds e job ended is =
 -- ---- all
 
 pub concludes : {A : Type 0} (told : Option Content) (j : Job A) (v : verdict.Verdict) (b : Based) (holds : Shown → Type 0) (a : Aftermath A) (n : Next A) → IsJob told j.path.config j → Ended told j v b holds → IsAftermath j a
-    → ConcludesBy j.q a (grounded j.request v b) n → Leads told j (past_room j) holds n
+    → ConcludesBy j.q a (grounded_answer j.request v b) n → Leads told j (past_room j) holds n
 concludes told j v b holds aftermaths.Answer n job e is by = subst (λ (m : Next _). Leads told j (past_room j) holds m) (sym by) (answers_so told j v b holds job e is)
 concludes told j v b holds (aftermaths.Check r loader name) n job e is by = subst (λ (m : Next _). Leads told j (past_room j) holds m) (sym by) (checks_so told j v b holds r loader name job e is)
 concludes told j v b holds (aftermaths.Settle entry) n job e is by = subst (λ (m : Next _). Leads told j (past_room j) holds m) (sym by) (settles_so told j v b holds entry job e is)

@@ -19,7 +19,7 @@ use Rattle.cl_model.specs.Homes.{World}
 use Rattle.cl_model.specs.Machine.{AnswersPlan, IsSound, Setting}
 use Rattle.cl_model.specs.Plans as plans
 use Rattle.cl_model.specs.Service.{ComesTo}
-use Rattle.cl_model.specs.States.{State, Verdict, IsArrayOf, IsArrayOfBase, IsClass, Wrong, recorded, settled_to}
+use Rattle.cl_model.specs.States.{State, Verdict, IsArrayOf, IsArrayOfBase, IsClass, Wrong, recorded_definer, settled_to}
 use Rattle.cl_model.specs.States as states
 use Rattle.cl_model.specs.Tables.{Bears, Records}
 use Rattle.cl_model.specs.Texts.{VerdictNames}
@@ -31,7 +31,7 @@ use Rattle.cl_model.proofs.Service.{resolve_wants, said_comes}
 use Rattle.cl_model.proofs.Tables.{recorded_reached}
 use Rattle.cl_model.proofs.Bind.{some_same}
 use Rattle.cl_config.specs.Views.{Configured}
-use Rattle.cl_findings.specs.Findings.{Answered, Based, Rests, loader_of, grounded, ungrounded}
+use Rattle.cl_findings.specs.Findings.{Answered, Based, Rests, loader_of, grounded_answer, ungrounded_answer}
 use Rattle.cl_hierarchy.specs.Rows.{Rowed}
 use Rattle.cl_registry.proofs.Named.{recorded_is_named}
 use Rattle.cl_findings.specs.References.{EndsAtClass, EndsAtOnce, IsAtClass, IsAtOnce, class_basis, entry_basis}
@@ -79,7 +79,7 @@ bears_comes : (g : Setting) (s : State) (l : ℕ) (n : List ℕ) (i : ℕ) (v : 
 bears_comes g s l n i v bears answer = said_comes g s (plans.Resolve l n i) v (resolve_wants l n i) (borne_said g s (plans.Resolve l n i) v bears answer)
 
 pub leads_never : (A : Type 0) (told : Option Content) (c : Configured) (q : ℕ) (r : Request) (d : Class) (i : ℕ) (v : verdict.Verdict) (b : Based) (room : Room) (holds : Shown → Type 0) → Stood told c r v b holds → r ≡ requests.Resolve (loader_of r) d.name i → IsNoneSettled v → 0 < room.turns → HasPost room
-    → LeadsBy {A = A} told c q r room holds (record { stage = stages.Done q; turn = turn.Post (grounded r v b) })
+    → LeadsBy {A = A} told c q r room holds (record { stage = stages.Done q; turn = turn.Post (grounded_answer r v b) })
 leads_never A told c q r d i v b room holds stood is never more post =
     let bears = λ (s : State). resolving r d i (λ (k : Request). Bears s (request_of k) (verdict_of v)) is (never_bears s (loader_of r) d.name i v never) in
     leads_post refl more post
@@ -99,7 +99,7 @@ leads_never A told c q r d i v b room holds stood is never more post =
 -- ---- an entry is settled
 
 pub leads_settles : (A : Type 0) (told : Option Content) (c : Configured) (q : ℕ) (r : Request) (d : Class) (i : ℕ) (v : verdict.Verdict) (b : Based) (room : Room) (holds : Shown → Type 0) (kept : entries.Entry A) → Stood told c r v b holds → Settling r d i v holds → IsEntry c kept → kept.q ≡ q → kept.request ≡ r
-    → ((x : Shown) → holds x → EntryTold kept x) → 1 < room.turns → HasSettle room → LeadsBy {A = A} told c q r room holds (record { stage = stages.Resolve (resolutions.Settling kept); turn = turn.Settle (grounded r v b) })
+    → ((x : Shown) → holds x → EntryTold kept x) → 1 < room.turns → HasSettle room → LeadsBy {A = A} told c q r room holds (record { stage = stages.Resolve (resolutions.Settling kept); turn = turn.Settle (grounded_answer r v b) })
 leads_settles A told c q r d i v b room holds kept stood may entry number same told_so more two = record {
   kept = entry;
   number = number;
@@ -115,11 +115,11 @@ leads_settles A told c q r d i v b room holds kept stood may entry number same t
 -- ---- what is settled is the answer
 
 -- what is settled for the entry that a request resolves
-entry_settled : (x : Shown) (l : ℕ) (d : Class) (i : ℕ) (s : Settled) → recorded (records_of x) l d.name ≡ Some d.loader → settled_at x d i ≡ Some s → settled_by x (requests.Resolve l d.name i) ≡ Some s
+entry_settled : (x : Shown) (l : ℕ) (d : Class) (i : ℕ) (s : Settled) → recorded_definer (records_of x) l d.name ≡ Some d.loader → settled_at x d i ≡ Some s → settled_by x (requests.Resolve l d.name i) ≡ Some s
 entry_settled x l d i s kept at = rw (kept) at
 
 -- what a reference is settled to is the answer of a resolution that gets to it
-settled_comes : (g : Setting) (s : State) (l : ℕ) (d : Class) (i : ℕ) (v : Verdict) → IsSound g s → recorded s.records l d.name ≡ Some d.loader → settled_to s.settled d i ≡ Some v → ComesTo g s (plans.Resolve l d.name i) v
+settled_comes : (g : Setting) (s : State) (l : ℕ) (d : Class) (i : ℕ) (v : Verdict) → IsSound g s → recorded_definer s.records l d.name ≡ Some d.loader → settled_to s.settled d i ≡ Some v → ComesTo g s (plans.Resolve l d.name i) v
 settled_comes g s l d i v sound kept settled =
     let q = plans.Resolve l d.name i in
     let p = plan_exists g.world q in
@@ -130,8 +130,8 @@ settled_comes g s l d i v sound kept settled =
     one_class : (e : Class) → Records s l d.name e → d ≡ e
     one_class e is = let same : d.loader ≡ e.loader = some_same d.loader e.loader (sym kept ∙ is.1) in rw (same, sym is.0) refl
 
-pub leads_shared : (A : Type 0) (told : Option Content) (c : Configured) (q : ℕ) (r : Request) (d : Class) (i : ℕ) (s : Arc Settled Global) (room : Room) (holds : Shown → Type 0) → r ≡ requests.Resolve (loader_of r) d.name i → loader_of r < length c.loaders → ((x : Shown) → holds x → recorded (records_of x) (loader_of r) d.name ≡ Some d.loader)
-    → ((x : Shown) → holds x → IsSettledIn x d i s.value) → 0 < room.turns → HasPost room → LeadsBy {A = A} told c q r room holds (record { stage = stages.Done q; turn = turn.Post (ungrounded r (answers.Shared s)) })
+pub leads_shared : (A : Type 0) (told : Option Content) (c : Configured) (q : ℕ) (r : Request) (d : Class) (i : ℕ) (s : Arc Settled Global) (room : Room) (holds : Shown → Type 0) → r ≡ requests.Resolve (loader_of r) d.name i → loader_of r < length c.loaders → ((x : Shown) → holds x → recorded_definer (records_of x) (loader_of r) d.name ≡ Some d.loader)
+    → ((x : Shown) → holds x → IsSettledIn x d i s.value) → 0 < room.turns → HasPost room → LeadsBy {A = A} told c q r room holds (record { stage = stages.Done q; turn = turn.Post (ungrounded_answer r (answers.Shared s)) })
 leads_shared A told c q r d i s room holds is asked kept settled more post =
     leads_post refl more post
     (λ x config named consistent h. record {
@@ -199,7 +199,7 @@ class_names count c (verdicts.Array dims k) h below = subst (λ (d : Class). d.l
 class_names count c (verdicts.Error kind k) h below = error_names count c k kind h below
 class_names count c other h below = absurd h
 
-entry_stood : (A : Type 0) (told : Option Content) (c config : Configured) (e : entries.Entry A) (v : verdict.Verdict) → IsEntry c e → config ≡ c → IsAtOnce e.request e.d.value (verdict_of v) → Rests told (grounded e.request v (entry_basis config e.request e.d.value.class))
+entry_stood : (A : Type 0) (told : Option Content) (c config : Configured) (e : entries.Entry A) (v : verdict.Verdict) → IsEntry c e → config ≡ c → IsAtOnce e.request e.d.value (verdict_of v) → Rests told (grounded_answer e.request v (entry_basis config e.request e.d.value.class))
     → Stood told c e.request v (entry_basis config e.request e.d.value.class) (EntryTold e)
 entry_stood A told c config e v entry same ends rests = record {
   rests = rests;
@@ -213,7 +213,7 @@ entry_stood A told c config e v entry same ends rests = record {
   };
 }
 
-class_stood : (A : Type 0) (told : Option Content) (c config : Configured) (e : entries.Entry A) (k : Rowed) (v : verdict.Verdict) → IsEntry c e → config ≡ c → IsAtClass e.request e.d.value k (verdict_of v) → Rests told (grounded e.request v (class_basis config e.request e.d.value.class k.class))
+class_stood : (A : Type 0) (told : Option Content) (c config : Configured) (e : entries.Entry A) (k : Rowed) (v : verdict.Verdict) → IsEntry c e → config ≡ c → IsAtClass e.request e.d.value k (verdict_of v) → Rests told (grounded_answer e.request v (class_basis config e.request e.d.value.class k.class))
     → Stood told c e.request v (class_basis config e.request e.d.value.class k.class) (NamedTold e k)
 class_stood A told c config e k v entry same ends rests = record {
   rests = rests;
@@ -233,7 +233,7 @@ class_stood A told c config e k v entry same ends rests = record {
 
 -- a finding that says this, on this basis
 pub record IsFound (told : Option Content) (f : Answered) (r : Request) (v : verdict.Verdict) (b : Based) : Type 0 where
-  pub is : f ≡ grounded r v b
+  pub is : f ≡ grounded_answer r v b
   pub rests : Rests told f
 
 pub posts_entry : (A : Type 0) (told : Option Content) (c config : Configured) (e : entries.Entry A) (v : verdict.Verdict) (f : Answered) (n : Next A) → IsEntry c e → config ≡ c → IsAtOnce e.request e.d.value (verdict_of v) → IsNoneSettled v
@@ -265,7 +265,7 @@ settles_class A told c config e kept k v f n entry same_kept same ends kind h is
     (same_entry c e kept entry same_kept) same_kept.number same_kept.request (λ x t. same_told x e kept same_kept (t.0, tt)) (omega arith) (λ w p s. omega arith))
 
 -- what the entry was found to be settled to is the answer
-pub shares_entry : (A : Type 0) (told : Option Content) (c : Configured) (e : entries.Entry A) (o : Option (Arc Settled Global)) (s : Arc Settled Global) (n : Next A) → IsEntry c e → o ≡ Some s → n ≡ record { stage = stages.Done e.q; turn = turn.Post (ungrounded e.request (answers.Shared s)) }
+pub shares_entry : (A : Type 0) (told : Option Content) (c : Configured) (e : entries.Entry A) (o : Option (Arc Settled Global)) (s : Arc Settled Global) (n : Next A) → IsEntry c e → o ≡ Some s → n ≡ record { stage = stages.Done e.q; turn = turn.Post (ungrounded_answer e.request (answers.Shared s)) }
     → LeadsBy told c e.q e.request reference_room (SettledTold e o) n
 shares_entry A told c e o s n entry found is =
     subst (λ (m : Next A). LeadsBy told c e.q e.request reference_room (SettledTold e o) m) (sym is)

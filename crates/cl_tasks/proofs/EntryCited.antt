@@ -8,7 +8,7 @@ use Rattle.cl_descriptors.specs.declared.types.DescriptorFault.{DescriptorFault}
 use Rattle.cl_descriptors.specs.declared.types.DescriptorFault.TheVariants.{Memory, Malformed, TooManyDimensions, TooManyUnits}
 use Rattle.cl_descriptors.specs.declared.types.FieldType.{FieldType}
 use Rattle.cl_descriptors.proofs.Methods.{whole_field_again, whole_method_again}
-use Rattle.cl_classfile.specs.Files.{Key, Name, Reference, Symbol, ToField, ToMethod, ToInterfaceMethod, CitesField, CitesMethod, CitesInterfaceMethod, field_key, method_key, class_type, is_array_name, named_type, typed, typed_by}
+use Rattle.cl_classfile.specs.Files.{Key, Name, Reference, Symbol, ToField, ToMethod, ToInterfaceMethod, CitesField, CitesMethod, CitesInterfaceMethod, field_key, method_key, class_type, is_array_name, named_type, typed_reference, typed_by}
 use Rattle.cl_classfile.specs.Pool.{NamesType}
 use Rattle.cl_classfile.specs.References.{IsFieldSymbol, IsMethodSymbol}
 use Rattle.cl_classfile.proofs.Classes.{class_begins}
@@ -71,35 +71,35 @@ pub record IsTyped (kind : Kind) (text : Name) (o : Option Reference) : Type 0 w
   pub key : Key
   pub is : o ≡ typed_by (reference_of_kind kind) (named_type text) (Some key)
 
-pub typed_field : (s : Symbol) (o : Option Reference) → IsFieldSymbol s → typed (CitesField s) ≡ o → IsTyped kinds.Field s.class o
+pub typed_field : (s : Symbol) (o : Option Reference) → IsFieldSymbol s → typed_reference (CitesField s) ≡ o → IsTyped kinds.Field s.class o
 typed_field s o h e = let k = field_keyed s h in record { key = k.0; is = sym e ∙ ap (typed_by ToField (named_type s.class)) k.1 }
 
-pub typed_method : (s : Symbol) (o : Option Reference) → IsMethodSymbol s → typed (CitesMethod s) ≡ o → IsTyped kinds.Method s.class o
+pub typed_method : (s : Symbol) (o : Option Reference) → IsMethodSymbol s → typed_reference (CitesMethod s) ≡ o → IsTyped kinds.Method s.class o
 typed_method s o h e = let k = method_keyed s h in record { key = k.0; is = sym e ∙ ap (typed_by ToMethod (named_type s.class)) k.1 }
 
-pub typed_interface : (s : Symbol) (o : Option Reference) → IsMethodSymbol s → typed (CitesInterfaceMethod s) ≡ o → IsTyped kinds.InterfaceMethod s.class o
+pub typed_interface : (s : Symbol) (o : Option Reference) → IsMethodSymbol s → typed_reference (CitesInterfaceMethod s) ≡ o → IsTyped kinds.InterfaceMethod s.class o
 typed_interface s o h e = let k = method_keyed s h in record { key = k.0; is = sym e ∙ ap (typed_by ToInterfaceMethod (named_type s.class)) k.1 }
 
 member_tells : (kind : Kind) (text : Name) (o : Option Reference) (a : Asked) → IsTyped kind text o → AsksMember text a → TellsEntry o a
-member_tells kind text o a typed asks =
-    subst (λ (r : Option Reference). TellsEntry r a) (sym typed.is)
-    (subst (λ (t : Option FieldType). TellsEntry (typed_by (reference_of_kind kind) t (Some typed.key)) a) (sym asks.named) (asks_kind kind asks.target typed.key a asks.asks))
+member_tells kind text o a typed_reference asks =
+    subst (λ (r : Option Reference). TellsEntry r a) (sym typed_reference.is)
+    (subst (λ (t : Option FieldType). TellsEntry (typed_by (reference_of_kind kind) t (Some typed_reference.key)) a) (sym asks.named) (asks_kind kind asks.target typed_reference.key a asks.asks))
 
 pub member_tells_ok : {E : Type 0} (kind : Kind) (text : Name) (o : Option Reference) (r : Result Asked E) → IsTyped kind text o → IfOk r (AsksMember text) → IfOk r (TellsEntry o)
-member_tells_ok kind text o (Ok a) typed asks = member_tells kind text o a typed asks
-member_tells_ok kind text o (Err e) typed asks = tt
+member_tells_ok kind text o (Ok a) typed_reference asks = member_tells kind text o a typed_reference asks
+member_tells_ok kind text o (Err e) typed_reference asks = tt
 
 member_kind : (kind k : Kind) (text name : Name) (o : Option Reference) → IsTyped kind text o → k ≡ kind → AsksMember text (asked.Class name) → IsKind o name k
-member_kind kind k text name o typed same targets =
+member_kind kind k text name o typed_reference same targets =
     subst (λ (j : Kind). IsKind o name j) (sym same)
     (record {
       target = targets.target;
-      key = typed.key;
-      refers = typed.is ∙ ap (λ (t : Option FieldType). typed_by (reference_of_kind kind) t (Some typed.key)) targets.named;
+      key = typed_reference.key;
+      refers = typed_reference.is ∙ ap (λ (t : Option FieldType). typed_by (reference_of_kind kind) t (Some typed_reference.key)) targets.named;
       named = targets.asks;
     })
 
 pub member_kind_ok : {E : Type 0} (kind : Kind) (text name : Name) (o : Option Reference) (r : Result (Option Kind) E) → IsTyped kind text o → IfOk r (λ k. IfSome k (λ j. (j ≡ kind) × AsksMember text (asked.Class name))) → IfOk r (λ k. IfSome k (IsKind o name))
-member_kind_ok kind text name o (Ok None) typed h = tt
-member_kind_ok kind text name o (Ok (Some k)) typed h = member_kind kind k text name o typed h.0 h.1
-member_kind_ok kind text name o (Err e) typed h = tt
+member_kind_ok kind text name o (Ok None) typed_reference h = tt
+member_kind_ok kind text name o (Ok (Some k)) typed_reference h = member_kind kind k text name o typed_reference h.0 h.1
+member_kind_ok kind text name o (Err e) typed_reference h = tt

@@ -14,13 +14,13 @@ use Rattle.cl_model.specs.Content.{Content}
 use Rattle.cl_model.specs.Machine.{AnswersPlan, Setting}
 use Rattle.cl_model.specs.Plans as plans
 use Rattle.cl_model.specs.Service.{ComesTo}
-use Rattle.cl_model.specs.States.{State, recorded}
+use Rattle.cl_model.specs.States.{State, recorded_definer}
 use Rattle.cl_model.specs.Tables.{Bears}
 use Rattle.cl_model.specs.Views.{request_of, verdict_of}
 use Rattle.cl_model.proofs.Gone.{borne_said, unrecorded_bears}
 use Rattle.cl_model.proofs.Service.{resolve_wants, said_comes}
 use Rattle.cl_config.specs.Views.{Configured}
-use Rattle.cl_findings.specs.Findings.{Answered, Based, Decides, IsWithin, Rests, loader_of, name_of, grounded}
+use Rattle.cl_findings.specs.Findings.{Answered, Based, Decides, IsWithin, Rests, loader_of, name_of, grounded_answer}
 use Rattle.cl_hierarchy.specs.declared.row.ClassRow.{ClassRow}
 use Rattle.cl_registry.specs.Tables.{Shown, state_of}
 use Rattle.cl_tasks.specs.Facts.{AreSo}
@@ -90,7 +90,7 @@ decided false d e = absurd cc
 equal_room : (a b : ℕ) → a ≡ b → a ≤ b
 equal_room a b e = omega (arith, e)
 
-failed_whole : {A : Type 0} (told : Option Content) (c : Configured) (f : Failed A) (failed : IsFailed told c f) → f.finding ≡ grounded f.request failed.verdict failed.basis
+failed_whole : {A : Type 0} (told : Option Content) (c : Configured) (f : Failed A) (failed : IsFailed told c f) → f.finding ≡ grounded_answer f.request failed.verdict failed.basis
 failed_whole told c f failed = found_is f.finding f.request failed.verdict failed.basis failed.same failed.said failed.rests_on
 
 -- what it rests on was told
@@ -98,12 +98,12 @@ failed_facts : {A : Type 0} (told : Option Content) (c : Configured) (f : Failed
 failed_facts told c f failed x h = subst (λ (o : Option Based). AreSo x (basis_facts o)) failed.rests_on h
 
 -- where a content is told, the class of a resolution whose load fails is recorded nowhere
-failed_unrecorded : {A : Type 0} (told : Option Content) (c : Configured) (f : Failed A) → IsFailed told c f → (g : Setting) (x : Shown) → ServedIn told c g (state_of x) → AreSo x (basis_facts f.finding.basis) → recorded (state_of x).records (loader_of f.request) (name_of f.request) ≡ None
+failed_unrecorded : {A : Type 0} (told : Option Content) (c : Configured) (f : Failed A) → IsFailed told c f → (g : Setting) (x : Shown) → ServedIn told c g (state_of x) → AreSo x (basis_facts f.finding.basis) → recorded_definer (state_of x).records (loader_of f.request) (name_of f.request) ≡ None
 failed_unrecorded told c f failed g x served facts =
     let r = f.request in
     let v = failed.verdict in
     let so = failed_facts told c f failed x facts in
-    let load : Rests told (grounded (load_of r) v failed.basis) = subst (λ (k : Answered). Rests told (record k { request = load_of r })) (failed_whole told c f failed) failed.own in
+    let load : Rests told (grounded_answer (load_of r) v failed.basis) = subst (λ (k : Answered). Rests told (record k { request = load_of r })) (failed_whole told c f failed) failed.own in
     let concludes = concludes_at told c g (state_of x) (load_of r) v failed.basis served load failed.config failed.unprepared (so_met x failed.basis so) in
     unrecorded g (state_of x) (loader_of r) (name_of r) v served.sound failed.failure (answered_by g (state_of x) (plans.Load (loader_of r) (name_of r)) failed.basis.refused failed.basis.prepared (verdict_of v) concludes (so_refuses x failed.basis so))
 
@@ -147,15 +147,15 @@ failed_stood told c f failed rests within =
       unprepared = failed.unprepared;
       needs = λ x h. so_met x failed.basis (failed_facts told c f failed x h.before.facts);
       refused = λ x h. so_refuses x failed.basis (failed_facts told c f failed x h.before.facts);
-      within = λ x config named h. subst (λ (k : Configured). IsWithin (length k.loaders) (grounded f.request failed.verdict failed.basis)) (sym config) (subst (λ (k : Answered). IsWithin (length c.loaders) k) whole within);
+      within = λ x config named h. subst (λ (k : Configured). IsWithin (length k.loaders) (grounded_answer f.request failed.verdict failed.basis)) (sym config) (subst (λ (k : Answered). IsWithin (length c.loaders) k) whole within);
     }
 
 -- of a request to resolve, where its class is not recorded, the tables bear any verdict
-unreached_bears : (s : State) (r : Request) (i : ℕ) (v : verdict.Verdict) → r ≡ requests.Resolve (loader_of r) (name_of r) i → recorded s.records (loader_of r) (name_of r) ≡ None → Bears s (request_of r) (verdict_of v)
+unreached_bears : (s : State) (r : Request) (i : ℕ) (v : verdict.Verdict) → r ≡ requests.Resolve (loader_of r) (name_of r) i → recorded_definer s.records (loader_of r) (name_of r) ≡ None → Bears s (request_of r) (verdict_of v)
 unreached_bears s r i v is free = subst (λ (k : Request). Bears s (request_of k) (verdict_of v)) (sym is) (λ d kept. absurd (none-some _ (sym free ∙ kept.1)))
 
 -- and what it answers is what it comes to
-unreached_answers : (g : Setting) (s : State) (r : Request) (i : ℕ) (v : verdict.Verdict) → r ≡ requests.Resolve (loader_of r) (name_of r) i → recorded s.records (loader_of r) (name_of r) ≡ None → AnswersPlan g s (request_of r) (verdict_of v) → ComesTo g s (request_of r) (verdict_of v)
+unreached_answers : (g : Setting) (s : State) (r : Request) (i : ℕ) (v : verdict.Verdict) → r ≡ requests.Resolve (loader_of r) (name_of r) i → recorded_definer s.records (loader_of r) (name_of r) ≡ None → AnswersPlan g s (request_of r) (verdict_of v) → ComesTo g s (request_of r) (verdict_of v)
 unreached_answers g s r i v is free answer =
     let q = plans.Resolve (loader_of r) (name_of r) i in
     let here : AnswersPlan g s q (verdict_of v) = subst (λ (k : Request). AnswersPlan g s (request_of k) (verdict_of v)) is answer in
@@ -170,7 +170,7 @@ failed_comes told c f failed stood g x served h =
 
 failed_leads : {A : Type 0} (told : Option Content) (c : Configured) (f : Failed A) (failed : IsFailed told c f) → Stood told c f.request failed.verdict failed.basis (Unfound A c f)
     → LeadsOn {A = A} told c f.q f.request (task_room (resolving_at c (resolutions.Checking f))) (Unfound A c f) (λ x. TellsNow {A = A} x (resolving_at c (resolutions.Checking f)) (reply.Looked None))
-    (record { stage = stages.Done f.q; turn = turn.Post (grounded f.request failed.verdict failed.basis) })
+    (record { stage = stages.Done f.q; turn = turn.Post (grounded_answer f.request failed.verdict failed.basis) })
 failed_leads {A = A} told c f failed stood =
     let r = f.request in
     let v = failed.verdict in
@@ -188,7 +188,7 @@ failed_leads {A = A} told c f failed stood =
 pub unfound_steps : {A : Type 0} (told : Option Content) (c : Configured) (f : Failed A) (n : Next A) → IsFailed told c f → Rests told f.finding → IsWithin (length c.loaders) f.finding → n ≡ record { stage = stages.Done f.q; turn = turn.Post f.finding }
     → Steps told (resolving_at c (resolutions.Checking f)) (reply.Looked None) n
 unfound_steps {A = A} told c f n failed rests within is =
-    let at : n ≡ record { stage = stages.Done f.q; turn = turn.Post (grounded f.request failed.verdict failed.basis) } =
+    let at : n ≡ record { stage = stages.Done f.q; turn = turn.Post (grounded_answer f.request failed.verdict failed.basis) } =
     is ∙ ap (λ (k : Answered). record { stage = stages.Done f.q; turn = turn.Post k }) (failed_whole told c f failed) in
     subst (λ (m : Next A). Steps told (resolving_at c (resolutions.Checking f)) (reply.Looked None) m) (sym at)
     (record {

@@ -5,7 +5,7 @@ use Rattle.std.proofs.lemmas.List.{length-map}
 use Rattle.cl_classfile.specs.Files.{file_of}
 use Rattle.cl_model.specs.Content.{Content}
 use Rattle.cl_model.specs.Classes.{class, Above, supers}
-use Rattle.cl_model.specs.Frames.{Frame, wanted, accepting}
+use Rattle.cl_model.specs.Frames.{Frame, wanted_supertype, with_accepted}
 use Rattle.cl_model.proofs.Measures.{push_falls, load_falls, accept_falls, pop_falls, turn_falls}
 use Rattle.cl_hierarchy.specs.Drafts.{Drafted}
 use Rattle.cl_hierarchy.specs.Frames.{Framed, frame_of, with_place}
@@ -60,12 +60,12 @@ accept_less told old new place path step =
     let f = frame_of last in
     let t = class top.above.name place in
     let xs = map frame_of before in
-    let grown : frame_of (with_place last place) ≡ accepting f t = accepts_one last (with_place last place) place refl (Some top.above) top.wants in
-    let next = some_of (wanted (frame_of (with_place last place))) step.waits in
-    let frames : frames_of new ≡ xs ++ accepting f t ∷ [] = ap frames_of step.now ∙ map_last before (with_place last place) ∙ ap (λ (y : Frame). xs ++ y ∷ []) grown in
+    let grown : frame_of (with_place last place) ≡ with_accepted f t = accepts_one last (with_place last place) place refl (Some top.above) top.wants in
+    let next = some_of (wanted_supertype (frame_of (with_place last place))) step.waits in
+    let frames : frames_of new ≡ xs ++ with_accepted f t ∷ [] = ap frames_of step.now ∙ map_last before (with_place last place) ∙ ap (λ (y : Frame). xs ++ y ∷ []) grown in
     subst (λ (fs : List Frame). left_while_loading fs < left_once_ended (frames_of old)) (sym frames)
-    (subst (λ (fs : List Frame). left_while_loading (xs ++ accepting f t ∷ []) < left_once_ended fs) (sym top.frames)
-    (accept_falls most most xs f t next.0 (before_within told old before last path step.split) (ap wanted (sym grown) ∙ next.1)))
+    (subst (λ (fs : List Frame). left_while_loading (xs ++ with_accepted f t ∷ []) < left_once_ended fs) (sym top.frames)
+    (accept_falls most most xs f t next.0 (before_within told old before last path step.split) (ap wanted_supertype (sym grown) ∙ next.1)))
 
 -- the end of a frame leaves less
 pub complete_less : (told : Option Content) (old new : Pathed) (place : ℕ) (x : Framed) → IsPath told old → Completes old new place x → left_once_ended (frames_of new) < left_once_ended (frames_of old)
@@ -78,9 +78,9 @@ complete_less told old new place x path step =
     (subst (λ (fs : List Frame). left_once_ended xs < left_once_ended fs) (sym top.frames) (pop_falls most most xs (frame_of last) (before_within told old before last path step.split)))
 
 -- a new frame leaves less
-pub push_less : (told : Option Content) (p : Pathed) (d : Drafted) → IsPath told p → length (supers (file_of d.file)) ≤ most → IsSome (wanted (frame_of (fresh d))) → left_while_loading (frames_of (with_frame p (fresh d))) < left_while_loading (frames_of p)
+pub push_less : (told : Option Content) (p : Pathed) (d : Drafted) → IsPath told p → length (supers (file_of d.file)) ≤ most → IsSome (wanted_supertype (frame_of (fresh d))) → left_while_loading (frames_of (with_frame p (fresh d))) < left_while_loading (frames_of p)
 push_less told p d path few waits =
-    let first = some_of (wanted (frame_of (fresh d))) waits in
+    let first = some_of (wanted_supertype (frame_of (fresh d))) waits in
     subst (λ (fs : List Frame). left_while_loading fs < left_while_loading (frames_of p)) (sym (map_last p.frames (fresh d)))
     (push_falls most most (frames_of p) (frame_of (fresh d)) first.0 (frames_within told p path) few (none_yet (supers (file_of d.file))) first.1)
 
@@ -170,7 +170,7 @@ defined_less xs probes more = above (turns * left_once_ended xs)
     above a = omega arith
 
 -- a class is derived, and its first supertype is looked for
-pub descends_less : (told : Option Content) (p : Pathed) (d : Drafted) (phase : Phase) (probes more : ℕ) → IsPath told p → IsLoading phase → length (supers (file_of d.file)) ≤ most → IsSome (wanted (frame_of (fresh d)))
+pub descends_less : (told : Option Content) (p : Pathed) (d : Drafted) (phase : Phase) (probes more : ℕ) → IsPath told p → IsLoading phase → length (supers (file_of d.file)) ≤ most → IsSome (wanted_supertype (frame_of (fresh d)))
     → left_at Looking (frames_of (with_frame p (fresh d))) more < left_at phase (frames_of p) probes
 descends_less told p d phase probes more path w few waits = loading_less phase (frames_of p) probes (left_while_loading (frames_of (with_frame p (fresh d)))) (most + 7) w (push_less told p d path few waits) turns_more
 

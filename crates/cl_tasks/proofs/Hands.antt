@@ -5,9 +5,9 @@ use Rattle.std.proofs.lemmas.Bool.{eq-eqb, ne_eqb, or_parts, or_from}
 use Rattle.std.proofs.lemmas.Cmp.{nat_eq_equiv, nat_list_eq_equiv}
 use Rattle.cl_classfile.specs.Files.{Name}
 use Rattle.cl_model.specs.Classes.{supers}
-use Rattle.cl_model.specs.Frames.{Frame, asking}
+use Rattle.cl_model.specs.Frames.{Frame, asking_loader}
 use Rattle.cl_model.specs.Plans.{same_ask}
-use Rattle.cl_model.specs.States.{State, recorded}
+use Rattle.cl_model.specs.States.{State, recorded_definer}
 use Rattle.cl_model.specs.Works.{Ask}
 use Rattle.cl_model.proofs.Asks.{same_asked}
 use Rattle.cl_hierarchy.specs.Paths.{Pathed, at_loader}
@@ -91,11 +91,11 @@ abbrev is_free : Option ℕ → Bool
 is_free None = true
 is_free (Some place) = false
 
-pub unrecorded_at : (s : State) (l : ℕ) (n : Name) → recorded s.records l n ≡ None → is_unrecorded s (ask_of n l) ≡ true
+pub unrecorded_at : (s : State) (l : ℕ) (n : Name) → recorded_definer s.records l n ≡ None → is_unrecorded s (ask_of n l) ≡ true
 unrecorded_at s l n h = ap is_free h
 
 -- what is recorded is none that is not
-pub recorded_apart : (s : State) (a : Ask) (l place : ℕ) (n : Name) → is_unrecorded s a ≡ true → recorded s.records l n ≡ Some place → same_ask a (ask_of n l) ≡ false
+pub recorded_apart : (s : State) (a : Ask) (l place : ℕ) (n : Name) → is_unrecorded s a ≡ true → recorded_definer s.records l n ≡ Some place → same_ask a (ask_of n l) ≡ false
 recorded_apart s a l place n h k = at (same_ask a (ask_of n l)) refl
   where
     none : is_unrecorded s (ask_of n l) ≡ false
@@ -107,7 +107,7 @@ recorded_apart s a l place n h k = at (same_ask a (ask_of n l)) refl
 
 -- ---- frames
 
-pub hand_last : (loader : ℕ) (xs : List Frame) (x : Frame) → in_hand loader (xs ++ x ∷ []) ≡ in_hand loader xs ++ (ask_of x.class.name (asking loader xs) ∷ ask_for x.class ∷ [])
+pub hand_last : (loader : ℕ) (xs : List Frame) (x : Frame) → in_hand loader (xs ++ x ∷ []) ≡ in_hand loader xs ++ (ask_of x.class.name (asking_loader loader xs) ∷ ask_for x.class ∷ [])
 hand_last loader [] x = refl
 hand_last loader (y ∷ ys) x = ap (λ (asks : List Ask). ask_of y.class.name loader ∷ ask_for y.class ∷ asks) (hand_last y.class.loader ys x)
 
@@ -115,7 +115,7 @@ hand_last loader (y ∷ ys) x = ap (λ (asks : List Ask). ask_of y.class.name lo
 abbrev pub frame_calls : ℕ → Frame → ℕ
 frame_calls loader x = (1 + away_calls loader x.class.loader) + (length (supers x.file) - (length x.accepted + 1))
 
-pub calls_last : (loader : ℕ) (xs : List Frame) (x : Frame) → hand_calls loader (xs ++ x ∷ []) ≡ hand_calls loader xs + frame_calls (asking loader xs) x
+pub calls_last : (loader : ℕ) (xs : List Frame) (x : Frame) → hand_calls loader (xs ++ x ∷ []) ≡ hand_calls loader xs + frame_calls (asking_loader loader xs) x
 calls_last loader [] x = let c = frame_calls loader x in omega arith
 calls_last loader (y ∷ ys) x = let ih = calls_last y.class.loader ys x in omega arith
 

@@ -6,8 +6,8 @@ use Rattle.cl_classfile.specs.Files.{Name, File, file_of}
 use Rattle.cl_model.specs.declared.class.Class.{Class}
 use Rattle.cl_model.specs.Content.{Content}
 use Rattle.cl_model.specs.Classes.{class, Above, supers, misfit}
-use Rattle.cl_model.specs.States.{recorded, Keeps}
-use Rattle.cl_model.specs.Frames.{Frame, wanted, asking, accepting, KeepsAccepted, AllKept, NamedAs}
+use Rattle.cl_model.specs.States.{recorded_definer, Keeps}
+use Rattle.cl_model.specs.Frames.{Frame, wanted_supertype, asking_loader, with_accepted, KeepsAccepted, AllKept, NamedAs}
 use Rattle.cl_config.specs.Views.{Configured}
 use Rattle.cl_hierarchy.specs.Rows.{FitsAs, Rowed}
 use Rattle.cl_hierarchy.specs.Drafts.{Drafted}
@@ -17,7 +17,7 @@ use Rattle.cl_model.proofs.Stacks.{complete_is_kept}
 use Rattle.cl_model.proofs.Ancestors.{class_at}
 use Rattle.cl_hierarchy.proofs.Frames.{accepts_one}
 use Rattle.cl_hierarchy.proofs.Ends.{under_last, asking_push}
-use Rattle.cl_registry.specs.Tables.{Shown, state_of, records_of, looked}
+use Rattle.cl_registry.specs.Tables.{Shown, state_of, records_of, looked_row}
 use Rattle.cl_tasks.specs.Facts.{AllHave, IsRecordedAs, HasAccepted, HaveAccepted}
 
 -- what a frame has accepted is recorded, and fits
@@ -29,7 +29,7 @@ Has x f = HaveAccepted x f.class f.accepted (supers f.file)
 one_kept : (x : Shown) (c t : Class) (a : Above) → HasAccepted x c t a → Keeps (state_of x) c.loader t
 one_kept x c t a h =
     subst (λ (k : Class). Keeps (state_of x) c.loader k) h.is
-    (subst (λ (n : Name). recorded (records_of x) c.loader n ≡ Some h.row.class.loader) (sym h.recorded.records.0) h.recorded.records.1)
+    (subst (λ (n : Name). recorded_definer (records_of x) c.loader n ≡ Some h.row.class.loader) (sym h.recorded.records.0) h.recorded.records.1)
 
 accepted_kept : (x : Shown) (c : Class) (ts : List Class) (others : List Above) → HaveAccepted x c ts others → AllByRecursion (Keeps (state_of x) c.loader) ts
 accepted_kept x c [] others h = tt
@@ -61,23 +61,23 @@ pub map_last : (xs : List Framed) (x : Framed) → map frame_of (xs ++ x ∷ [])
 map_last [] x = refl
 map_last (y ∷ ys) x = ap (λ (fs : List Frame). frame_of y ∷ fs) (map_last ys x)
 
-pub sought_last : (name : Name) (xs : List Framed) (x : Framed) → sought name (xs ++ x ∷ []) ≡ name_of (wanted (frame_of x))
+pub sought_last : (name : Name) (xs : List Framed) (x : Framed) → sought name (xs ++ x ∷ []) ≡ name_of (wanted_supertype (frame_of x))
 sought_last name [] x = refl
-sought_last name (y ∷ ys) x = sought_last (name_of (wanted (frame_of y))) ys x
+sought_last name (y ∷ ys) x = sought_last (name_of (wanted_supertype (frame_of y))) ys x
 
-pub stands_last : (c : Configured) (loader : ℕ) (name : Name) (xs : List Framed) (x : Framed) → AllStand c loader name (xs ++ x ∷ []) → FrameStands c (asking loader (map frame_of xs)) (sought name xs) x
+pub stands_last : (c : Configured) (loader : ℕ) (name : Name) (xs : List Framed) (x : Framed) → AllStand c loader name (xs ++ x ∷ []) → FrameStands c (asking_loader loader (map frame_of xs)) (sought name xs) x
 stands_last c loader name [] x h = h.0
-stands_last c loader name (y ∷ ys) x h = stands_last c y.draft.class.loader (name_of (wanted (frame_of y))) ys x h.1
+stands_last c loader name (y ∷ ys) x h = stands_last c y.draft.class.loader (name_of (wanted_supertype (frame_of y))) ys x h.1
 
 -- what the last frame of a path waits for
 pub record Top (p : Pathed) (before : List Framed) (last : Framed) : Type 0 where
   pub above : Above
-  pub wants : wanted (frame_of last) ≡ Some above
+  pub wants : wanted_supertype (frame_of last) ≡ Some above
   pub loader : at_loader p ≡ last.draft.class.loader
   pub name : at_name p ≡ above.name
   pub judged : (t : Class) (f : File) → misfit_under p.frames t f ≡ misfit last.draft.class above.role t f
   pub frames : frames_of p ≡ map frame_of before ++ frame_of last ∷ []
-  pub stands : FrameStands p.config (asking p.loader (map frame_of before)) (sought p.name before) last
+  pub stands : FrameStands p.config (asking_loader p.loader (map frame_of before)) (sought p.name before) last
 
 pub some_of : (o : Option Above) → IsSome o → (a : Above) × (o ≡ Some a)
 some_of None h = absurd cc
@@ -86,11 +86,11 @@ some_of (Some a) h = (a, refl)
 pub top_of : (told : Option Content) (p : Pathed) (before : List Framed) (last : Framed) → IsPath told p → p.frames ≡ before ++ last ∷ [] → Top p before last
 top_of told p before last path split =
     let stands = stands_last p.config p.loader p.name before last (subst (λ (xs : List Framed). AllStand p.config p.loader p.name xs) split path.stand) in
-    let w = some_of (wanted (frame_of last)) stands.waits in
+    let w = some_of (wanted_supertype (frame_of last)) stands.waits in
     record {
       above = w.0;
       wants = w.1;
-      loader = ap (λ (xs : List Framed). asking p.loader (map frame_of xs)) split ∙ asking_push p.loader before last;
+      loader = ap (λ (xs : List Framed). asking_loader p.loader (map frame_of xs)) split ∙ asking_push p.loader before last;
       name = ap (λ (xs : List Framed). sought p.name xs) split ∙ sought_last p.name before last ∙ ap name_of w.1;
       judged = λ t f. ap (λ (xs : List Framed). misfit_under xs t f) split ∙ under_last before last t f ∙ ap (λ (o : Option Above). misfit_in last o t f) w.1;
       frames = ap (λ (xs : List Framed). map frame_of xs) split ∙ map_last before last;
@@ -105,7 +105,7 @@ more_accepted x c [] t (b ∷ others) a h e k = let same : a ≡ b = cc in (subs
 more_accepted x c (u ∷ us) t [] a h e k = absurd h
 more_accepted x c (u ∷ us) t (b ∷ others) a h e k = (h.0, more_accepted x c us t others a h.1 e k)
 
-pub accepting_has : (x : Shown) (f : Frame) (a : Above) (t : Class) → Has x f → wanted f ≡ Some a → HasAccepted x f.class t a → Has x (accepting f t)
+pub accepting_has : (x : Shown) (f : Frame) (a : Above) (t : Class) → Has x f → wanted_supertype f ≡ Some a → HasAccepted x f.class t a → Has x (with_accepted f t)
 accepting_has x f a t h want k = more_accepted x f.class f.accepted t (supers f.file) a h want k
 
 -- the last frame has accepted a row that was told and fits
@@ -114,7 +114,7 @@ pub takes : (x : Shown) (p : Pathed) (before : List Framed) (last : Framed) (row
 takes x p before last row top h told fits =
     let c = last.draft.class in
     let a = top.above in
-    let f : frame_of (with_place last row.class.loader) ≡ accepting (frame_of last) (class a.name row.class.loader) = accepts_one last (with_place last row.class.loader) row.class.loader refl (Some a) top.wants in
+    let f : frame_of (with_place last row.class.loader) ≡ with_accepted (frame_of last) (class a.name row.class.loader) = accepts_one last (with_place last row.class.loader) row.class.loader refl (Some a) top.wants in
     let by_name : IsRecordedAs x (at_loader p) a.name row = subst (λ (n : Name). IsRecordedAs x (at_loader p) n row) top.name told in
     let by_loader : IsRecordedAs x c.loader a.name row = subst (λ (l : ℕ). IsRecordedAs x l a.name row) top.loader by_name in
     subst (λ (z : Frame). Has x z) (sym f) (accepting_has x (frame_of last) a (class a.name row.class.loader) h top.wants (record {
@@ -177,12 +177,12 @@ push_holds x p d h = framed_push (Has x) p.frames (fresh d) h (none_accepted x d
 -- ---- a class whose supertypes were all accepted
 
 -- each supertype is recorded by the class's loader
-pub whole_recorded : (x : Shown) (f : Frame) → Has x f → wanted f ≡ None → AllByRecursion (λ (a : Above). IsSome (recorded (records_of x) f.class.loader a.name)) (supers f.file)
+pub whole_recorded : (x : Shown) (f : Frame) → Has x f → wanted_supertype f ≡ None → AllByRecursion (λ (a : Above). IsSome (recorded_definer (records_of x) f.class.loader a.name)) (supers f.file)
 whole_recorded x f h none = complete_is_kept (state_of x) f (frame_named x f h) (frame_kept x f h) none
 
 -- and the row that is kept of it fits
 abbrev pub RowFits : Shown → Class → Above → Type 0
-RowFits x c a = IfSome (looked x c.loader a.name) (FitsAs c a)
+RowFits x c a = IfSome (looked_row x c.loader a.name) (FitsAs c a)
 
 accepted_fit : (x : Shown) (c : Class) (ts : List Class) (others : List Above) → HaveAccepted x c ts others → slice_get others (length ts) ≡ None → AllByRecursion (RowFits x c) others
 accepted_fit x c [] [] h e = tt
@@ -191,7 +191,7 @@ accepted_fit x c (t ∷ ts) [] h e = absurd h
 accepted_fit x c (t ∷ ts) (a ∷ others) h e =
     (subst (λ (o : Option Rowed). IfSome o (FitsAs c a)) (sym h.0.recorded.kept) h.0.fits, accepted_fit x c ts others h.1 e)
 
-pub whole_fits : (x : Shown) (f : Frame) → Has x f → wanted f ≡ None → AllByRecursion (RowFits x f.class) (supers f.file)
+pub whole_fits : (x : Shown) (f : Frame) → Has x f → wanted_supertype f ≡ None → AllByRecursion (RowFits x f.class) (supers f.file)
 whole_fits x f h none = accepted_fit x f.class f.accepted (supers f.file) h none
 
 -- the frames with one more

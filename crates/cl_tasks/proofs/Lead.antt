@@ -14,7 +14,7 @@ use Rattle.cl_model.specs.Works.{Ask}
 use Rattle.cl_config.specs.Views.{Configured}
 use Rattle.cl_findings.specs.declared.load.Target.{Target}
 use Rattle.cl_findings.specs.declared.load.Target.TheVariants as targets
-use Rattle.cl_findings.specs.Findings.{Answered, loader_of, ungrounded}
+use Rattle.cl_findings.specs.Findings.{Answered, loader_of, ungrounded_answer}
 use Rattle.cl_hierarchy.specs.Paths.{frames_of}
 use Rattle.cl_registry.specs.Tables.{Shown, state_of}
 use Rattle.cl_tasks.specs.Calls.{Calls, calls_in, equalities_in, hand_calls, if_so, in_hand, open_calls, own_homes, while_loading}
@@ -204,7 +204,7 @@ steps_memory told t r is within more post = memory_steps told t r reply.Memory i
 
 -- the source could not be read
 pub leads_fault : {A : Type 0} (told : Option Content) (c : Configured) (q : ℕ) (r : Request) (name : List ℕ) (loader : ℕ) (holds : Shown → Type 0) → loader_of r < length c.loaders → loader < length c.loaders
-    → LeadsBy {A = A} told c q r last_room holds (record { stage = stage.Done q; turn = turn.Post (ungrounded r (answers.SourceFault name loader)) })
+    → LeadsBy {A = A} told c q r last_room holds (record { stage = stage.Done q; turn = turn.Post (ungrounded_answer r (answers.SourceFault name loader)) })
 leads_fault told c q r name loader holds asked within =
     leads_post refl (omega arith) (λ w p s. omega arith)
     (λ x config named consistent h. record {

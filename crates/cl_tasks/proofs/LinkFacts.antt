@@ -6,7 +6,7 @@ use Rattle.std.proofs.lemmas.Option.{slice_get-map}
 use Rattle.std.proofs.lemmas.List.{length_push}
 use Rattle.cl_model.specs.declared.class.Class.{Class}
 use Rattle.cl_model.specs.declared.need.Equality.{Equality}
-use Rattle.cl_model.specs.States.{AllMet, recorded, IsRecorded, Met}
+use Rattle.cl_model.specs.States.{AllMet, recorded_definer, IsRecorded, Met}
 use Rattle.cl_model.specs.Tables.{IsConsistent}
 use Rattle.cl_model.proofs.Bind.{some_same}
 use Rattle.cl_hierarchy.specs.Imposed.{Listed, OfPreparation, Sprung, needs_of, equal_need}
@@ -101,7 +101,7 @@ pub traced_own : (x : Shown) (c : Class) (l : Lined) → IsTraced x c l → IsRo
 traced_own x c l h = all_at (IsRowOf x) (rows_in l) (length l.above) l.own h.rows (at_length l.above l.own)
 
 -- a class that a loader records is recorded by its own
-pub own_recorded : (x : Shown) (loader : ℕ) (c : Class) → IsConsistent (state_of x) → recorded (records_of x) loader c.name ≡ Some c.loader → IsRecorded (state_of x) c
+pub own_recorded : (x : Shown) (loader : ℕ) (c : Class) → IsConsistent (state_of x) → recorded_definer (records_of x) loader c.name ≡ Some c.loader → IsRecorded (state_of x) c
 own_recorded x loader c fine at = fine.own loader c.loader c.name at
 
 -- ---- the facts of a chain

@@ -12,14 +12,14 @@ use Rattle.cl_model.specs.Content.{Content}
 use Rattle.cl_model.specs.Lineages.{Kin, IsLineage, lineage}
 use Rattle.cl_model.specs.Machine.{Setting, IsSound}
 use Rattle.cl_model.specs.Service.{ComesTo}
-use Rattle.cl_model.specs.States.{State, IsLinked, IsRecorded, recorded}
+use Rattle.cl_model.specs.States.{State, IsLinked, IsRecorded, recorded_definer}
 use Rattle.cl_model.specs.Tables.{Bears}
 use Rattle.cl_model.specs.Views.{request_of}
 use Rattle.cl_config.specs.Views.{Configured}
 use Rattle.cl_delegation.specs.Worlds.{world_of}
 use Rattle.cl_hierarchy.specs.Lineages.{IsInOrder, IsLineageOf, Lined, kin_of, rows_in}
 use Rattle.cl_hierarchy.specs.Rows.{Rowed}
-use Rattle.cl_findings.specs.Findings.{Answered, IsLookedUp, loader_of, ungrounded}
+use Rattle.cl_findings.specs.Findings.{Answered, IsLookedUp, loader_of, ungrounded_answer}
 use Rattle.cl_findings.proofs.Links.{lineage_classes}
 use Rattle.cl_registry.specs.Posting.{IsBacked}
 use Rattle.cl_registry.specs.Tables.{NamesLoaders, Shown, records_of, state_of}
@@ -85,7 +85,7 @@ post_room turns made homes equalities more le = λ w p s. below (homes * own_hom
 
 -- ---- the request's class is recorded
 
-pub goal_at : {A : Type 0} (x : Shown) (g : Goal A) → GoalTold g x → recorded (records_of x) (loader_of g.request) g.class.value.class.name ≡ Some g.class.value.class.loader
+pub goal_at : {A : Type 0} (x : Shown) (g : Goal A) → GoalTold g x → recorded_definer (records_of x) (loader_of g.request) g.class.value.class.name ≡ Some g.class.value.class.loader
 goal_at x g h = h.0
 
 more_by_one : (a : ℕ) → a + 2 < a + 3
@@ -109,23 +109,23 @@ whole_asked told c g prepared k goal is = record {
 link_looks_up : (r : request.Request) (name : List ℕ) (d : Class) → r ≡ requests.Link (loader_of r) name → IsLookedUp r (verdicts.Linked d)
 link_looks_up r name d is = subst (λ (q : request.Request). IsLookedUp q (verdicts.Linked d)) (sym is) tt
 
-linked_borne : (s : State) (r : request.Request) (d : Class) → r ≡ requests.Link (loader_of r) d.name → recorded s.records (loader_of r) d.name ≡ Some d.loader → Contains s.prepared d → Bears s (request_of r) (IsLinked d)
+linked_borne : (s : State) (r : request.Request) (d : Class) → r ≡ requests.Link (loader_of r) d.name → recorded_definer s.records (loader_of r) d.name ≡ Some d.loader → Contains s.prepared d → Bears s (request_of r) (IsLinked d)
 linked_borne s r d is at prepared =
     subst (λ (q : request.Request). Bears s (request_of q) (IsLinked d)) (sym is)
-    (λ e h. subst (λ (k : Class). ((k.name ≡ d.name) × (recorded s.records (loader_of r) d.name ≡ Some k.loader)) × Contains s.prepared k) (one_linked e d h) ((refl, at), prepared))
+    (λ e h. subst (λ (k : Class). ((k.name ≡ d.name) × (recorded_definer s.records (loader_of r) d.name ≡ Some k.loader)) × Contains s.prepared k) (one_linked e d h) ((refl, at), prepared))
 
 -- the answer of a link
 abbrev pub linked_answer : request.Request → Class → Answered
-linked_answer r d = ungrounded r (answers.Said (verdicts.Linked d))
+linked_answer r d = ungrounded_answer r (answers.Said (verdicts.Linked d))
 
 linked_backed : (c : Configured) (x : Shown) (r : request.Request) (d : Class) → x.config ≡ c → NamesLoaders x → loader_of r < length c.loaders → r ≡ requests.Link (loader_of r) d.name
-    → recorded (records_of x) (loader_of r) d.name ≡ Some d.loader → Contains (state_of x).prepared d → IsBacked x (linked_answer r d)
+    → recorded_definer (records_of x) (loader_of r) d.name ≡ Some d.loader → Contains (state_of x).prepared d → IsBacked x (linked_answer r d)
 linked_backed c x r d config names asked is at prepared = record {
   within = record { loader = within_same c x (loader_of r) config asked; answer = recorded_is_named x (loader_of r) d.loader d.name names at };
   answer = record { grounded = inl (link_looks_up r d.name d is); borne = linked_borne (state_of x) r d is at prepared };
 }
 
-linked_comes : (g : Setting) (s : State) (r : request.Request) (d : Class) → IsSound g s → r ≡ requests.Link (loader_of r) d.name → recorded s.records (loader_of r) d.name ≡ Some d.loader → Contains s.prepared d
+linked_comes : (g : Setting) (s : State) (r : request.Request) (d : Class) → IsSound g s → r ≡ requests.Link (loader_of r) d.name → recorded_definer s.records (loader_of r) d.name ≡ Some d.loader → Contains s.prepared d
     → ComesTo g s (request_of r) (IsLinked d)
 linked_comes g s r d sound is at prepared = subst (λ (q : request.Request). ComesTo g s (request_of q) (IsLinked d)) (sym is) (prepared_comes g s (loader_of r) d.loader d.name sound at prepared)
 
@@ -243,8 +243,8 @@ pub whole_calls : {A : Type 0} (told : Option Content) (c : Configured) (g : Goa
 whole_calls told c g whole goal of lin =
     λ w x p served is h.
     let l = whole in
-    let kept : recorded (records_of x) (loader_of g.request) l.own.class.name ≡ Some l.own.class.loader =
-    subst (λ (d : Class). recorded (records_of x) (loader_of g.request) d.name ≡ Some d.loader) (sym of.class) (goal_at x g h.before) in
+    let kept : recorded_definer (records_of x) (loader_of g.request) l.own.class.name ≡ Some l.own.class.loader =
+    subst (λ (d : Class). recorded_definer (records_of x) (loader_of g.request) d.name ≡ Some d.loader) (sym of.class) (goal_at x g h.before) in
     let for_it : g.request ≡ requests.Link (loader_of g.request) l.own.class.name = subst (λ (d : Class). g.request ≡ requests.Link (loader_of g.request) d.name) (sym of.class) goal.of in
     let all = chain_within w (state_of x) g.request l p served.sound for_it kept (in_world told c w (state_of x) served l of.config lin) is in
     within (own_homes w.world p) (equalities_in p) (chain_calls l 0) all

@@ -8,7 +8,7 @@ use Rattle.cl_model.specs.declared.event.Event.{Event}
 use Rattle.cl_model.specs.declared.need.Need as rust
 use Rattle.cl_model.specs.declared.need.Need.TheVariants as needs
 use Rattle.cl_model.specs.declared.event.Event.TheVariants as events
-use Rattle.cl_model.specs.States.{State, Record, Equality, start, Answer, recorded, IsPathBetween, Refused, Entry, Equal, Clashes}
+use Rattle.cl_model.specs.States.{State, Record, Equality, start, Answer, recorded_definer, IsPathBetween, Refused, Entry, Equal, Clashes}
 use Rattle.cl_model.specs.Machine.{after, state_after}
 use Rattle.cl_model.specs.Texts.{EventNames, NeedNames}
 use Rattle.cl_model.specs.Views.{answers_of, answer_at, need_of, post_of, step_of, steps_of}
@@ -19,10 +19,10 @@ use Rattle.cl_registry.specs.Tables.{Shown, NamesLoaders, state_of}
 
 -- records and equalities of these loaders alone
 record AreNamed (count : ℕ) (s : State) : Type 0 where
-  pub records : (loader place : ℕ) (name : Name) → recorded s.records loader name ≡ Some place → loader < count
+  pub records : (loader place : ℕ) (name : Name) → recorded_definer s.records loader name ≡ Some place → loader < count
   pub equalities : (e : Equality) → Contains s.equalities e → (e.one < count) × (e.other < count)
 
-none_recorded : (loader place : ℕ) (name : Name) → recorded [] loader name ≡ Some place → ⊥
+none_recorded : (loader place : ℕ) (name : Name) → recorded_definer [] loader name ≡ Some place → ⊥
 none_recorded loader place name h = cc
 
 begun_named : (count : ℕ) → AreNamed count start
@@ -42,7 +42,7 @@ equality_named count s e named below = record {
 
 same_named : (count : ℕ) (s t : State) → t.records ≡ s.records → t.equalities ≡ s.equalities → AreNamed count s → AreNamed count t
 same_named count s t rs es named = record {
-  records = λ loader place name at. named.records loader place name (subst (λ (x : List Record). recorded x loader name ≡ Some place) rs at);
+  records = λ loader place name at. named.records loader place name (subst (λ (x : List Record). recorded_definer x loader name ≡ Some place) rs at);
   equalities = λ e h. named.equalities e (subst (λ (x : List Equality). Contains x e) es h);
 }
 

@@ -9,7 +9,7 @@ use Rattle.cl_model.specs.declared.request.Request as request
 use Rattle.cl_model.specs.declared.request.Request.TheVariants as requests
 use Rattle.cl_model.specs.Lineages.{Kin, IsLineage, classes, lineage}
 use Rattle.cl_model.specs.Preparation.{constraints_of}
-use Rattle.cl_model.specs.States.{State, Need, IsLinked, AllMet, IsNext, IsRecorded, recorded}
+use Rattle.cl_model.specs.States.{State, Need, IsLinked, AllMet, IsNext, IsRecorded, recorded_definer}
 use Rattle.cl_model.specs.Plans.{Link, Plan}
 use Rattle.cl_model.specs.Machine.{Setting, HasLineage, IsPlan, IsSound, Prepare, step_for}
 use Rattle.cl_model.specs.Service.{IsLinkedIn, IsNextNeed, IsNextStep}
@@ -37,7 +37,7 @@ use Rattle.cl_tasks.proofs.Within.{link_drop, links_within}
 
 -- a link of the class of l is at the class of at, which stands at this place of the lineage, and all before it are linked
 pub record IsThere (g : Setting) (s : State) (loader : ℕ) (l at : Lined) (place : ℕ) : Type 0 where
-  pub kept : recorded s.records loader l.own.class.name ≡ Some l.own.class.loader
+  pub kept : recorded_definer s.records loader l.own.class.name ≡ Some l.own.class.loader
   pub has : HasLineage g.world l.own.class (kin_of l)
   pub front : List Kin
   pub behind : List Kin
@@ -57,7 +57,7 @@ imposed_of : (s : State) (ks : List Kin) → AllByRecursion (IsLinkedIn s) ks �
 imposed_of s ks h = all_map (IsLinkedIn s) (λ (b : Kin). AllMet s (constraints_of b)) (λ b k. k.imposed) ks h
 
 pub there : (g : Setting) (s : State) (loader : ℕ) (l at : Lined) (place : ℕ) → IsSound g s → IsInOrder l → IsLineage g.world (kin_of l) → IsLineage g.world (kin_of at)
-    → recorded s.records loader l.own.class.name ≡ Some l.own.class.loader → option_map (λ (row : Rowed). row.class) (slice_get (rows_in l) place) ≡ Some at.own.class
+    → recorded_definer s.records loader l.own.class.name ≡ Some l.own.class.loader → option_map (λ (row : Rowed). row.class) (slice_get (rows_in l) place) ≡ Some at.own.class
     → AllByRecursion (Contains s.prepared) (take place (classes_in l)) → IsThere g s loader l at place
 there g s loader l at place sound order lin other rec here prepared =
     let w = g.world in
@@ -92,7 +92,7 @@ chain_step g s loader l at place here =
     ∙ ap (λ (n : ℕ). (length (constraints_of (kin_of at)) + 2) + n) (sym (ap (λ (n : ℕ). link_calls (drop (n + 1) ks)) (sym here.long) ∙ ap (λ (xs : List Kin). link_calls xs) parts.1))
 
 -- the calls of the whole lineage are within those of the request's plan past its load
-pub chain_within : (g : Setting) (s : State) (r : request.Request) (l : Lined) (p : Plan) → IsSound g s → r ≡ requests.Link (loader_of r) l.own.class.name → recorded s.records (loader_of r) l.own.class.name ≡ Some l.own.class.loader
+pub chain_within : (g : Setting) (s : State) (r : request.Request) (l : Lined) (p : Plan) → IsSound g s → r ≡ requests.Link (loader_of r) l.own.class.name → recorded_definer s.records (loader_of r) l.own.class.name ≡ Some l.own.class.loader
     → IsLineage g.world (kin_of l) → IsPlan g.world (request_of r) p → chain_calls l 0 ≤ 2 * own_homes g.world p + equalities_in p
 chain_within g s r l p sound is kept lin plan =
     let w = g.world in

@@ -8,9 +8,9 @@ use Rattle.cl_model.specs.Homes.{World}
 use Rattle.cl_model.specs.Lineages.{IsLineage}
 use Rattle.cl_model.specs.Machine.{IsClosed, IsPlan, Setting}
 use Rattle.cl_model.specs.Plans as plans
-use Rattle.cl_model.specs.Plans.{ending, is_equal}
+use Rattle.cl_model.specs.Plans.{ending_verdict, is_equal}
 use Rattle.cl_model.specs.References.{GoesThrough}
-use Rattle.cl_model.specs.States.{State, Need, recorded}
+use Rattle.cl_model.specs.States.{State, Need, recorded_definer}
 use Rattle.cl_model.specs.Views.{request_of}
 use Rattle.cl_model.proofs.Gone.{resolve_goes_on}
 use Rattle.cl_model.proofs.Through.{reference_goes}
@@ -33,7 +33,7 @@ use Rattle.cl_tasks.proofs.Within.{equals_counted, gone_on_counts}
 
 -- the equalities of a member are what its request still needs past the load of the class that its entry names
 member_counts : (content : Content) (r : Request) (d k : Lined) (i : ℕ) (es : List Equality) (s : State) (p : plans.Plan) → GoesTo r d k i → IsLineageOf (Some content) d → IsLineageOf (Some content) k → AreOfReference (kin_of d) (kin_of k) i (needs_of es)
-    → IsClosed (world_of d.config content) s → recorded s.records (loader_of r) d.own.class.name ≡ Some d.own.class.loader → recorded s.records d.own.class.loader k.own.class.name ≡ Some k.own.class.loader
+    → IsClosed (world_of d.config content) s → recorded_definer s.records (loader_of r) d.own.class.name ≡ Some d.own.class.loader → recorded_definer s.records d.own.class.loader k.own.class.name ≡ Some k.own.class.loader
     → IsPlan (world_of d.config content) (request_of r) p → length es ≤ equalities_in p
 member_counts content r d k i es s p to lin other of closed rec below is =
     let w = world_of d.config content in
@@ -45,7 +45,7 @@ member_counts content r d k i es s p to lin other of closed rec below is =
     let on = resolve_goes_on w s (loader_of r) d.own.class.loader i d.own.class.name of.made closed rec goes in
     let planned : IsPlan w q p = subst (λ (a : Request). IsPlan w (request_of a) p) to.of is in
     let many : count_by is_equal of.made.needs ≡ length es = ap (λ (ns : List Need). count_by is_equal ns) (sym of.needs_are) ∙ equals_counted es in
-    subst (λ (n : ℕ). n ≤ equalities_in p) many (gone_on_counts w s q d.own.class of.made.needs (ending of.made.ends) p on planned)
+    subst (λ (n : ℕ). n ≤ equalities_in p) many (gone_on_counts w s q d.own.class of.made.needs (ending_verdict of.made.ends) p on planned)
 
 -- where the request is served
 pub member_few : {A : Type 0} (told : Option Content) (c : Configured) (m : Member A) (g : Setting) (x : Shown) (p : plans.Plan) → IsMember c m → AreLineages told m.equalities.value.origin → AreOf m.equalities.value.origin (needs_of m.equalities.value.needs)

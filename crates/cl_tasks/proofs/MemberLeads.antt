@@ -28,7 +28,7 @@ use Rattle.cl_hierarchy.specs.Rows.{Rowed}
 use Rattle.cl_members.specs.Asking.{IsDeniedIn, IsLocated}
 use Rattle.cl_members.specs.declared.fault.LookupFault.{LookupFault}
 use Rattle.cl_findings.specs.Bases.{IsListed}
-use Rattle.cl_findings.specs.Findings.{Answered, Based, Rests, grounded, loader_of}
+use Rattle.cl_findings.specs.Findings.{Answered, Based, Rests, grounded_answer, loader_of}
 use Rattle.cl_findings.specs.References.{AreAsked, IsOfFound, asked_basis, class_basis, config_of, fault_verdict, member_basis, reference_needs, sprung_needs}
 use Rattle.cl_findings.proofs.References.{asked_rests}
 use Rattle.cl_registry.specs.Imposing.{IsNextOf, IsReached, IsStanding, MayImpose, OriginStands}
@@ -59,7 +59,7 @@ use Rattle.cl_tasks.specs.Turns.{IsOf}
 
 -- an entry is settled to what a finding says, where that stands
 pub leads_settle : {A : Type 0} (told : Option Content) (c : Configured) (e kept : entries.Entry A) (f : Answered) (v : verdict.Verdict) (b : Based) (room : Room) (holds : Shown → Type 0) → IsEntry c e → IsSame e kept
-    → f ≡ grounded e.request v b → Stood told c e.request v b holds → IsSettledKind v → ((x : Shown) → holds x → EntryTold e x) → 1 < room.turns → HasSettle room
+    → f ≡ grounded_answer e.request v b → Stood told c e.request v b holds → IsSettledKind v → ((x : Shown) → holds x → EntryTold e x) → 1 < room.turns → HasSettle room
     → LeadsBy told c e.q e.request room holds (record { stage = stages.Resolve (resolutions.Settling kept); turn = turn.Settle f })
 leads_settle {A} told c e kept f v b room holds entry same is stood kind entry_told more two =
     let may : Settling e.request e.d.value.class e.index v holds = record { resolves = entry.of; kept = λ x h. (entry_told x h).0; kind = kind } in
@@ -70,7 +70,7 @@ leads_settle {A} told c e kept f v b room holds entry same is stood kind entry_t
 
 -- what rests on the two classes alone
 pub class_leads : {A : Type 0} (told : Option Content) (c : Configured) (e kept : entries.Entry A) (own named : Lined) (config : Configured) (f : Answered) (v : verdict.Verdict) → IsEntry c e → IsOf c e.d.value.class own → IsSame e kept
-    → config ≡ c → f ≡ grounded e.request v (class_basis config e.request own.own.class named.own.class) → Rests told f → IsSettledKind v
+    → config ≡ c → f ≡ grounded_answer e.request v (class_basis config e.request own.own.class named.own.class) → Rests told f → IsSettledKind v
     → ((x : Shown) → NamesLoaders x → TracedTold e own named x → VerdictNames (length x.config.loaders) v)
     → LeadsBy told c e.q e.request tracing_named_room (TracedTold e own named) (record { stage = stages.Resolve (resolutions.Settling kept); turn = turn.Settle f })
 class_leads {A} told c e kept own named config f v entry of same here is rests kind names =
@@ -90,19 +90,19 @@ class_leads {A} told c e kept own named config f v entry of same here is rests k
 
 -- the class that the entry names is not accessible
 pub inaccessible_leads : {A : Type 0} (told : Option Content) (c : Configured) (e kept : entries.Entry A) (own named : Lined) (end : Inaccessible A) (f : Answered) → IsEntry c e → IsOf c e.d.value.class own → IsSame e kept → IsInaccessible c own named end
-    → f ≡ grounded e.request end.verdict (class_basis end.config.value e.request end.d.value.class end.named.value.class) → Rests told f
+    → f ≡ grounded_answer e.request end.verdict (class_basis end.config.value e.request end.d.value.class end.named.value.class) → Rests told f
     → LeadsBy told c e.q e.request tracing_named_room (TracedTold e own named) (record { stage = stages.Resolve (resolutions.Settling kept); turn = turn.Settle f })
 inaccessible_leads told c e kept own named end f entry of same is said rests =
     let v : verdict.Verdict = verdicts.Error kinds.IllegalAccessError named.own.class in
     class_leads told c e kept own named end.config.value f v entry of same is.config_is
-    (said ∙ ap (λ (u : verdict.Verdict). grounded e.request u (class_basis end.config.value e.request end.d.value.class end.named.value.class)) is.verdict_is
-    ∙ ap (λ (d : Rowed). grounded e.request v (class_basis end.config.value e.request d.class end.named.value.class)) is.own_is
-    ∙ ap (λ (d : Rowed). grounded e.request v (class_basis end.config.value e.request own.own.class d.class)) is.named_is) rests
+    (said ∙ ap (λ (u : verdict.Verdict). grounded_answer e.request u (class_basis end.config.value e.request end.d.value.class end.named.value.class)) is.verdict_is
+    ∙ ap (λ (d : Rowed). grounded_answer e.request v (class_basis end.config.value e.request d.class end.named.value.class)) is.own_is
+    ∙ ap (λ (d : Rowed). grounded_answer e.request v (class_basis end.config.value e.request own.own.class d.class)) is.named_is) rests
     (record { is_entry = λ h. cc; is_class_member = λ h. cc }) (λ x loaders h. own_within x named.own.class named loaders h.now)
 
 -- the member was not found
 pub fault_leads : {A : Type 0} (told : Option Content) (c : Configured) (e kept : entries.Entry A) (own named : Lined) (fault : LookupFault) (f : Answered) (v : verdict.Verdict) → IsEntry c e → IsOf c e.d.value.class own → IsSame e kept
-    → fault_verdict named.own.class fault ≡ Some v → IsDeniedIn named (Err fault) → f ≡ grounded e.request v (class_basis own.config e.request own.own.class named.own.class) → Rests told f
+    → fault_verdict named.own.class fault ≡ Some v → IsDeniedIn named (Err fault) → f ≡ grounded_answer e.request v (class_basis own.config e.request own.own.class named.own.class) → Rests told f
     → LeadsBy told c e.q e.request tracing_named_room (TracedTold e own named) (record { stage = stages.Resolve (resolutions.Settling kept); turn = turn.Settle f })
 fault_leads told c e kept own named fault f v entry of same error denied is rests =
     let owner = fault_of named fault v error denied in
@@ -197,7 +197,7 @@ module _ {A : Type 0} (told : Option Content) (c : Configured) (m : Member A) (m
   -- ---- one of them is refused
 
   pub refused_leads : (i : ℕ) (kept : entries.Entry A) (f : Answered) (need : rust.Need) → IsSame m.entry kept
-      → f ≡ grounded m.entry.request (verdicts.Linkage need) (asked_basis m.entry.request m.equalities.value i (Some (need_of need))) → Rests told f
+      → f ≡ grounded_answer m.entry.request (verdicts.Linkage need) (asked_basis m.entry.request m.equalities.value i (Some (need_of need))) → Rests told f
       → LeadsBy told c m.entry.q m.entry.request settle_room (MemberRefusedTold m i (need_of need)) (record { stage = stages.Resolve (resolutions.Settling kept); turn = turn.Settle f })
   refused_leads i kept f need same is rests =
       let b : Based = asked_basis m.entry.request m.equalities.value i (Some (need_of need)) in
@@ -215,7 +215,7 @@ module _ {A : Type 0} (told : Option Content) (c : Configured) (m : Member A) (m
 -- ---- the member
 
 pub found_leads : {A : Type 0} (told : Option Content) (c : Configured) (m : Member A) (kept : entries.Entry A) (f : Answered) (v : verdict.Verdict) → IsMember c m → IsSame m.entry kept
-    → f ≡ grounded m.entry.request v (member_basis m.entry.request m.found m.equalities.value) → Rests told f → IsLocated m.found → IsOfFound m.found (verdict_of v)
+    → f ≡ grounded_answer m.entry.request v (member_basis m.entry.request m.found m.equalities.value) → Rests told f → IsLocated m.found → IsOfFound m.found (verdict_of v)
     → LeadsBy told c m.entry.q m.entry.request settle_room (ImposedTold m (length m.equalities.value.needs)) (record { stage = stages.Resolve (resolutions.Settling kept); turn = turn.Settle f })
 found_leads {A} told c m kept f v member same is rests located found =
     let owner = found_owner m.found v located found in

@@ -10,13 +10,13 @@ use Rattle.cl_model.specs.declared.request.Request.{Request}
 use Rattle.cl_model.specs.declared.request.Request.TheVariants as requests
 use Rattle.cl_model.specs.declared.settled.Settled.{Settled}
 use Rattle.cl_model.specs.Content.{Content}
-use Rattle.cl_model.specs.States.{Met, recorded}
+use Rattle.cl_model.specs.States.{Met, recorded_definer}
 use Rattle.cl_model.specs.Views.{need_of}
 use Rattle.cl_config.specs.Views.{Configured}
 use Rattle.cl_hierarchy.specs.Imposed.{equal_need}
 use Rattle.cl_hierarchy.specs.Lineages.{Lined}
 use Rattle.cl_hierarchy.specs.Rows.{Rowed}
-use Rattle.cl_findings.specs.Findings.{loader_of, ungrounded}
+use Rattle.cl_findings.specs.Findings.{loader_of, ungrounded_answer}
 use Rattle.cl_registry.specs.References.{IsSettledIn}
 use Rattle.cl_registry.specs.Tables.{Shown, records_of, state_of}
 use Rattle.cl_registry.proofs.Schedules.{some_at}
@@ -92,13 +92,13 @@ refused_steps told c m i need n lt l plain past ends resolves =
 
 -- ---- what is settled
 
-settled_in : (x : Shown) (r : Request) (d : Class) (i : ℕ) (s : Settled) → r ≡ requests.Resolve (loader_of r) d.name i → recorded (records_of x) (loader_of r) d.name ≡ Some d.loader → IsSettledOf x r s → IsSettledIn x d i s
+settled_in : (x : Shown) (r : Request) (d : Class) (i : ℕ) (s : Settled) → r ≡ requests.Resolve (loader_of r) d.name i → recorded_definer (records_of x) (loader_of r) d.name ≡ Some d.loader → IsSettledOf x r s → IsSettledIn x d i s
 settled_in x r d i s is at h = subst (λ (q : Request). IsSettledOf x q s) is h d (refl, at)
 
 pub settled_steps : {A : Type 0} (told : Option Content) (c : Configured) (e : entries.Entry A) (s : Arc Settled Global) → IsEntry c e
-    → Steps {A = A} told (resolving_at c (resolutions.Settling e)) (reply.Settled s) (record { stage = stages.Done e.q; turn = turn.Post (ungrounded e.request (answers.Shared s)) })
+    → Steps {A = A} told (resolving_at c (resolutions.Settling e)) (reply.Settled s) (record { stage = stages.Done e.q; turn = turn.Post (ungrounded_answer e.request (answers.Shared s)) })
 settled_steps {A} told c e s entry =
     let holds : Shown → Type 0 = λ x. Tells {A = A} x (resolving_at c (resolutions.Settling e)) (reply.Settled s) in
-    let kept : (x : Shown) → holds x → recorded (records_of x) (loader_of e.request) e.d.value.class.name ≡ Some e.d.value.class.loader = λ x h. h.before.facts.0 in
+    let kept : (x : Shown) → holds x → recorded_definer (records_of x) (loader_of e.request) e.d.value.class.name ≡ Some e.d.value.class.loader = λ x h. h.before.facts.0 in
     let led = leads_shared A told c e.q e.request e.d.value.class e.index s (room_of settling_left (past_loads 0 0 1)) holds entry.of entry.asked kept (λ x h. settled_in x e.request e.d.value.class e.index s.value entry.of (kept x h) h.now) (omega arith) (λ w p s. omega arith) in
     plain_steps (resolving_at c (resolutions.Settling e)) (reply.Settled s) _ refl refl refl led (same_room settling_left) (λ g x p served is h. omega arith) (λ x h. h) tt tt (λ h. shared_memory s h) tt (inl refl) tt

@@ -8,11 +8,11 @@ use Rattle.cl_model.specs.declared.class.Class.{Class}
 use Rattle.cl_model.specs.declared.request.Request.{Request}
 use Rattle.cl_model.specs.Classes.{Above, class, is_among, HasFile, supers}
 use Rattle.cl_model.specs.Content.{Content}
-use Rattle.cl_model.specs.Frames.{Frame, IsFrame, IsFrames, accepting, asking, path_of, wanted}
+use Rattle.cl_model.specs.Frames.{Frame, IsFrame, IsFrames, with_accepted, asking_loader, path_of, wanted_supertype}
 use Rattle.cl_model.specs.Homes.{World, home}
 use Rattle.cl_model.specs.Machine.{IsClosed, IsPlan, Setting}
 use Rattle.cl_model.specs.Plans.{Plan, edges_of, same_ask}
-use Rattle.cl_model.specs.States.{State, recorded}
+use Rattle.cl_model.specs.States.{State, recorded_definer}
 use Rattle.cl_model.specs.Views.{request_of}
 use Rattle.cl_model.specs.Works.{Ask}
 use Rattle.cl_model.proofs.Bind.{some_same}
@@ -151,7 +151,7 @@ module _ (w : World) (p : Plan) (s : State) (loader : ℕ) (name : Name) (xs : L
 
 module _ (w : World) (p : Plan) (s : State) (hand : List Ask) where
   -- what was in hand is recorded
-  pub records : (l place : ℕ) (n : Name) (rest : List Ask) → recorded s.records l n ≡ Some place → open_calls w p s [] (rest ++ hand) ≤ open_calls w p s [] ((rest ++ ask_of n l ∷ []) ++ hand)
+  pub records : (l place : ℕ) (n : Name) (rest : List Ask) → recorded_definer s.records l n ≡ Some place → open_calls w p s [] (rest ++ hand) ≤ open_calls w p s [] ((rest ++ ask_of n l ∷ []) ++ hand)
   records l place n rest rec =
       open_le w p s s [] [] ((rest ++ ask_of n l ∷ []) ++ hand) (rest ++ hand) (λ a o.
       let k = open_parts s [] (rest ++ hand) a o in
@@ -230,7 +230,7 @@ pub same_holds : {A : Type 0} (told : Option Content) (j : Job A) (holds : Shown
 same_holds told j holds left room is = λ g x p served plan h. let k : calls_in left g.world p (state_of x) ≡ calls_in room g.world p (state_of x) = ap (λ (n : Calls). calls_in n g.world p (state_of x)) is in omega arith
 
 -- no record was found where it is asked for
-pub unrecorded_holds : {A : Type 0} (told : Option Content) (j : Job A) (holds : Shown → Type 0) → IsJob told j.path.config j → IsPath told j.path → ((x : Shown) → holds x → HoldsOn j x × (recorded (records_of x) (at_loader j.path) (at_name j.path) ≡ None))
+pub unrecorded_holds : {A : Type 0} (told : Option Content) (j : Job A) (holds : Shown → Type 0) → IsJob told j.path.config j → IsPath told j.path → ((x : Shown) → holds x → HoldsOn j x × (recorded_definer (records_of x) (at_loader j.path) (at_name j.path) ≡ None))
     → Holds told j holds 1 (calls_at phases.Looking j 0) (job_calls [] [] 1 j)
 unrecorded_holds told j holds job path has = λ g x p served is h.
     let k = has x h in
@@ -247,7 +247,7 @@ homing_holds told j h job path homing leads = λ g x p served is holds.
     moves j j g.world p (state_of x) 0 0 2 (sought_ask j.path ∷ []) [] [] (sought_ask j.path ∷ []) refl refl (omega arith)
 
 -- the home has no record
-pub unfound_holds : {A : Type 0} (told : Option Content) (j : Job A) (place : ℕ) (holds : Shown → Type 0) → (at_loader j.path ≡ place → ⊥) → ((x : Shown) → holds x → recorded (records_of x) place (at_name j.path) ≡ None)
+pub unfound_holds : {A : Type 0} (told : Option Content) (j : Job A) (place : ℕ) (holds : Shown → Type 0) → (at_loader j.path ≡ place → ⊥) → ((x : Shown) → holds x → recorded_definer (records_of x) place (at_name j.path) ≡ None)
     → Holds told j holds 1 (calls_at phases.Homing j place) (job_calls [] (sought_ask j.path ∷ []) 2 j)
 unfound_holds told j place holds other has =
     subst (λ (n : Calls). Holds told j holds 1 n (job_calls [] (sought_ask j.path ∷ []) 2 j)) (sym (away_homing j place other))
@@ -264,14 +264,14 @@ found_holds told j place holds other =
     subst (λ (n : Calls). Holds told j holds 1 n (job_calls [] (sought_ask j.path ∷ []) 2 j)) (sym (away_defined j place other)) (fewer_holds told j holds [] (sought_ask j.path ∷ []) 1 1 2 (omega arith))
 
 -- the loader that was asked is recorded
-pub initiated_holds : {A : Type 0} (told : Option Content) (j : Job A) (place : ℕ) (holds : Shown → Type 0) → ((x : Shown) → holds x → recorded (records_of x) (at_loader j.path) (at_name j.path) ≡ Some place)
+pub initiated_holds : {A : Type 0} (told : Option Content) (j : Job A) (place : ℕ) (holds : Shown → Type 0) → ((x : Shown) → holds x → recorded_definer (records_of x) (at_loader j.path) (at_name j.path) ≡ Some place)
     → Holds told j holds 1 (calls_at phases.Initiating j 0) (job_calls [] (sought_ask j.path ∷ []) 1 j)
 initiated_holds told j place holds has = λ g x p served is h.
     let less = records g.world p (state_of x) (in_hand j.path.loader (frames_of j.path)) (at_loader j.path) place (at_name j.path) [] (has x h) in
     moves j j g.world p (state_of x) 1 1 0 [] (sought_ask j.path ∷ []) [] [] refl refl (omega arith)
 
 -- the class is recorded with its home
-pub defined_holds : {A : Type 0} (told : Option Content) (j : Job A) (c : Class) (place : ℕ) (holds : Shown → Type 0) → c.name ≡ at_name j.path → ((x : Shown) → holds x → recorded (records_of x) c.loader c.name ≡ Some place)
+pub defined_holds : {A : Type 0} (told : Option Content) (j : Job A) (c : Class) (place : ℕ) (holds : Shown → Type 0) → c.name ≡ at_name j.path → ((x : Shown) → holds x → recorded_definer (records_of x) c.loader c.name ≡ Some place)
     → Holds told j holds 1 (calls_at phases.Defining j c.loader) (job_calls [] (sought_ask j.path ∷ ask_for c ∷ []) (1 + away_calls (at_loader j.path) c.loader) j)
 defined_holds told j c place holds named has = λ g x p served is h.
     let hand = in_hand j.path.loader (frames_of j.path) in
@@ -340,7 +340,7 @@ some_waits (a ∷ others) zero h = omega arith
 some_waits (a ∷ others) (suc n) h = let k = some_waits others n h in omega arith
 
 -- a class waits for its first supertype
-pub descends_holds : {A : Type 0} (told : Option Content) (j : Job A) (d : Drafted) (new : Pathed) → IsJob told j.path.config j → IsPath told j.path → IsPath told new → new ≡ with_frame j.path (fresh d) → IsSome (wanted (frame_of (fresh d)))
+pub descends_holds : {A : Type 0} (told : Option Content) (j : Job A) (d : Drafted) (new : Pathed) → IsJob told j.path.config j → IsPath told j.path → IsPath told new → new ≡ with_frame j.path (fresh d) → IsSome (wanted_supertype (frame_of (fresh d)))
     → Holds told j (HoldsOn j) 0 (job_calls [] [] 1 (record j { path = new })) (calls_at phases.Homing j d.class.loader)
 descends_holds {A} told j d new job path grown is_new waits = λ g y p served is holds.
     let w = g.world in
@@ -358,7 +358,7 @@ descends_holds {A} told j d new job path grown is_new waits = λ g y p served is
     (subst (λ (l : ℕ). IsFrames w [] l new.name (frames_of new) (at_loader new) (at_name new)) loader
     (subst (λ (v : World). IsFrames v [] new.loader new.name (frames_of new) (at_loader new) (at_name new)) world rules.rules))) in
     let popped = frame_pop w [] j.path.loader (at_loader new) j.path.name (at_name new) xs f all in
-    let named : d.class.name ≡ at_name j.path = ends_named w [] j.path.loader j.path.name xs (asking j.path.loader xs) d.class.name (at_loader j.path) (at_name j.path) popped.0 (framed told j job path g y served) in
+    let named : d.class.name ≡ at_name j.path = ends_named w [] j.path.loader j.path.name xs (asking_loader j.path.loader xs) d.class.name (at_loader j.path) (at_name j.path) popped.0 (framed told j job path g y served) in
     let frame : IsFrame w (path_of [] xs) (at_loader j.path) (at_name j.path) f = subst (λ (n : List ℕ). IsFrame w (path_of [] xs) (at_loader j.path) n f) named popped.1 in
     let falls = frame_opens told j f job path named g y p served is holds frame in
     let some = some_waits (supers f.file) (length f.accepted) waits in
@@ -390,15 +390,15 @@ accepts_left {A} told j new place holds path step = λ g y p served is h.
     let f = frame_of step.last in
     let e = frame_of (with_place step.last place) in
     let t = class top.above.name place in
-    let grown : e ≡ accepting f t = accepts_one step.last (with_place step.last place) place refl (Some top.above) top.wants in
+    let grown : e ≡ with_accepted f t = accepts_one step.last (with_place step.last place) place refl (Some top.above) top.wants in
     let loader : new.loader ≡ j.path.loader = ap (λ (q : Pathed). q.loader) step.now in
     let frames_new : frames_of new ≡ xs ++ e ∷ [] = ap frames_of step.now ∙ map_last step.before (with_place step.last place) in
     let hand : in_hand new.loader (frames_of new) ≡ in_hand j.path.loader (frames_of j.path) =
     ap (λ (l : ℕ). in_hand l (frames_of new)) loader ∙ ap (in_hand j.path.loader) frames_new ∙ hand_last j.path.loader xs e ∙ sym (ap (in_hand j.path.loader) top.frames ∙ hand_last j.path.loader xs f) in
-    let from : hand_calls j.path.loader (frames_of j.path) ≡ hand_calls j.path.loader xs + frame_calls (asking j.path.loader xs) f = ap (hand_calls j.path.loader) top.frames ∙ calls_last j.path.loader xs f in
-    let to : hand_calls new.loader (frames_of new) ≡ hand_calls j.path.loader xs + frame_calls (asking j.path.loader xs) (accepting f t) =
-    ap (λ (l : ℕ). hand_calls l (frames_of new)) loader ∙ ap (hand_calls j.path.loader) frames_new ∙ calls_last j.path.loader xs e ∙ ap (λ (z : Frame). hand_calls j.path.loader xs + frame_calls (asking j.path.loader xs) z) grown in
-    let waits : IsSome (wanted (accepting f t)) = subst (λ (z : Frame). IsSome (wanted z)) grown step.waits in
+    let from : hand_calls j.path.loader (frames_of j.path) ≡ hand_calls j.path.loader xs + frame_calls (asking_loader j.path.loader xs) f = ap (hand_calls j.path.loader) top.frames ∙ calls_last j.path.loader xs f in
+    let to : hand_calls new.loader (frames_of new) ≡ hand_calls j.path.loader xs + frame_calls (asking_loader j.path.loader xs) (with_accepted f t) =
+    ap (λ (l : ℕ). hand_calls l (frames_of new)) loader ∙ ap (hand_calls j.path.loader) frames_new ∙ calls_last j.path.loader xs e ∙ ap (λ (z : Frame). hand_calls j.path.loader xs + frame_calls (asking_loader j.path.loader xs) z) grown in
+    let waits : IsSome (wanted_supertype (with_accepted f t)) = subst (λ (z : Frame). IsSome (wanted_supertype z)) grown step.waits in
     let more = some_waits (supers f.file) (length (f.accepted ++ t ∷ [])) waits in
     let one = length-append f.accepted (t ∷ []) in
     let same : open_calls w p (state_of y) [] (in_hand new.loader (frames_of new)) ≡ open_calls w p (state_of y) [] (in_hand j.path.loader (frames_of j.path)) = ap (open_calls w p (state_of y) []) hand in
@@ -415,16 +415,16 @@ completes_left {A} told j new place x holds path step whole = λ g y p served is
     let f = frame_of step.last in
     let loader : new.loader ≡ j.path.loader = ap (λ (q : Pathed). q.loader) step.now in
     let frames_new : frames_of new ≡ xs = ap frames_of step.now in
-    let asked : at_loader new ≡ asking j.path.loader xs = ap (λ (q : Pathed). at_loader q) step.now in
+    let asked : at_loader new ≡ asking_loader j.path.loader xs = ap (λ (q : Pathed). at_loader q) step.now in
     let last : step.last.draft.class ≡ c = sym (ap (λ (z : Framed). z.draft.class) step.whole_is) in
     let hand_old : in_hand j.path.loader (frames_of j.path) ≡ in_hand j.path.loader xs ++ (sought_ask new ∷ ask_for c ∷ []) =
-    ap (in_hand j.path.loader) top.frames ∙ hand_last j.path.loader xs f ∙ ap (λ (k : Class). in_hand j.path.loader xs ++ (ask_of k.name (asking j.path.loader xs) ∷ ask_for k ∷ [])) last
-    ∙ ap (λ (n : List ℕ). in_hand j.path.loader xs ++ (ask_of n (asking j.path.loader xs) ∷ ask_for c ∷ [])) whole.named ∙ ap (λ (l : ℕ). in_hand j.path.loader xs ++ (ask_of (at_name new) l ∷ ask_for c ∷ [])) (sym asked) in
+    ap (in_hand j.path.loader) top.frames ∙ hand_last j.path.loader xs f ∙ ap (λ (k : Class). in_hand j.path.loader xs ++ (ask_of k.name (asking_loader j.path.loader xs) ∷ ask_for k ∷ [])) last
+    ∙ ap (λ (n : List ℕ). in_hand j.path.loader xs ++ (ask_of n (asking_loader j.path.loader xs) ∷ ask_for c ∷ [])) whole.named ∙ ap (λ (l : ℕ). in_hand j.path.loader xs ++ (ask_of (at_name new) l ∷ ask_for c ∷ [])) (sym asked) in
     let hand_new : in_hand new.loader (frames_of new) ≡ in_hand j.path.loader xs = ap (λ (l : ℕ). in_hand l (frames_of new)) loader ∙ ap (in_hand j.path.loader) frames_new in
-    let from : hand_calls j.path.loader (frames_of j.path) ≡ hand_calls j.path.loader xs + frame_calls (asking j.path.loader xs) f = ap (hand_calls j.path.loader) top.frames ∙ calls_last j.path.loader xs f in
+    let from : hand_calls j.path.loader (frames_of j.path) ≡ hand_calls j.path.loader xs + frame_calls (asking_loader j.path.loader xs) f = ap (hand_calls j.path.loader) top.frames ∙ calls_last j.path.loader xs f in
     let to : hand_calls new.loader (frames_of new) ≡ hand_calls j.path.loader xs = ap (λ (l : ℕ). hand_calls l (frames_of new)) loader ∙ ap (hand_calls j.path.loader) frames_new in
-    let away : away_calls (at_loader new) c.loader ≡ away_calls (asking j.path.loader xs) f.class.loader =
-    ap (λ (l : ℕ). away_calls l c.loader) asked ∙ ap (λ (k : Class). away_calls (asking j.path.loader xs) k.loader) (sym last) in
+    let away : away_calls (at_loader new) c.loader ≡ away_calls (asking_loader j.path.loader xs) f.class.loader =
+    ap (λ (l : ℕ). away_calls l c.loader) asked ∙ ap (λ (k : Class). away_calls (asking_loader j.path.loader xs) k.loader) (sym last) in
     let two = sought_ask new ∷ ask_for c ∷ [] in
     let order = reordered w p (state_of y) (in_hand j.path.loader xs ++ two) (two ++ in_hand j.path.loader xs) (λ a n. let k = none_two a two (in_hand j.path.loader xs) n in none_both a (in_hand j.path.loader xs) two k.1 k.0) in
     let old_open : open_calls w p (state_of y) [] (in_hand j.path.loader (frames_of j.path)) ≡ open_calls w p (state_of y) [] (in_hand j.path.loader xs ++ two) = ap (open_calls w p (state_of y) []) hand_old in

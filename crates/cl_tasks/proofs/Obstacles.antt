@@ -8,7 +8,7 @@ use Rattle.cl_model.specs.declared.verdict.Verdict as verdict
 use Rattle.cl_model.specs.declared.verdict.Verdict.TheVariants as verdicts
 use Rattle.cl_model.specs.Content.{Content}
 use Rattle.cl_model.specs.Frames.{kept_of}
-use Rattle.cl_model.specs.States.{Need, AllMet, Entry, Equal, recorded}
+use Rattle.cl_model.specs.States.{Need, AllMet, Entry, Equal, recorded_definer}
 use Rattle.cl_model.specs.Views.{need_of}
 use Rattle.cl_model.proofs.Stacks.{kept_is_met}
 use Rattle.cl_model.proofs.Closed.{met_both}
@@ -20,7 +20,7 @@ use Rattle.cl_findings.specs.declared.load.Obstacle.{Obstacle}
 use Rattle.cl_findings.specs.declared.load.Obstacle.TheVariants as obstacles
 use Rattle.cl_findings.specs.declared.load.Target.{Target}
 use Rattle.cl_findings.specs.declared.load.Target.TheVariants as targets
-use Rattle.cl_findings.specs.Findings.{Based, IsWithin, Rests, loader_of, grounded}
+use Rattle.cl_findings.specs.Findings.{Based, IsWithin, Rests, loader_of, grounded_answer}
 use Rattle.cl_findings.specs.Loads.{IsFor, Stops, basis_at, needs_at, next_need, next_needs, refused_at, target_needs, verdict_at}
 use Rattle.cl_registry.specs.Allowed.{RecordedIsNamed}
 use Rattle.cl_registry.specs.Tables.{Shown, NamesLoaders, records_of, state_of}
@@ -69,14 +69,14 @@ end_met x j (obstacles.Missing u) stops told = tt
 end_met x j (obstacles.Unreadable u) stops told = tt
 end_met x j (obstacles.Circle h) stops told = tt
 end_met x j (obstacles.Misfit row c kind) stops told =
-    (subst (λ (n : List ℕ). recorded (records_of x) (at_loader j.path) n ≡ Some c.loader) (sym stops.1) (told.records.1 ∙ ap (λ (k : Class). Some k.loader) stops.0), tt)
+    (subst (λ (n : List ℕ). recorded_definer (records_of x) (at_loader j.path) n ≡ Some c.loader) (sym stops.1) (told.records.1 ∙ ap (λ (k : Class). Some k.loader) stops.0), tt)
 
 moved : {c d : Configured} {n : ℕ} → c ≡ d → n < length c.loaders → n < length d.loaders
 moved {n = n} e h = subst (λ (k : Configured). n < length k.loaders) e h
 
 -- the class that an obstacle is about is of a loader of the configuration
 end_within : {A : Type 0} (x : Shown) (r : Request) (t : Target A) (p : Pathed) (e : Obstacle A) → RecordedIsNamed → NamesLoaders x → p.config ≡ x.config → loader_of r < length p.config.loaders → at_loader p < length p.config.loaders → Stops p e
-    → EndWithin (length p.config.loaders) e → EndTold x p e → IsWithin (length x.config.loaders) (grounded r (verdict_at t p e) (basis_at r t p e))
+    → EndWithin (length p.config.loaders) e → EndTold x p e → IsWithin (length x.config.loaders) (grounded_answer r (verdict_at t p e) (basis_at r t p e))
 end_within x r t p (obstacles.Missing u) law named config asked at stops within told = record {
   loader = moved config asked;
   answer = subst (λ (l : ℕ). l < length x.config.loaders) (sym stops.asked) (moved config at);
@@ -103,8 +103,8 @@ obstacle_ends {A} told j e law job rests stops within = record {
   };
   failure = is_failure j.target j.path e;
   load = λ own.
-      subst (λ (v : verdict.Verdict). Rests told (grounded (load_of j.request) v (basis_at j.request j.target j.path e))) (own_verdict j.target j.path e own)
-      (subst (λ (b : Based). Rests told (grounded (load_of j.request) (verdict_at {A = A} targets.Own j.path e) b)) (own_basis j.request j.target j.path e own)
+      subst (λ (v : verdict.Verdict). Rests told (grounded_answer (load_of j.request) v (basis_at j.request j.target j.path e))) (own_verdict j.target j.path e own)
+      (subst (λ (b : Based). Rests told (grounded_answer (load_of j.request) (verdict_at {A = A} targets.Own j.path e) b)) (own_basis j.request j.target j.path e own)
       (rests (load_of j.request) targets.Own (own_for j.request j.target j.path own job.for_request) tt));
   record_is = tt;
   facts = λ x h. h.0.facts;
@@ -130,7 +130,7 @@ entry_within count (nexts.Initiate i) loader name home e h = let same : loader �
 
 -- so the answer names loaders of the configuration alone
 next_within : {A : Type 0} (told : Option Content) (count : ℕ) (r : Request) (t : Target A) (p : Pathed) (n : NextRecord A) (need : rust.Need) → loader_of r < count → need_of need ≡ next_need n → NextWithin count n
-    → IsWithin count (grounded r (verdicts.Linkage need) (refused_at r t p n))
+    → IsWithin count (grounded_answer r (verdicts.Linkage need) (refused_at r t p n))
 next_within told count r t p n (needs.Entry loader name home) asked is within = record { loader = asked; answer = entry_within count n loader name home is within }
 next_within told count r t p n (needs.Equal e) asked is within = absurd (equal_apart n e.name e.one e.other is)
 
@@ -144,11 +144,11 @@ refusal_ends {A} told j n need job rests is within = record {
     unprepared = refl;
     needs = λ x h. path_met x j (next_needs n) h.before h.needs;
     refused = λ x h. h.refused;
-    within = λ x config named h. subst (λ (k : Configured). IsWithin (length k.loaders) (grounded j.request (verdicts.Linkage need) (refused_at j.request j.target j.path n))) (sym config) (next_within told (length j.path.config.loaders) j.request j.target j.path n need job.asked is within);
+    within = λ x config named h. subst (λ (k : Configured). IsWithin (length k.loaders) (grounded_answer j.request (verdicts.Linkage need) (refused_at j.request j.target j.path n))) (sym config) (next_within told (length j.path.config.loaders) j.request j.target j.path n need job.asked is within);
   };
   failure = tt;
   load = λ own.
-      subst (λ (b : Based). Rests told (grounded (load_of j.request) (verdicts.Linkage need) b)) (own_refused j.request j.target j.path n own)
+      subst (λ (b : Based). Rests told (grounded_answer (load_of j.request) (verdicts.Linkage need) b)) (own_refused j.request j.target j.path n own)
       (rests (load_of j.request) targets.Own need (own_for j.request j.target j.path own job.for_request) tt is);
   record_is = next_record n;
   facts = λ x h. h.before.facts;

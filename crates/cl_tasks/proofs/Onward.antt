@@ -13,10 +13,10 @@ use Rattle.cl_model.specs.declared.request.Request.{Request}
 use Rattle.cl_model.specs.declared.verdict.Verdict.TheVariants as verdicts
 use Rattle.cl_model.specs.Classes.{Above, supers}
 use Rattle.cl_model.specs.Content.{Content}
-use Rattle.cl_model.specs.Frames.{Frame, wanted}
+use Rattle.cl_model.specs.Frames.{Frame, wanted_supertype}
 use Rattle.cl_model.specs.Machine.{Setting}
 use Rattle.cl_model.specs.Service.{IsNextNeed}
-use Rattle.cl_model.specs.States.{Entry, recorded}
+use Rattle.cl_model.specs.States.{Entry, recorded_definer}
 use Rattle.cl_model.specs.Views.{request_of}
 use Rattle.cl_model.proofs.Gone.{record_is_next}
 use Rattle.cl_config.specs.Views.{Configured}
@@ -26,7 +26,7 @@ use Rattle.cl_hierarchy.specs.Drafts.{Drafted, IsDraft, IsSpelt}
 use Rattle.cl_hierarchy.specs.Frames.{Framed, accepted_of, frame_of}
 use Rattle.cl_hierarchy.specs.Paths.{Accepts, AllStand, Completes, IsPath, Pathed, at_loader, at_name, fresh, frames_of, is_on, misfit_under, name_of, with_frame, with_frames}
 use Rattle.cl_hierarchy.specs.Rows.{Rowed}
-use Rattle.cl_model.specs.Frames.{asking, kept_of}
+use Rattle.cl_model.specs.Frames.{asking_loader, kept_of}
 use Rattle.cl_model.specs.States.{AllMet}
 use Rattle.cl_model.proofs.Stacks.{kept_is_met}
 use Rattle.cl_findings.specs.declared.load.Target.{Target}
@@ -79,10 +79,10 @@ within : {c d : Configured} {n : ℕ} → c ≡ d → n < length d.loaders → n
 within {n = n} e h = subst (λ (k : Configured). n < length k.loaders) (sym e) h
 
 asks_within : (told : Option Content) (c : Configured) (loader : ℕ) (name : List ℕ) (xs : List Framed) → loader < length c.loaders → AllStand c loader name xs → AllByRecursion (λ x. IsDraft told x.draft) xs
-    → asking loader (map frame_of xs) < length c.loaders
+    → asking_loader loader (map frame_of xs) < length c.loaders
 asks_within told c loader name [] h stand drafts = h
 asks_within told c loader name (x ∷ xs) h stand drafts =
-    asks_within told c x.draft.class.loader (name_of (wanted (frame_of x))) xs
+    asks_within told c x.draft.class.loader (name_of (wanted_supertype (frame_of x))) xs
     (subst (λ (l : ℕ). l < length c.loaders) (sym (ap (λ (k : Class). k.loader) drafts.0.placed)) (within (sym stand.0.config) drafts.0.within)) stand.1 drafts.1
 
 -- ---- a class is to be recorded
@@ -143,7 +143,7 @@ some_waits : (others : List Above) → (length others ≡ 0 → ⊥) → IsSome 
 some_waits [] h = absurd (h refl)
 some_waits (a ∷ others) h = refl
 
-pub waits_first : (d : Drafted) → (length (supers (file_of d.file)) ≡ 0 → ⊥) → IsSome (wanted (frame_of (fresh d)))
+pub waits_first : (d : Drafted) → (length (supers (file_of d.file)) ≡ 0 → ⊥) → IsSome (wanted_supertype (frame_of (fresh d)))
 waits_first d h = some_waits (supers (file_of d.file)) h
 
 pub leads_root : {A : Type 0} (told : Option Content) (j : Job A) (d : Drafted) (n : Next A) → IsJob told j.path.config j → IsPath told j.path → IsSought j.path d.home → IsDraft told d → is_on j.path d.class ≡ false → length (supers (file_of d.file)) ≡ 0
@@ -193,7 +193,7 @@ leads_moved told j c room holds n e l = subst (λ (k : Configured). LeadsBy told
 
 -- ---- a class that waits for its first supertype
 
-pub leads_descent : {A : Type 0} (told : Option Content) (j : Job A) (d : Drafted) (new : Pathed) (n : Next A) → IsJob told j.path.config j → IsPath told j.path → IsPath told new → new ≡ with_frame j.path (fresh d) → length (supers (file_of d.file)) ≤ most → IsSome (wanted (frame_of (fresh d)))
+pub leads_descent : {A : Type 0} (told : Option Content) (j : Job A) (d : Drafted) (new : Pathed) (n : Next A) → IsJob told j.path.config j → IsPath told j.path → IsPath told new → new ≡ with_frame j.path (fresh d) → length (supers (file_of d.file)) ≤ most → IsSome (wanted_supertype (frame_of (fresh d)))
     → LeadsAt told phases.Fresh (on_path j new) (HoldsOn (on_path j new)) n → LeadsFrom told phases.Homing j d.home.place (HoldsOn j) n
 leads_descent {A} told j d new n job path on is few waits l =
     let grown = with_frame j.path (fresh d) in
@@ -251,12 +251,12 @@ accepts_last old new place o x e h = subst (λ (k : Option Framed). MatchOption 
 
 -- ---- the loader that was asked
 
-home_records : (x : Shown) (p : Pathed) (h : Located) (row : Rowed) → IsSought p h → IsRecordedAs x h.place (at_name p) row → row.class.loader ≡ h.place → recorded (records_of x) h.place h.name ≡ Some h.place
+home_records : (x : Shown) (p : Pathed) (h : Located) (row : Rowed) → IsSought p h → IsRecordedAs x h.place (at_name p) row → row.class.loader ≡ h.place → recorded_definer (records_of x) h.place h.name ≡ Some h.place
 home_records x p h row sought told own =
-    subst (λ (n : List ℕ). recorded (records_of x) h.place n ≡ Some h.place) (sym sought.name) (told.records.1 ∙ ap (λ (l : ℕ). Some l) own)
+    subst (λ (n : List ℕ). recorded_definer (records_of x) h.place n ≡ Some h.place) (sym sought.name) (told.records.1 ∙ ap (λ (l : ℕ). Some l) own)
 
 away_wanted : {A : Type 0} (told : Option Content) (j : Job A) (h : Arc (Home A) Global) → IsJob told j.path.config j → IsPath told j.path → IsSought j.path h.value → h.value.place ≢ at_loader j.path → LeadsTo told h.value.config h.value.asked h.value.name (Some h.value.place)
-    → (g : Setting) (y : Shown) → ServedIn told j.path.config g (state_of y) → HoldsOn j y → recorded (records_of y) h.value.place h.value.name ≡ Some h.value.place → IsWanted g (state_of y) j.request (Entry h.value.asked h.value.name h.value.place)
+    → (g : Setting) (y : Shown) → ServedIn told j.path.config g (state_of y) → HoldsOn j y → recorded_definer (records_of y) h.value.place h.value.name ≡ Some h.value.place → IsWanted g (state_of y) j.request (Entry h.value.asked h.value.name h.value.place)
 away_wanted {A} told j h job path sought other lead g y served holds rec =
     let i = h.value in
     let need : rust.Need = needs.Entry i.asked i.name i.place in
@@ -278,7 +278,7 @@ leads_initiate told j h kept row same job path sought lead other own = record {
   calls = same_holds told j (FindsAt j h.value.place row) (job_calls [] (sought_ask j.path ∷ []) 1 j) (calls_at phases.Defining j h.value.place) (sym (away_defined j h.value.place (λ e. other (sym e))));
   keeps = λ x f. record {
     frames = f.before.frames;
-    facts = (subst (λ (i : Located). recorded (records_of x) i.place i.name ≡ Some i.place) (sym same) (home_records x j.path h.value row sought f.now own), f.before.facts);
+    facts = (subst (λ (i : Located). recorded_definer (records_of x) i.place i.name ≡ Some i.place) (sym same) (home_records x j.path h.value row sought f.now own), f.before.facts);
   };
   backed = λ x config named consistent f. record {
     config = sought.config ∙ sym config;

@@ -6,7 +6,7 @@ use Rattle.std.proofs.lemmas.List.Sums.{sum_by-cons, sum_by-le-sum_by, count_by-
 use Rattle.cl_classfile.specs.Files.{Name}
 use Rattle.cl_model.specs.Homes.{World}
 use Rattle.cl_model.specs.Plans.{Plan, edges_of, homes_of, nodes_of, same_ask}
-use Rattle.cl_model.specs.States.{State, recorded}
+use Rattle.cl_model.specs.States.{State, recorded_definer}
 use Rattle.cl_model.specs.Works.{Ask}
 use Rattle.cl_model.proofs.Marks.{In}
 use Rattle.cl_tasks.specs.Calls.{is_own_home, own_homes, record_calls, is_unrecorded, is_to_record, if_so, open_calls}
@@ -97,10 +97,10 @@ still_open false true d e h k = subst (λ (x : Bool). (x && e) ≡ true) (sym (h
 still_open false false d e h k = absurd cc
 
 -- where no fewer names are recorded, no more is left
-pub open_lessens : (w : World) (p : Plan) (s t : State) (absent hand : List Ask) → ((l : ℕ) (n : Name) → recorded t.records l n ≡ None → recorded s.records l n ≡ None) → open_calls w p t absent hand ≤ open_calls w p s absent hand
+pub open_lessens : (w : World) (p : Plan) (s t : State) (absent hand : List Ask) → ((l : ℕ) (n : Name) → recorded_definer t.records l n ≡ None → recorded_definer s.records l n ≡ None) → open_calls w p t absent hand ≤ open_calls w p s absent hand
 open_lessens w p s t absent hand h =
     open_le w p s t absent absent hand hand (λ a. still_open (list_any (same_ask a) absent) (is_unrecorded t a) (is_unrecorded s a) (not (list_any (same_ask a) hand))
-    (λ e. at_none (recorded s.records a.loader a.name) (h a.loader a.name (none_at (recorded t.records a.loader a.name) e))))
+    (λ e. at_none (recorded_definer s.records a.loader a.name) (h a.loader a.name (none_at (recorded_definer t.records a.loader a.name) e))))
 
 -- ---- how much is open at most
 

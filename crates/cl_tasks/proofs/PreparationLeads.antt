@@ -17,7 +17,7 @@ use Rattle.cl_model.specs.Classes.{supers}
 use Rattle.cl_model.specs.Machine.{Setting}
 use Rattle.cl_model.specs.Preparation.{constraints_of}
 use Rattle.cl_model.specs.Service.{ComesTo}
-use Rattle.cl_model.specs.States.{State, Need, IsLinked, Linkage, AllMet, recorded}
+use Rattle.cl_model.specs.States.{State, Need, IsLinked, Linkage, AllMet, recorded_definer}
 use Rattle.cl_model.specs.Tables.{Bears}
 use Rattle.cl_model.specs.Views.{need_of, request_of}
 use Rattle.cl_model.proofs.Bind.{some_same}
@@ -29,7 +29,7 @@ use Rattle.cl_hierarchy.specs.Lineages.{IsInOrder, IsLined, IsLineageOf, Lined, 
 use Rattle.cl_hierarchy.specs.Rows.{Rowed}
 use Rattle.cl_hierarchy.proofs.MetAbove.{known_met}
 use Rattle.cl_findings.specs.Bases.{AreLineages, IsListed}
-use Rattle.cl_findings.specs.Findings.{Answered, BasisStands, IsWithin, grounded, loader_of}
+use Rattle.cl_findings.specs.Findings.{Answered, BasisStands, IsWithin, grounded_answer, loader_of}
 use Rattle.cl_findings.specs.References.{link_basis}
 use Rattle.cl_findings.proofs.References.{next_at, whole_taken}
 use Rattle.cl_registry.specs.Imposing.{ArePreparedAbove, IsNextOf, IsReady, IsReadyBy, IsStanding, MayImpose, MayMark, OriginStands}
@@ -111,9 +111,9 @@ module _ {A : Type 0} (told : Option Content) (c : Configured) (k : Chain A) (e 
       let traced = list_traced x k e i known.place.at known.place.given known.place.prepares h in
       record { config = traced.config; recorded = (traced_own x known.place.at.own.class known.place.at traced).recorded }
 
-  goal_recorded : (x : Shown) (i : ℕ) → ListTold k e i x → recorded (records_of x) (loader_of k.goal.request) k.whole.own.class.name ≡ Some k.whole.own.class.loader
+  goal_recorded : (x : Shown) (i : ℕ) → ListTold k e i x → recorded_definer (records_of x) (loader_of k.goal.request) k.whole.own.class.name ≡ Some k.whole.own.class.loader
   goal_recorded x i h =
-      subst (λ (d : Class). recorded (records_of x) (loader_of k.goal.request) d.name ≡ Some d.loader) (sym chain.whole.class) (goal_at x k.goal (chain_goal x k (list_chain x k e i h)))
+      subst (λ (d : Class). recorded_definer (records_of x) (loader_of k.goal.request) d.name ≡ Some d.loader) (sym chain.whole.class) (goal_at x k.goal (chain_goal x k (list_chain x k e i h)))
 
   -- where the request is served, the link is at that class
   pub here : (g : Setting) (x : Shown) (i : ℕ) → ServedIn told c g (state_of x) → ListTold k e i x → IsThere g (state_of x) (loader_of k.goal.request) k.whole known.place.at k.place
@@ -246,7 +246,7 @@ module _ {A : Type 0} (told : Option Content) (c : Configured) (k : Chain A) (e 
 
   -- its finding
   abbrev found : ℕ → rust.Need → Answered
-  found i need = grounded k.goal.request (verdicts.Linkage need) (link_basis k.goal.request k.whole k.place e i (Some (need_of need)))
+  found i need = grounded_answer k.goal.request (verdicts.Linkage need) (link_basis k.goal.request k.whole k.place e i (Some (need_of need)))
 
   refused_backed : (x : Shown) (i : ℕ) (need : rust.Need) → x.config ≡ c → NamesLoaders x → RefusedTold k e i (need_of need) x → IsBacked x (found i need)
   refused_backed x i need config names h =

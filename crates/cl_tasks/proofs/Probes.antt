@@ -8,7 +8,7 @@ use Rattle.cl_config.specs.Views as views
 use Rattle.cl_config.specs.Views.{Configured}
 use Rattle.cl_config.specs.Loaders.{loaders_in, world_loader, world_order}
 use Rattle.cl_source.specs.Views.{Found}
-use Rattle.cl_delegation.specs.Searches.{Searched, begun, next_of, next_on, route_of, with_bytes, with_probe}
+use Rattle.cl_delegation.specs.Searches.{Searched, begun_search, next_of, next_on, route_of, with_bytes, with_probe}
 use Rattle.cl_model.specs.Frames.{Frame}
 use Rattle.cl_model.proofs.Derivations.{all_map}
 use Rattle.cl_model.proofs.Derived.{all_both}
@@ -116,11 +116,11 @@ unfolding most
 few_probes n h = let k : 64 < 18446744073709551616 = lit< tt in omega arith
 
 -- a search that begins has few loaders to ask
-pub begins_less : (xs : List Frame) (c : Configured) (loader : ℕ) (name : Name) (s : Searched) → s ≡ begun c loader name → loader < length c.loaders → length c.loaders ≤ 64 → left_at phases.Reading xs (reads_left s) ≤ left_at phases.Looking xs 0
+pub begins_less : (xs : List Frame) (c : Configured) (loader : ℕ) (name : Name) (s : Searched) → s ≡ begun_search c loader name → loader < length c.loaders → length c.loaders ≤ 64 → left_at phases.Reading xs (reads_left s) ≤ left_at phases.Looking xs 0
 begins_less xs c loader name s is h few =
     let short = route_short c loader name in
-    let n : probes_left (begun c loader name) ≤ most = few_probes (probes_left (begun c loader name)) (omega (arith, short)) in
-    subst (λ (u : Searched). left_at phases.Reading xs (reads_left u) ≤ left_at phases.Looking xs 0) (sym is) (above (turns * left_while_loading xs) most (probes_left (begun c loader name)) n)
+    let n : probes_left (begun_search c loader name) ≤ most = few_probes (probes_left (begun_search c loader name)) (omega (arith, short)) in
+    subst (λ (u : Searched). left_at phases.Reading xs (reads_left u) ≤ left_at phases.Looking xs 0) (sym is) (above (turns * left_while_loading xs) most (probes_left (begun_search c loader name)) n)
   where
     above : (a m p : ℕ) → p ≤ m → a + ((p + 1) + 5) ≤ a + (m + 7)
     above a m p h = omega arith
@@ -172,7 +172,7 @@ reads_more_so : {A : Type 0} (p : Pathed) (is so : ℕ → Type 0) (u : Turn A) 
 reads_more_so p is so u weaker h = (of_reads u).1 p so (λ l n e. let k = subst (λ (v : Turn _). ReadsAt p is v) e h in (k.0, weaker l k.1))
 
 -- a search that begins asks the first on its way
-pub reads_first : {A : Type 0} (p : Pathed) (s : Searched) (u : Turn A) → s ≡ begun p.config (at_loader p) (at_name p) → ReadsAt p (λ l. next_of s ≡ Some l) u → ReadsAt p (λ l. slice_get (way_on p) 0 ≡ Some l) u
+pub reads_first : {A : Type 0} (p : Pathed) (s : Searched) (u : Turn A) → s ≡ begun_search p.config (at_loader p) (at_name p) → ReadsAt p (λ l. next_of s ≡ Some l) u → ReadsAt p (λ l. slice_get (way_on p) 0 ≡ Some l) u
 reads_first p s u is h = subst (λ (t : Searched). ReadsAt p (λ l. next_of t ≡ Some l) u) is h
 
 -- behind a probe a search asks the next on its way, if that found nothing

@@ -7,11 +7,11 @@ use Rattle.cl_model.specs.declared.request.Request.{Request}
 use Rattle.cl_model.specs.declared.request.Request.TheVariants as requests
 use Rattle.cl_model.specs.Content.{Content}
 use Rattle.cl_model.specs.Classes.{class}
-use Rattle.cl_model.specs.Frames.{Frame, asking}
+use Rattle.cl_model.specs.Frames.{Frame, asking_loader}
 use Rattle.cl_model.specs.Homes.{World}
 use Rattle.cl_model.specs.Machine.{AnswersPlan}
 use Rattle.cl_model.specs.Plans as plans
-use Rattle.cl_model.specs.States.{State, IsClass, recorded}
+use Rattle.cl_model.specs.States.{State, IsClass, recorded_definer}
 use Rattle.cl_model.specs.Tables.{Records}
 use Rattle.cl_model.proofs.Looks.{recorded_answers}
 use Rattle.cl_model.proofs.Service.{load_comes}
@@ -28,7 +28,7 @@ use Rattle.cl_registry.specs.Tables.{Shown, records_of, state_of}
 use Rattle.cl_registry.proofs.Named.{recorded_is_named}
 use Rattle.cl_tasks.specs.Calls.{Calls, calls_in, hand_calls, in_hand, own_calls, reference_calls, while_loading}
 use Rattle.cl_tasks.specs.Facts.{AreSo, IsRecordedAs}
-use Rattle.cl_tasks.specs.Reaching.{ReachesBy, reached}
+use Rattle.cl_tasks.specs.Reaching.{ReachesBy, after_reaching}
 use Rattle.cl_tasks.specs.Measures.{Initiating, checking_left, left_at, named_left, own_left, prepared_left}
 use Rattle.cl_tasks.specs.Resolving.{NamedTold}
 use Rattle.cl_tasks.specs.Rooms.{Room, calls_at, named_room, room_at, room_of}
@@ -56,10 +56,10 @@ reached_calls r = while_loading [] [] 0 (own_calls r)
 abbrev pub reached_room : Request → Room
 reached_room r = room_of (reached_left r) (reached_calls r)
 
-record_for : (x : Shown) (l : ℕ) (n : List ℕ) (row : Rowed) → IsRecordedAs x l n row → recorded (records_of x) l row.class.name ≡ Some row.class.loader
-record_for x l n row h = subst (λ (k : List ℕ). recorded (records_of x) l k ≡ Some row.class.loader) (sym h.records.0) h.records.1
+record_for : (x : Shown) (l : ℕ) (n : List ℕ) (row : Rowed) → IsRecordedAs x l n row → recorded_definer (records_of x) l row.class.name ≡ Some row.class.loader
+record_for x l n row h = subst (λ (k : List ℕ). recorded_definer (records_of x) l k ≡ Some row.class.loader) (sym h.records.0) h.records.1
 
-reaches_load : (A : Type 0) (told : Option Content) (c : Configured) (q l : ℕ) (n : List ℕ) (row : Arc (ClassRow A) Global) → l < length c.loaders → LeadsBy {A = A} told c q (requests.Load l n) (reached_room (requests.Load l n)) (RowFor (requests.Load l n) row.value) (reached q (requests.Load l n) row row.value.class)
+reaches_load : (A : Type 0) (told : Option Content) (c : Configured) (q l : ℕ) (n : List ℕ) (row : Arc (ClassRow A) Global) → l < length c.loaders → LeadsBy {A = A} told c q (requests.Load l n) (reached_room (requests.Load l n)) (RowFor (requests.Load l n) row.value) (after_reaching q (requests.Load l n) row row.value.class)
 reaches_load A told c q l n row asked =
     leads_post refl (omega arith) (λ w p s. omega arith)
     (λ x config named consistent h. record {
@@ -83,7 +83,7 @@ reaches_load A told c q l n row asked =
     row_class x l n row h = ap (λ (k : List ℕ). class k row.class.loader) (sym h.records.0)
 
 reaches_reference : (A : Type 0) (told : Option Content) (c : Configured) (q l : ℕ) (n : List ℕ) (i : ℕ) (row : Arc (ClassRow A) Global) → l < length c.loaders → row.value.class.name ≡ n
-    → LeadsBy {A = A} told c q (requests.Resolve l n i) (reached_room (requests.Resolve l n i)) (RowFor (requests.Resolve l n i) row.value) (reached q (requests.Resolve l n i) row row.value.class)
+    → LeadsBy {A = A} told c q (requests.Resolve l n i) (reached_room (requests.Resolve l n i)) (RowFor (requests.Resolve l n i) row.value) (after_reaching q (requests.Resolve l n i) row row.value.class)
 reaches_reference A told c q l n i row asked name = record {
   kept = record { of = ap (λ (k : List ℕ). requests.Resolve l k i) (sym name); asked = asked };
   number = refl;
@@ -97,7 +97,7 @@ reaches_reference A told c q l n i row asked name = record {
 }
 
 reaches_goal : (A : Type 0) (told : Option Content) (c : Configured) (q l : ℕ) (n : List ℕ) (row : Arc (ClassRow A) Global) → l < length c.loaders → row.value.class.name ≡ n
-    → LeadsBy {A = A} told c q (requests.Link l n) (reached_room (requests.Link l n)) (RowFor (requests.Link l n) row.value) (reached q (requests.Link l n) row row.value.class)
+    → LeadsBy {A = A} told c q (requests.Link l n) (reached_room (requests.Link l n)) (RowFor (requests.Link l n) row.value) (after_reaching q (requests.Link l n) row row.value.class)
 reaches_goal A told c q l n row asked name = record {
   kept = record { of = ap (λ (k : List ℕ). requests.Link l k) (sym name); asked = asked };
   number = refl;
@@ -111,7 +111,7 @@ reaches_goal A told c q l n row asked name = record {
 }
 
 reaches_class : (A : Type 0) (told : Option Content) (c : Configured) (q : ℕ) (r : Request) (row : Arc (ClassRow A) Global) → loader_of r < length c.loaders → row.value.class.name ≡ name_of r
-    → LeadsBy {A = A} told c q r (reached_room r) (RowFor r row.value) (reached q r row row.value.class)
+    → LeadsBy {A = A} told c q r (reached_room r) (RowFor r row.value) (after_reaching q r row row.value.class)
 reaches_class A told c q (requests.Load l n) row asked name = reaches_load A told c q l n row asked
 reaches_class A told c q (requests.Resolve l n i) row asked name = reaches_reference A told c q l n i row asked name
 reaches_class A told c q (requests.Link l n) row asked name = reaches_goal A told c q l n row asked name
@@ -140,7 +140,7 @@ own_room (requests.Link l n) = omega arith
 -- ---- a path without frames
 
 root_loader : (p : Pathed) → p.frames ≡ [] → at_loader p ≡ p.loader
-root_loader p e = ap (λ (fs : List Framed). asking p.loader (map frame_of fs)) e
+root_loader p e = ap (λ (fs : List Framed). asking_loader p.loader (map frame_of fs)) e
 
 root_name : (p : Pathed) → p.frames ≡ [] → at_name p ≡ p.name
 root_name p e = ap (sought p.name) e

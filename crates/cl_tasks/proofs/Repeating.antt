@@ -4,7 +4,7 @@ use Rattle.cl_classfile.specs.Files.{file_of}
 use Rattle.cl_model.specs.declared.class.Class.{Class}
 use Rattle.cl_model.specs.Classes.{Above, class, supers}
 use Rattle.cl_model.specs.Content.{Content}
-use Rattle.cl_model.specs.Frames.{Frame, accepting}
+use Rattle.cl_model.specs.Frames.{Frame, with_accepted}
 use Rattle.cl_config.specs.Views.{Configured}
 use Rattle.cl_hierarchy.specs.Frames.{Framed, accepted_of, frame_of, with_place}
 use Rattle.cl_hierarchy.specs.Paths.{IsPath, Pathed, frames_of}
@@ -49,7 +49,7 @@ takes_again : (x : Shown) (p : Pathed) (before : List Framed) (last : Framed) (p
 takes_again x p before last place top h r =
     let a = top.above in
     let t = class a.name place in
-    let f : frame_of (with_place last place) ≡ accepting (frame_of last) t = accepts_one last (with_place last place) place refl (Some a) top.wants in
+    let f : frame_of (with_place last place) ≡ with_accepted (frame_of last) t = accepts_one last (with_place last place) place refl (Some a) top.wants in
     subst (λ (z : Frame). Has x z) (sym f)
     (accepting_has x (frame_of last) a t h top.wants (has_at x last.draft.class (supers (file_of last.draft.file)) last.places r.first place a h r.accepted (r.same ∙ top.wants)))
 

@@ -14,7 +14,7 @@ use Rattle.cl_model.specs.Content.{Content}
 use Rattle.cl_model.specs.Machine.{AnswersPlan, IsSound, Setting, Settle}
 use Rattle.cl_model.specs.Plans as plans
 use Rattle.cl_model.specs.Service.{ComesTo, IsNextStep}
-use Rattle.cl_model.specs.States.{State, Need, Verdict, AllMet, Entry, Equal, IsClass, Refused, recorded, settled_to}
+use Rattle.cl_model.specs.States.{State, Need, Verdict, AllMet, Entry, Equal, IsClass, Refused, recorded_definer, settled_to}
 use Rattle.cl_model.specs.States as states
 use Rattle.cl_model.specs.Tables.{Bears}
 use Rattle.cl_model.specs.Views.{request_of, verdict_of}
@@ -31,7 +31,7 @@ use Rattle.cl_model.proofs.Tables.{reached_records, recorded_reached}
 use Rattle.cl_model.proofs.Progress.{met_split}
 use Rattle.cl_config.specs.Views.{Configured, Scripted}
 use Rattle.cl_delegation.specs.Worlds.{setting_of, world_of}
-use Rattle.cl_findings.specs.Findings.{Answered, Based, Concludes, HasImposed, IsBorne, IsWithin, Rests, VerdictRests, loader_of, name_of, grounded}
+use Rattle.cl_findings.specs.Findings.{Answered, Based, Concludes, HasImposed, IsBorne, IsWithin, Rests, VerdictRests, loader_of, name_of, grounded_answer}
 use Rattle.cl_registry.specs.Posting.{IsBacked}
 use Rattle.cl_registry.specs.References.{cited_by}
 use Rattle.cl_registry.specs.Settling as settling
@@ -45,7 +45,7 @@ use Rattle.std.proofs.lemmas.Option.{none-some}
 use Rattle.cl_findings.proofs.Answered.{answered_by}
 
 -- a finding is of its parts
-pub found_is : (f : Answered) (r : Request) (v : verdict.Verdict) (b : Based) → f.request ≡ r → f.answer ≡ answers.Said v → f.basis ≡ Some b → f ≡ grounded r v b
+pub found_is : (f : Answered) (r : Request) (v : verdict.Verdict) (b : Based) → f.request ≡ r → f.answer ≡ answers.Said v → f.basis ≡ Some b → f ≡ grounded_answer r v b
 found_is f r v b request answer basis =
     ap (λ (q : Request). record { request = q; answer = f.answer; basis = f.basis }) request
     ∙ ap (λ (a : Answer). record { request = r; answer = a; basis = f.basis }) answer
@@ -55,12 +55,12 @@ found_is f r v b request answer basis =
 
 -- what a verdict rests on, where this holds: no class is to be prepared for it
 pub record Stood (told : Option Content) (c : Configured) (r : Request) (v : verdict.Verdict) (b : Based) (holds : Shown → Type 0) : Type 0 where
-  pub rests : Rests told (grounded r v b)
+  pub rests : Rests told (grounded_answer r v b)
   pub config : b.config ≡ c
   pub unprepared : b.prepared ≡ []
   pub needs : (x : Shown) → holds x → AllMet (state_of x) b.needs
   pub refused : (x : Shown) → holds x → IfSome b.refused (Refused (state_of x))
-  pub within : (x : Shown) → x.config ≡ c → NamesLoaders x → holds x → IsWithin (length x.config.loaders) (grounded r v b)
+  pub within : (x : Shown) → x.config ≡ c → NamesLoaders x → holds x → IsWithin (length x.config.loaders) (grounded_answer r v b)
 
 pub borne : (told : Option Content) (c : Configured) (r : Request) (v : verdict.Verdict) (b : Based) (holds : Shown → Type 0) → Stood told c r v b holds → (x : Shown) → x.config ≡ c → holds x → IsBorne x.config (state_of x) b
 borne told c r v b holds stood x config h = record {
@@ -71,7 +71,7 @@ borne told c r v b holds stood x config h = record {
 -- ---- where a content is told
 
 -- what rests on its basis is the conclusion, where that stands
-rests_concludes : (content : Content) (c : Configured) (script : Scripted) (s : State) (r : Request) (v : verdict.Verdict) (b : Based) → Rests (Some content) (grounded r v b) → b.config ≡ c → b.prepared ≡ [] → IsSound (setting_of c script content) s → AllMet s b.needs
+rests_concludes : (content : Content) (c : Configured) (script : Scripted) (s : State) (r : Request) (v : verdict.Verdict) (b : Based) → Rests (Some content) (grounded_answer r v b) → b.config ≡ c → b.prepared ≡ [] → IsSound (setting_of c script content) s → AllMet s b.needs
     → Concludes (world_of c content) s (request_of r) b.refused b.prepared (verdict_of v)
 rests_concludes content c script s r v b rests config bare sound needs =
     let w : World = world_of c content in
@@ -79,11 +79,11 @@ rests_concludes content c script s r v b rests config bare sound needs =
     h.concludes s sound.closed (record { needs = needs; prepared = subst (λ (cs : List Class). AllByRecursion (HasImposed w s) cs) (sym bare) tt })
 
 -- the same where the request is served
-pub concludes_at : (told : Option Content) (c : Configured) (g : Setting) (s : State) (r : Request) (v : verdict.Verdict) (b : Based) → ServedIn told c g s → Rests told (grounded r v b) → b.config ≡ c → b.prepared ≡ [] → AllMet s b.needs
+pub concludes_at : (told : Option Content) (c : Configured) (g : Setting) (s : State) (r : Request) (v : verdict.Verdict) (b : Based) → ServedIn told c g s → Rests told (grounded_answer r v b) → b.config ≡ c → b.prepared ≡ [] → AllMet s b.needs
     → Concludes g.world s (request_of r) b.refused b.prepared (verdict_of v)
 concludes_at told c g s r v b served rests config bare needs =
     subst (λ (k : Setting). Concludes k.world s (request_of r) b.refused b.prepared (verdict_of v)) (sym served.setting)
-    (rests_concludes served.content c served.script s r v b (subst (λ (t : Option Content). Rests t (grounded r v b)) served.told_so rests) config bare (subst (λ (k : Setting). IsSound k s) served.setting served.sound) needs)
+    (rests_concludes served.content c served.script s r v b (subst (λ (t : Option Content). Rests t (grounded_answer r v b)) served.told_so rests) config bare (subst (λ (k : Setting). IsSound k s) served.setting served.sound) needs)
 
 -- the same of what stands
 pub stood_concludes : (told : Option Content) (c : Configured) (r : Request) (v : verdict.Verdict) (b : Based) (holds : Shown → Type 0) → Stood told c r v b holds → (g : Setting) (x : Shown) → ServedIn told c g (state_of x) → holds x
@@ -100,17 +100,17 @@ stood_answers told c r v b holds stood g x served h =
 -- the class of a request to resolve an entry is recorded, and it may be settled
 pub record Settling (r : Request) (d : Class) (i : ℕ) (v : verdict.Verdict) (holds : Shown → Type 0) : Type 0 where
   pub resolves : r ≡ requests.Resolve (loader_of r) d.name i
-  pub kept : (x : Shown) → holds x → recorded (records_of x) (loader_of r) d.name ≡ Some d.loader
+  pub kept : (x : Shown) → holds x → recorded_definer (records_of x) (loader_of r) d.name ≡ Some d.loader
   pub kind : IsSettledKind v
 
-cited_so : (x : Shown) (r : Request) (d : Class) (i l : ℕ) → r ≡ requests.Resolve l d.name i → recorded (records_of x) l d.name ≡ Some d.loader → cited_by x r ≡ Some (record { class = d; index = i })
+cited_so : (x : Shown) (r : Request) (d : Class) (i l : ℕ) → r ≡ requests.Resolve l d.name i → recorded_definer (records_of x) l d.name ≡ Some d.loader → cited_by x r ≡ Some (record { class = d; index = i })
 cited_so x r d i l is kept =
     ap (cited_by x) is
     ∙ ap (λ (o : Option ℕ). option_map (λ place. record { class = class d.name place; index = i }) o) kept
 
 -- it may be settled in the tables
 pub may_settle : (told : Option Content) (c : Configured) (r : Request) (d : Class) (i : ℕ) (v : verdict.Verdict) (b : Based) (holds : Shown → Type 0) → Stood told c r v b holds → Settling r d i v holds → (x : Shown) → x.config ≡ c → NamesLoaders x → holds x
-    → settling.FindingSettles x (grounded r v b)
+    → settling.FindingSettles x (grounded_answer r v b)
 may_settle told c r d i v b holds stood may x config named h = (
   record { class = d; index = i; verdict = v },
   record {
@@ -121,7 +121,7 @@ may_settle told c r d i v b holds stood may x config named h = (
 )
 
 -- past the load of its class the answer of a resolution settles its reference next
-answer_settles : (g : Setting) (s : State) (l : ℕ) (d : Class) (i : ℕ) (v : verdict.Verdict) → IsSound g s → recorded s.records l d.name ≡ Some d.loader → AnswersPlan g s (plans.Resolve l d.name i) (verdict_of v) → IsSettledKind v
+answer_settles : (g : Setting) (s : State) (l : ℕ) (d : Class) (i : ℕ) (v : verdict.Verdict) → IsSound g s → recorded_definer s.records l d.name ≡ Some d.loader → AnswersPlan g s (plans.Resolve l d.name i) (verdict_of v) → IsSettledKind v
     → settled_to s.settled d i ≡ None → IsNextStep g s (plans.Resolve l d.name i) (Settle d i (verdict_of v))
 answer_settles g s l d i v sound kept answer kind unsettled =
     let p = plan_exists g.world (plans.Resolve l d.name i) in
@@ -136,13 +136,13 @@ answer_settles g s l d i v sound kept answer kind unsettled =
     })
 
 pub settled_next : (told : Option Content) (c : Configured) (r : Request) (d : Class) (i : ℕ) (v : verdict.Verdict) (b : Based) (holds : Shown → Type 0) → Stood told c r v b holds → Settling r d i v holds → (g : Setting) (x : Shown) → ServedIn told c g (state_of x) → holds x
-    → IsSettledNext g (state_of x) r (grounded r v b)
+    → IsSettledNext g (state_of x) r (grounded_answer r v b)
 settled_next told c r d i v b holds stood may g x served h =
     let l = loader_of r in
     let s = state_of x in
     let q : Request = requests.Resolve l d.name i in
     let answer : AnswersPlan g s (request_of r) (verdict_of v) = stood_answers told c r v b holds stood g x served h in
-    subst (λ (k : Request). IsSettledNext g s k (grounded k v b)) (sym may.resolves)
+    subst (λ (k : Request). IsSettledNext g s k (grounded_answer k v b)) (sym may.resolves)
     (record {
       class = d;
       kept = (refl, may.kept x h);
@@ -170,7 +170,7 @@ failure_bears s (requests.Resolve l n i) v apart h = absurd (apart tt)
 failure_bears s (requests.Link l n) v apart h = λ c e. absurd ((failure_of v c h).1 e)
 
 pub failure_backed : (told : Option Content) (c : Configured) (r : Request) (v : verdict.Verdict) (b : Based) (holds : Shown → Type 0) → Stood told c r v b holds → IsNoResolution r → IsFailure v → (x : Shown) → x.config ≡ c → NamesLoaders x → holds x
-    → IsBacked x (grounded r v b)
+    → IsBacked x (grounded_answer r v b)
 failure_backed told c r v b holds stood apart failure x config named h = record {
   within = stood.within x config named h;
   answer = record {
@@ -191,19 +191,19 @@ IsRecordIn (Some (Equal name a b)) = ⊥
 pub record OwnFails (told : Option Content) (c : Configured) (r : Request) (v : verdict.Verdict) (b : Based) (holds : Shown → Type 0) : Type 0 where
   pub stood : Stood told c r v b holds
   pub failure : IsFailure v
-  pub load : Rests told (grounded (load_of r) v b)
+  pub load : Rests told (grounded_answer (load_of r) v b)
   pub record_is : IsRecordIn b.refused
 
 -- where its load fails, the class of a request is not recorded
-pub unrecorded : (g : Setting) (s : State) (l : ℕ) (n : List ℕ) (v : verdict.Verdict) → IsSound g s → IsFailure v → AnswersPlan g s (plans.Load l n) (verdict_of v) → recorded s.records l n ≡ None
-unrecorded g s l n v sound failure answer = step (recorded s.records l n) refl
+pub unrecorded : (g : Setting) (s : State) (l : ℕ) (n : List ℕ) (v : verdict.Verdict) → IsSound g s → IsFailure v → AnswersPlan g s (plans.Load l n) (verdict_of v) → recorded_definer s.records l n ≡ None
+unrecorded g s l n v sound failure answer = step (recorded_definer s.records l n) refl
   where
-    step : (o : Option ℕ) → recorded s.records l n ≡ o → o ≡ None
+    step : (o : Option ℕ) → recorded_definer s.records l n ≡ o → o ≡ None
     step None e = refl
     step (Some place) e = absurd ((failure_of v (class n place) failure).0 (one_plan_answer g s (plans.Load l n) (verdict_of v) (IsClass (class n place)) answer (recorded_answers g s l place n sound.closed e)))
 
 own_unrecorded : (told : Option Content) (c : Configured) (r : Request) (v : verdict.Verdict) (b : Based) (holds : Shown → Type 0) → OwnFails told c r v b holds → (g : Setting) (x : Shown) → ServedIn told c g (state_of x) → holds x
-    → recorded (records_of x) (loader_of r) (name_of r) ≡ None
+    → recorded_definer (records_of x) (loader_of r) (name_of r) ≡ None
 own_unrecorded told c r v b holds own g x served h =
     let stood = own.stood in
     let load : Stood told c (load_of r) v b holds = record {
@@ -217,7 +217,7 @@ own_unrecorded told c r v b holds own g x served h =
     unrecorded g (state_of x) (loader_of r) (name_of r) v served.sound own.failure (stood_answers told c (load_of r) v b holds load g x served h)
 
 -- a link whose class is not recorded comes to it
-link_comes_so : (g : Setting) (s : State) (l : ℕ) (n : List ℕ) (o : Option Need) (cs : List Class) (v : Verdict) → recorded s.records l n ≡ None → IsRecordIn o → Concludes g.world s (plans.Link l n) o cs v → IfSome o (Refused s) → ComesTo g s (plans.Link l n) v
+link_comes_so : (g : Setting) (s : State) (l : ℕ) (n : List ℕ) (o : Option Need) (cs : List Class) (v : Verdict) → recorded_definer s.records l n ≡ None → IsRecordIn o → Concludes g.world s (plans.Link l n) o cs v → IfSome o (Refused s) → ComesTo g s (plans.Link l n) v
 link_comes_so g s l n None cs v free is h refused = unreached_comes g s (plans.Link l n) h.plan v h.planned (unreached h.plan.reached refl) (answers_here g s (plans.Link l n) v h)
   where
     unreached : (o : Option Class) → h.plan.reached ≡ o → h.plan.reached ≡ None

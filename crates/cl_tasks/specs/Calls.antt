@@ -11,7 +11,7 @@ use Rattle.cl_model.specs.Homes.{World, home}
 use Rattle.cl_model.specs.Lineages.{Kin}
 use Rattle.cl_model.specs.Plans.{Plan, edges_of, homes_of, is_equal, nodes_of, plan_needs, same_ask}
 use Rattle.cl_model.specs.Preparation.{constraints_of}
-use Rattle.cl_model.specs.States.{State, recorded}
+use Rattle.cl_model.specs.States.{State, recorded_definer}
 use Rattle.cl_model.specs.Works.{Ask}
 
 -- ---- what a plan asks
@@ -44,7 +44,7 @@ record_calls w a = if is_own_home w a then 1 else 2
 
 -- a loader has no record of a name (5.3)
 abbrev pub is_unrecorded : State → Ask → Bool
-is_unrecorded s a = elim (recorded s.records a.loader a.name) [
+is_unrecorded s a = elim (recorded_definer s.records a.loader a.name) [
   | None ↦ true
   | Some place ↦ false
 ]

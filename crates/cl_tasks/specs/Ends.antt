@@ -17,7 +17,7 @@ use Rattle.cl_findings.specs.declared.load.Obstacle.{Obstacle}
 use Rattle.cl_findings.specs.declared.load.Target.{Target}
 use Rattle.cl_findings.specs.declared.load.Target.TheVariants as targets
 use Rattle.cl_findings.specs.Bases.{IsSpeltIn}
-use Rattle.cl_findings.specs.Findings.{Answered, Resolves, Rests, grounded}
+use Rattle.cl_findings.specs.Findings.{Answered, Resolves, Rests, grounded_answer}
 use Rattle.cl_findings.specs.Loads.{IsFor, basis_at, next_need, next_needs, refused_at, verdict_at}
 use Rattle.cl_registry.specs.Tables.{Shown, state_of}
 use Rattle.cl_tasks.specs.Steps.{HoldsOn}
@@ -79,13 +79,13 @@ pub record RefusedOn {A B : Type 0} (j : Job A) (n : NextRecord B) (x : Shown) :
 abbrev pub EndRests : {A : Type 0} → Option Content → Pathed → Obstacle A → Type 0
 EndRests {A} told p e =
     (r : Request) (t : Target A) → IsFor r t p → IsSpeltIn told t
-    → Rests told (grounded r (verdict_at t p e) (basis_at r t p e))
+    → Rests told (grounded_answer r (verdict_at t p e) (basis_at r t p e))
 
 -- the refusal of the record that comes next on a path is that of each request that the path is for (5.3.4)
 abbrev pub NextRests : {A : Type 0} → Option Content → Pathed → NextRecord A → Type 0
 NextRests {A} told p n =
     (r : Request) (t : Target A) (need : needs.Need) → IsFor r t p → IsSpeltIn told t → need_of need ≡ next_need n
-    → Rests told (grounded r (verdicts.Linkage need) (refused_at r t p n))
+    → Rests told (grounded_answer r (verdicts.Linkage need) (refused_at r t p n))
 
 -- the loader whose record comes next is one of so many: that of the class, or the one that was asked (5.3, 5.3.5)
 abbrev pub NextWithin : {A : Type 0} → ℕ → NextRecord A → Type 0

@@ -7,14 +7,14 @@ use Rattle.cl_model.specs.States.{Met, Refused}
 use Rattle.cl_model.specs.Frames.{Frame}
 use Rattle.cl_model.specs.Tables.{Records}
 use Rattle.cl_hierarchy.specs.Rows.{FitsAs, Rowed}
-use Rattle.cl_registry.specs.Tables.{Shown, state_of, looked}
+use Rattle.cl_registry.specs.Tables.{Shown, state_of, looked_row}
 use Rattle.cl_registry.specs.Traced.{IsTraced}
 use Rattle.cl_tasks.specs.Tasks.{Tasked, Fact, Stands, StandsRefused, HasLineage, IsPrepared}
 
 -- a loader has recorded the name as this row's class, and this row is kept (5.3)
 pub record IsRecordedAs (x : Shown) (loader : ℕ) (name : List ℕ) (row : Rowed) : Type 0 where
   pub records : Records (state_of x) loader name row.class
-  pub kept : looked x loader name ≡ Some row
+  pub kept : looked_row x loader name ≡ Some row
 
 -- a class has accepted a recorded one as this supertype, which fits (5.3.5, steps 3 and 4)
 pub record HasAccepted (x : Shown) (c t : Class) (a : Above) : Type 0 where

@@ -10,7 +10,7 @@ use Rattle.cl_model.specs.declared.request.Request.{Request}
 use Rattle.cl_model.specs.declared.request.Request.TheVariants as requests
 use Rattle.cl_model.specs.declared.settled.Settled.{Settled}
 use Rattle.cl_model.specs.Content.{Content}
-use Rattle.cl_model.specs.States.{State, Need, recorded, settled_to, IsRecorded, Met, MayAdd, Refused}
+use Rattle.cl_model.specs.States.{State, Need, recorded_definer, settled_to, IsRecorded, Met, MayAdd, Refused}
 use Rattle.cl_model.specs.Homes.{World}
 use Rattle.cl_model.specs.Machine.{Setting, Settle, Prepare, IsPlan, IsSound, step_for}
 use Rattle.cl_model.specs.Plans.{Plan, cost}
@@ -167,7 +167,7 @@ IsWithinCost n = (w : World) (p : Plan) (s : State) → calls_in n w p s ≤ cos
 -- the post is always left, and no more calls are where more is recorded
 pub record AreLeft (n : Calls) : Type 0 where
   pub post : (w : World) (p : Plan) (s : State) → 1 ≤ calls_in n w p s
-  pub fewer : (w : World) (p : Plan) (s t : State) → ((l : ℕ) (name : List ℕ) → recorded t.records l name ≡ None → recorded s.records l name ≡ None) → calls_in n w p t ≤ calls_in n w p s
+  pub fewer : (w : World) (p : Plan) (s t : State) → ((l : ℕ) (name : List ℕ) → recorded_definer t.records l name ≡ None → recorded_definer s.records l name ≡ None) → calls_in n w p t ≤ calls_in n w p s
 
 -- ---- faults
 

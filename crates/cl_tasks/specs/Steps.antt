@@ -9,7 +9,7 @@ use Rattle.cl_delegation.specs.Searches.{Searched, Located}
 use Rattle.cl_hierarchy.specs.Frames.{Framed}
 use Rattle.cl_hierarchy.specs.Rows.{Rowed}
 use Rattle.cl_hierarchy.specs.Paths.{Pathed, at_loader, at_name, sought_class}
-use Rattle.cl_findings.specs.Findings.{ungrounded}
+use Rattle.cl_findings.specs.Findings.{ungrounded_answer}
 use Rattle.cl_findings.specs.declared.load.Obstacle.{Obstacle}
 use Rattle.cl_findings.specs.declared.load.Obstacle.TheVariants as obstacles
 use Rattle.cl_registry.specs.Tables.{Shown}
@@ -142,7 +142,7 @@ ReadsAt p is other = Unit {0}
 
 -- memory ran out
 abbrev pub memory_ends : {A : Type 0} → ℕ → Request → Next A
-memory_ends q r = record { stage = stages.Done q; turn = turn.Post (ungrounded r answers.Memory) }
+memory_ends q r = record { stage = stages.Done q; turn = turn.Post (ungrounded_answer r answers.Memory) }
 
 -- a class is being recorded, whose frame is kept, or memory ran out (5.3.5, step 5)
 abbrev pub DefinesBy : {A : Type 0} → Job A → Framed → Next A → Type 0

@@ -7,7 +7,7 @@ ghost use Rattle.cl_hierarchy.specs.Drafts.{home_class};
 ghost use Rattle.cl_hierarchy.specs.Frames.{frame_of};
 ghost use Rattle.cl_hierarchy.specs.Paths.{at_loader, at_name, frames_of, fresh, is_on, misfit_under};
 ghost use Rattle.cl_model.specs.Classes.{supers};
-ghost use Rattle.cl_model.specs.Frames.{wanted};
+ghost use Rattle.cl_model.specs.Frames.{wanted_supertype};
 ghost use Rattle.cl_tasks.specs.Deriving.{Derives, IsHomeClass, IsNone, IsPast};
 ghost use Rattle.cl_tasks.specs.Ends.{IsOwnTarget};
 ghost use Rattle.cl_tasks.specs.Measures.{Fresh, Homing, Defining, Initiating, most};
@@ -93,7 +93,7 @@ fn descend<T: Told>(alloc: Global, job: Job<T>, draft: Draft<T>) -> Next<T>
     requires job { IsJob T.told job.path.config job }
     requires home { IsSought job.path draft.home }
     requires off { is_on job.path draft.class ≡ false }
-    requires waits { IsSome (wanted (frame_of (fresh draft))) }
+    requires waits { IsSome (wanted_supertype (frame_of (fresh draft))) }
     requires few { length (supers (file_of draft.file)) ≤ most }
     ensures leads { LeadsFrom T.told Homing job draft.home.place (HoldsOn job) result }
     ensures plain { IsPlain result.turn }

@@ -193,7 +193,7 @@ fn trace_first<T: Told>(alloc: Global, config: &Arc<Config>, chain: Chain<T>) ->
         whole,
         place: from,
     } = chain;
-    match whole.surveyed(alloc, from) {
+    match whole.with_survey(alloc, from) {
         Err(_) => out_of_memory(goal.q, goal.request),
         Ok(whole) => trace(
             alloc,

@@ -1,7 +1,7 @@
 //! From a look that found no record to a home.
 
 ghost use Rattle.std.specs.Prelude.{◌≡◌, ◌<◌, Some, length, slice_get, IfOk};
-ghost use Rattle.cl_delegation.specs.Searches.{begun, next_of};
+ghost use Rattle.cl_delegation.specs.Searches.{begun_search, next_of};
 ghost use Rattle.cl_findings.specs.Loads.{IsSought};
 ghost use Rattle.cl_hierarchy.specs.Paths.{at_loader, at_name, frames_of};
 ghost use Rattle.cl_tasks.specs.Deriving.{Derives, IsSoughtHere, IsUnfound};
@@ -43,7 +43,7 @@ pub(crate) fn begin_search<T: Told>(alloc: Global, job: Job<T>) -> Next<T>
 /// The search for what the path is at, which has asked nobody yet.
 fn search_for<T: Told>(alloc: Global, job: &Job<T>) -> Result<Search<T>, AllocError>
     requires { at_loader job.now.path < length job.now.path.config.loaders }
-    ensures { IfOk result (λ s. s ≡ begun job.now.path.config (at_loader job.now.path)
+    ensures { IfOk result (λ s. s ≡ begun_search job.now.path.config (at_loader job.now.path)
         (at_name job.now.path)) }
 {
     let name = job.path.at_name().try_clone(alloc)?;

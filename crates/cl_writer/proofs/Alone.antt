@@ -20,7 +20,7 @@ use Rattle.cl_writer.specs.declared.fault.AssembleFault.{AssembleFault}
 use Rattle.cl_writer.specs.declared.fault.AssembleFault.TheVariants.{Memory, BadLine, Invalid}
 use Rattle.cl_writer.specs.Statements.{WritesInteger, WritesSuper, IsName, IsInteger, IsMemberLine, IsMemberName, IsClassLine, Begins, kind_word, Refers, Says}
 use Rattle.cl_writer.specs.Assemblies.{ListedClass, class_alone, with_said, AllSay, IsRest, StopsAt, IsRead, IsBadAt}
-use Rattle.cl_writer.specs.Described.{described}
+use Rattle.cl_writer.specs.Described.{described_file}
 use Rattle.cl_writer.specs.Assembled.{IsAssembled, IsInvalid, AssembleOf}
 use Rattle.cl_writer.proofs.Rows.{first_of, second_of, third_of, head_of, only_of, letters, differs, other, behind, no_member_word}
 use Rattle.cl_writer.proofs.Words.{WritesFlags, One, Three, name_words, integer_words, member_line, member_line_words, member_name, member_name_words, class_line, class_line_words}
@@ -198,7 +198,7 @@ one_bad (l ∷ ls) m n v w =
 -- ---- what is made of the lines
 
 one_file : (lines : List Numbered) (f g : Structure) → IsAssembled lines f → IsAssembled lines g → f ≡ g
-one_file lines f g v w = v.is ∙ ap described (one_listed lines v.listed w.listed v.read w.read) ∙ sym w.is
+one_file lines f g v w = v.is ∙ ap described_file (one_listed lines v.listed w.listed v.read w.read) ∙ sym w.is
 
 fault_is : (f g : Fault) (r : Result Structure Fault) → r ≡ Err f → r ≡ Err g → f ≡ g
 fault_is f g r v w = cc
@@ -207,10 +207,10 @@ no_both : (f : Structure) (g : Fault) (r : Result Structure Fault) → r ≡ Ok 
 no_both f g r v w = absurd cc
 
 one_fault : (lines : List Numbered) (f g : Fault) → IsInvalid lines f → IsInvalid lines g → f ≡ g
-one_fault lines f g v w = fault_is f g (parts_of (described v.listed)) v.first (ap (λ (l : ListedClass). parts_of (described l)) (one_listed lines v.listed w.listed v.read w.read) ∙ w.first)
+one_fault lines f g v w = fault_is f g (parts_of (described_file v.listed)) v.first (ap (λ (l : ListedClass). parts_of (described_file l)) (one_listed lines v.listed w.listed v.read w.read) ∙ w.first)
 
 good_or_invalid : (lines : List Numbered) (f : Structure) (g : Fault) → IsAssembled lines f → IsInvalid lines g → ⊥
-good_or_invalid lines f g v w = no_both f g (parts_of (described v.listed)) v.kept (ap (λ (l : ListedClass). parts_of (described l)) (one_listed lines v.listed w.listed v.read w.read) ∙ w.first)
+good_or_invalid lines f g v w = no_both f g (parts_of (described_file v.listed)) v.kept (ap (λ (l : ListedClass). parts_of (described_file l)) (one_listed lines v.listed w.listed v.read w.read) ∙ w.first)
 
 pub one_answer : (lines : List Numbered) (r s : Result Structure AssembleFault) → AssembleOf lines r → AssembleOf lines s → r ≢ Err Memory → s ≢ Err Memory → r ≡ s
 one_answer lines (Err Memory) s v w some other = absurd (some refl)

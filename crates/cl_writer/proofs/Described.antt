@@ -11,7 +11,7 @@ use Rattle.cl_classfile.specs.Checking.{checked_pool, parts_of}
 use Rattle.cl_writer.specs.declared.item.Item.{Item}
 use Rattle.cl_writer.specs.Assemblies.{ListedClass, IsRead}
 use Rattle.cl_writer.specs.Items.{items_of}
-use Rattle.cl_writer.specs.Described.{described, described_over, entry_of}
+use Rattle.cl_writer.specs.Described.{described_file, described_over, entry_of}
 use Rattle.cl_writer.specs.Assembled.{IsAssembled, IsInvalid}
 use Rattle.cl_writer.specs.Listings.{listing_of}
 use Rattle.cl_writer.proofs.Standing.{printed_so}
@@ -29,7 +29,7 @@ pub too_many : (lines : List Numbered) (l : ListedClass) (items : List Item) →
 too_many lines l items read is many = record {
   listed = l;
   read = read;
-  first = too_long (described l) (ap (λ n. is_short (n + 1)) (length-map (items_of l) (entry_of (items_of l)) ∙ sym (ap length is)) ∙ no_count (length items) many);
+  first = too_long (described_file l) (ap (λ n. is_short (n + 1)) (length-map (items_of l) (entry_of (items_of l)) ∙ sym (ap length is)) ∙ no_count (length items) many);
 }
 
 pub faulty : (lines : List Numbered) (l : ListedClass) (items : List Item) (parts : Structure) (fault : Fault) → IsRead lines l → items ≡ items_of l → parts ≡ described_over items l → parts_of parts ≡ Err fault → IsInvalid lines fault
@@ -42,7 +42,7 @@ faulty lines l items parts fault read is same first = record {
 pub made : (lines : List Numbered) (l : ListedClass) (items : List Item) (parts file : Structure) → IsRead lines l → items ≡ items_of l → parts ≡ described_over items l → (file ≡ parts) × Spells (spelling file) file → parts_of parts ≡ Ok file
     → IsAssembled lines file
 made lines l items parts file read is same found kept =
-    let described_so : parts ≡ described l = same ∙ ap (λ i. described_over i l) is in
+    let described_so : parts ≡ described_file l = same ∙ ap (λ i. described_over i l) is in
     record {
       listed = l;
       read = read;

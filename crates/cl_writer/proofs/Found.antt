@@ -6,7 +6,7 @@ use Rattle.std.specs.Str.Parse.{AllDigits, IsNumeral, without_leading_sign, sign
 use Rattle.std.proofs.lemmas.Bool.{cases_Bool, eqb-true, ltb-true, lt-ltb, false≢true}
 use Rattle.std.proofs.lemmas.Bool.Decides.{nat_tests}
 use Rattle.cl_lines.specs.Lines.{Numbered, words_of}
-use Rattle.cl_names.specs.Escape.{WritesName, unescaped}
+use Rattle.cl_names.specs.Escape.{WritesName, unescaped_name}
 use Rattle.cl_names.proofs.Escapes.{unescaped_from, unescaped_of}
 use Rattle.cl_classfile.specs.declared.fault.Fault.{Fault}
 use Rattle.cl_classfile.specs.Structure.{Structure, Spells, spelling}
@@ -25,7 +25,7 @@ use Rattle.cl_writer.specs.declared.fault.AssembleFault.{AssembleFault}
 use Rattle.cl_writer.specs.declared.fault.AssembleFault.TheVariants.{Memory, BadLine, Invalid}
 use Rattle.cl_writer.specs.Statements.{flags_of, WritesInteger, WritesSuper, IsName, IsInteger, IsMemberLine, IsMemberName, IsClassLine, Begins, kind_word, Refers, Says}
 use Rattle.cl_writer.specs.Assemblies.{ListedClass, class_alone, with_said, AllSay, IsRest, StopsAt, IsRead, IsBadAt}
-use Rattle.cl_writer.specs.Described.{described}
+use Rattle.cl_writer.specs.Described.{described_file}
 use Rattle.cl_writer.specs.Listings.{listing_of}
 use Rattle.cl_writer.specs.Assembled.{IsAssembled, AssembleOf}
 use Rattle.cl_writer.proofs.Rows.{first_of, second_of, third_of, head_of, only_of, behind, no_super}
@@ -86,9 +86,9 @@ none_some a o e f = absurd cc
 -- ---- what a word writes
 
 name_found : (text : List ℕ) → Finds (WritesName text)
-name_found text = elim (some_or_none (unescaped text)) [
+name_found text = elim (some_or_none (unescaped_name text)) [
   | inl found ↦ inl (found.0, unescaped_from text found.0 found.1)
-  | inr none ↦ inr (λ name w. none_some name (unescaped text) none (unescaped_of text name w))
+  | inr none ↦ inr (λ name w. none_some name (unescaped_name text) none (unescaped_of text name w))
 ]
 
 flags_found : (text : List ℕ) → Finds (WritesFlags text)
@@ -289,16 +289,16 @@ spelled_so f g h =
     let says = parts_say f g h in
     subst (λ (x : Structure). Spells (spelling x) x) says.0 (record { file = says.1; spelled = refl })
 
-made_of : (lines : List Numbered) (l : ListedClass) (file : Structure) → IsRead lines l → parts_of (described l) ≡ Ok file → IsAssembled lines file
+made_of : (lines : List Numbered) (l : ListedClass) (file : Structure) → IsRead lines l → parts_of (described_file l) ≡ Ok file → IsAssembled lines file
 made_of lines l file read kept =
-    let same : file ≡ described l = sym (parts_say (described l) file kept).0 in
-    record { listed = l; read = read; is = same; kept = kept; spelled = spelled_so (described l) file kept; printed = ap listing_of same ∙ printed_so l }
+    let same : file ≡ described_file l = sym (parts_say (described_file l) file kept).0 in
+    record { listed = l; read = read; is = same; kept = kept; spelled = spelled_so (described_file l) file kept; printed = ap listing_of same ∙ printed_so l }
 
 pub some_answer : (lines : List Numbered) → (r : Result Structure AssembleFault) × (r ≢ Err Memory) × AssembleOf lines r
 some_answer lines =
     elim (lines_found lines) [
       | inr n ↦ (Err (BadLine n.0), known (BadLine n.0) (λ e. absurd cc), n.1)
-      | inl l ↦ elim (found_or_fault (parts_of (described l.0))) [
+      | inl l ↦ elim (found_or_fault (parts_of (described_file l.0))) [
         | inl f ↦ (Ok f.0, (λ e. absurd cc), made_of lines l.0 f.0 l.1 f.1)
         | inr g ↦ (Err (Invalid g.0), known (Invalid g.0) (λ e. absurd cc), record { listed = l.0; read = l.1; first = g.1 })
       ]

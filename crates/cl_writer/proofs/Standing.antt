@@ -4,7 +4,7 @@ use Rattle.std.specs.Prelude.{slice_get, option_map, unwrap_or, option_to_list}
 use Rattle.std.specs.List.{flat_map, AllByRecursion}
 use Rattle.std.proofs.lemmas.Bool.Decides.{nat_tests}
 use Rattle.std.proofs.lemmas.Option.{slice_get-map, same_Some}
-use Rattle.cl_names.specs.Escape.{escaped, four_digits}
+use Rattle.cl_names.specs.Escape.{escaped_text, four_digits}
 use Rattle.cl_classfile.specs.declared.entry.Entry.{Entry}
 use Rattle.cl_classfile.specs.Pool.{at}
 use Rattle.cl_classfile.specs.Files as files
@@ -14,7 +14,7 @@ use Rattle.cl_writer.specs.declared.statement.ClassLine.{ClassLine}
 use Rattle.cl_writer.specs.declared.statement.MemberLine.{MemberLine}
 use Rattle.cl_writer.specs.Assemblies.{ListedClass}
 use Rattle.cl_writer.specs.Items.{same_item, index_from, index_of, index, with_item, class_wanted, line_wanted, wanted_items, all_wanted, items_of}
-use Rattle.cl_writer.specs.Described.{entry_of, member_of, super_index, described}
+use Rattle.cl_writer.specs.Described.{entry_of, member_of, super_index, described_file}
 use Rattle.cl_writer.specs.Listings.{printed_name, printed_type, printed_super, class_line, implements_line, member_line, listing_of, super_text, class_text, implements_text, member_text, text_of}
 use Rattle.cl_writer.proofs.Indexed.{same_says, same_self, index_more, some_is}
 use Rattle.std.specs.Option.{option_or}
@@ -105,7 +105,7 @@ module _ (items : List Item) where
   text_named : (text : List ℕ) → Stands items (Text text) → files.text_at (pool_of items) (index items (Text text)) ≡ Some text
   text_named text h = ap files.text_of (there items (Text text) h).there
 
-  class_named : (name : List ℕ) → AllByRecursion (Stands items) (class_wanted name) → printed_type (pool_of items) (index items (Class name)) ≡ escaped name
+  class_named : (name : List ℕ) → AllByRecursion (Stands items) (class_wanted name) → printed_type (pool_of items) (index items (Class name)) ≡ escaped_text name
   unfolding printed_type
   class_named name h = ap printed_name (ap (files.type_of (pool_of items)) (there items (Class name) h.1.0).there ∙ text_named name h.0)
 
@@ -128,7 +128,7 @@ module _ (items : List Item) where
   member_named : (word : List ℕ) (line : MemberLine) → AllByRecursion (Stands items) (line_wanted line) → member_line word (pool_of items) (member_of items line) ≡ member_text word line
   member_named word line h =
       ap (λ t. word ++ four_digits line.flags ++ codes " " ++ printed_name t ++ codes " " ++ printed_name (files.text_at (pool_of items) (index items (Text line.descriptor))) ++ 10 ∷ []) (text_named line.name h.0)
-      ∙ ap (λ t. word ++ four_digits line.flags ++ codes " " ++ escaped line.name ++ codes " " ++ printed_name t ++ 10 ∷ []) (text_named line.descriptor h.1.0)
+      ∙ ap (λ t. word ++ four_digits line.flags ++ codes " " ++ escaped_text line.name ++ codes " " ++ printed_name t ++ 10 ∷ []) (text_named line.descriptor h.1.0)
 
   members_named : (word : List ℕ) (lines : List MemberLine) → AllByRecursion (λ l. AllByRecursion (Stands items) (line_wanted l)) lines
       → flat_map (member_line word (pool_of items)) (map (member_of items) lines) ≡ flat_map (member_text word) lines
@@ -141,10 +141,10 @@ module _ (items : List Item) where
       → codes "class " ++ four_digits line.flags ++ codes " " ++ printed_type (pool_of items) (index items (Class line.name)) ++ codes " " ++ printed_super (pool_of items) (super_index items line.superclass) ++ 10 ∷ [] ≡ class_text line
   class_line_named line h s =
       ap (λ t. codes "class " ++ four_digits line.flags ++ codes " " ++ t ++ codes " " ++ printed_super (pool_of items) (super_index items line.superclass) ++ 10 ∷ []) (class_named line.name h)
-      ∙ ap (λ t. codes "class " ++ four_digits line.flags ++ codes " " ++ escaped line.name ++ codes " " ++ t ++ 10 ∷ []) (super_named line.superclass s)
+      ∙ ap (λ t. codes "class " ++ four_digits line.flags ++ codes " " ++ escaped_text line.name ++ codes " " ++ t ++ 10 ∷ []) (super_named line.superclass s)
 
 -- the listing of what lines describe has these lines
-pub printed_so : (l : ListedClass) → listing_of (described l) ≡ text_of l
+pub printed_so : (l : ListedClass) → listing_of (described_file l) ≡ text_of l
 printed_so l =
     let items = items_of l in
     let P : Item → Type 0 = Stands items in
@@ -153,7 +153,7 @@ printed_so l =
     let above = split P (flat_map class_wanted (option_to_list l.class.superclass)) _ class.1 in
     let interfaces = split P (flat_map class_wanted l.interfaces) _ above.1 in
     let members = split P (flat_map line_wanted l.fields) (flat_map line_wanted l.methods) interfaces.1 in
-    joined (class_line (described l)) (class_text l.class) _ _ _ _ _ _
+    joined (class_line (described_file l)) (class_text l.class) _ _ _ _ _ _
     (class_line_named items l.class class.0 above.0)
     (interfaces_named items l.interfaces (each P class_wanted l.interfaces interfaces.0))
     (members_named items (codes "field ") l.fields (each P line_wanted l.fields members.0))

@@ -7,7 +7,7 @@ use Rattle.cl_classfile.specs.Checking.{parts_of}
 use Rattle.cl_writer.specs.declared.fault.AssembleFault.{AssembleFault}
 use Rattle.cl_writer.specs.declared.fault.AssembleFault.TheVariants.{Memory, BadLine, Invalid}
 use Rattle.cl_writer.specs.Assemblies.{ListedClass, IsRead, IsBadAt}
-use Rattle.cl_writer.specs.Described.{described}
+use Rattle.cl_writer.specs.Described.{described_file}
 use Rattle.cl_writer.specs.Listings.{listing_of, text_of}
 
 -- the lines describe this file, which is a class file: the tests of its parts find no fault, and
@@ -15,8 +15,8 @@ use Rattle.cl_writer.specs.Listings.{listing_of, text_of}
 pub record IsAssembled (lines : List Numbered) (file : Structure) : Type 0 where
   pub listed : ListedClass
   pub read : IsRead lines listed
-  pub is : file ≡ described listed
-  pub kept : parts_of (described listed) ≡ Ok file
+  pub is : file ≡ described_file listed
+  pub kept : parts_of (described_file listed) ≡ Ok file
   pub spelled : Spells (spelling file) file
   pub printed : listing_of file ≡ text_of listed
 
@@ -24,7 +24,7 @@ pub record IsAssembled (lines : List Numbered) (file : Structure) : Type 0 where
 pub record IsInvalid (lines : List Numbered) (fault : Fault) : Type 0 where
   pub listed : ListedClass
   pub read : IsRead lines listed
-  pub first : parts_of (described listed) ≡ Err fault
+  pub first : parts_of (described_file listed) ≡ Err fault
 
 -- what the lines of a text, without the skipped ones, are assembled to; where memory runs out,
 -- nothing is said

@@ -62,5 +62,5 @@ described_over items l = record {
 }
 
 -- the file that the lines describe, over the entries that they ask for (4.1)
-abbrev pub described : ListedClass → structure.Structure
-described l = described_over (items_of l) l
+abbrev pub described_file : ListedClass → structure.Structure
+described_file l = described_over (items_of l) l

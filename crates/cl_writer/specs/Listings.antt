@@ -13,7 +13,7 @@ use Rattle.std.specs.Prelude.{
   if◌then◌else◌,
 }
 use Rattle.std.specs.List.{flat_map}
-use Rattle.cl_names.specs.Escape.{escaped, four_digits}
+use Rattle.cl_names.specs.Escape.{escaped_text, four_digits}
 use Rattle.cl_classfile.specs.declared.entry.Entry.{Entry}
 use Rattle.cl_classfile.specs.Files.{type_name, text_at}
 use Rattle.cl_classfile.specs.Structure.{Structure, MemberInfo}
@@ -24,7 +24,7 @@ use Rattle.cl_writer.specs.Assemblies.{ListedClass}
 -- a name as escaped text
 abbrev pub printed_name : Option (List ℕ) → List ℕ
 printed_name None = []
-printed_name (Some name) = escaped name
+printed_name (Some name) = escaped_text name
 
 -- the name of a class or an array (4.4.1)
 unfoldable pub printed_type : List Entry → ℕ → List ℕ
@@ -75,16 +75,16 @@ listing_of f =
 -- the name of the superclass, and `-` where there is none (own choice of the sign)
 abbrev pub super_text : Option (List ℕ) → List ℕ
 super_text None = codes "-"
-super_text (Some name) = escaped name
+super_text (Some name) = escaped_text name
 
 abbrev pub class_text : ClassLine → List ℕ
-class_text c = class_words c.flags (escaped c.name) (super_text c.superclass)
+class_text c = class_words c.flags (escaped_text c.name) (super_text c.superclass)
 
 abbrev pub implements_text : List ℕ → List ℕ
-implements_text name = implements_words (escaped name)
+implements_text name = implements_words (escaped_text name)
 
 abbrev pub member_text : List ℕ → MemberLine → List ℕ
-member_text word m = member_words word m.flags (escaped m.name) (escaped m.descriptor)
+member_text word m = member_words word m.flags (escaped_text m.name) (escaped_text m.descriptor)
 
 -- all lines but those of `ref`: the class, its interfaces, its fields, its methods
 abbrev pub text_of : ListedClass → List ℕ

@@ -5,7 +5,7 @@ ghost use Rattle.std.specs.List.{flat_map, AllByRecursion};
 ghost use Rattle.std.specs.Int.{w16, to_be_bytes};
 ghost use Rattle.cl_classfile.specs.Pool.{entry_spelling};
 ghost use Rattle.cl_classfile.specs.declared.entry.Entry.TheVariants.{MethodHandle};
-ghost use Rattle.cl_classfile.specs.Structure.{AllFit, AttributeFits, MemberFits, Spells, attribute_spelling, counted, member_spelling, pool_spelling};
+ghost use Rattle.cl_classfile.specs.Structure.{AllFit, AttributeFits, MemberFits, Spells, attribute_spelling, counted_list, member_spelling, pool_spelling};
 ghost use Rattle.cl_classfile.specs.Reading.{read_of};
 
 use crate::bytes::{HEADER, put_tagged, put_text, put_two, put_u16};
@@ -115,7 +115,7 @@ fn put_handle(out: &mut Vec<u8>, kind: u8, reference: u16) -> Result<(), AllocEr
 /// A count, and each of the indices.
 fn put_interfaces(out: &mut Vec<u8>, interfaces: &[u16]) -> Result<(), AllocError>
     requires { length interfaces.now < 2 ^ 16 }
-    ensures { OnOk result (out.new.items ≡ out.old.items ++ counted (to_be_bytes w16)
+    ensures { OnOk result (out.new.items ≡ out.old.items ++ counted_list (to_be_bytes w16)
         interfaces.now) }
 {
     put_u16(out, interfaces.len() as u16)?;
@@ -135,7 +135,8 @@ fn put_numbers(out: &mut Vec<u8>, numbers: &[u16]) -> Result<(), AllocError>
 /// A count, and each of the fields or methods.
 fn put_members(out: &mut Vec<u8>, members: &[Member]) -> Result<(), AllocError>
     requires { AllFit MemberFits members.now }
-    ensures { OnOk result (out.new.items ≡ out.old.items ++ counted member_spelling members.now) }
+    ensures { OnOk result (out.new.items
+        ≡ out.old.items ++ counted_list member_spelling members.now) }
 {
     put_u16(out, members.len() as u16)?;
     put_each_member(out, members)
@@ -165,7 +166,7 @@ fn put_member(out: &mut Vec<u8>, member: &Member) -> Result<(), AllocError>
 /// A count, and each of the attributes.
 fn put_attributes(out: &mut Vec<u8>, attributes: &[Attribute]) -> Result<(), AllocError>
     requires { AllFit AttributeFits attributes.now }
-    ensures { OnOk result (out.new.items ≡ out.old.items ++ counted attribute_spelling
+    ensures { OnOk result (out.new.items ≡ out.old.items ++ counted_list attribute_spelling
         attributes.now) }
 {
     put_u16(out, attributes.len() as u16)?;

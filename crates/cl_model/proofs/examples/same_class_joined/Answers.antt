@@ -1,6 +1,6 @@
 use Rattle.std.proofs.Common.{◌≡◌, ◌⊎◌, ℕ, zero, suc, ap, List, [], ◌∷◌, Some, inl, inr, refl, codes, arith, sym, subst, ◌∙◌}
 use Rattle.std.specs.Prelude.{Contains}
-use Rattle.cl_model.specs.States.{start, IsPathBetween, Linked, Equality, recorded}
+use Rattle.cl_model.specs.States.{start, IsPathBetween, Linked, Equality, recorded_definer}
 use Rattle.cl_model.specs.Machine.{state_after}
 use Rattle.cl_model.specs.Examples.{app, kid}
 use Rattle.cl_model.specs.ExampleRuns.{joined_with_kid}
@@ -16,12 +16,12 @@ only_one o e (zero, l, h) = h
 only_one o e (suc x, l, h) = absurd (omega arith)
 
 -- whom it joins with kid is kid or app, and app records its own
-is_recorded : (l place : ℕ) → (l ≡ app) ⊎ (l ≡ kid) → recorded (state_after start joined_with_kid).records l (codes "p/T") ≡ Some place → app ≡ place
-is_recorded l place (inl e) r = at_app (subst (λ (x : ℕ). recorded (state_after start joined_with_kid).records x (codes "p/T") ≡ Some place) e r)
+is_recorded : (l place : ℕ) → (l ≡ app) ⊎ (l ≡ kid) → recorded_definer (state_after start joined_with_kid).records l (codes "p/T") ≡ Some place → app ≡ place
+is_recorded l place (inl e) r = at_app (subst (λ (x : ℕ). recorded_definer (state_after start joined_with_kid).records x (codes "p/T") ≡ Some place) e r)
   where
     at_app : Some app ≡ Some place → app ≡ place
     at_app h = cc
-is_recorded l place (inr e) r = absurd (missing (subst (λ (x : ℕ). recorded (state_after start joined_with_kid).records x (codes "p/T") ≡ Some place) e r))
+is_recorded l place (inr e) r = absurd (missing (subst (λ (x : ℕ). recorded_definer (state_after start joined_with_kid).records x (codes "p/T") ≡ Some place) e r))
 
 step : (a b : ℕ) → Linked (for_t kid) (codes "p/T") a b → (b ≡ app) ⊎ (b ≡ kid)
 step a b h = along h.ends

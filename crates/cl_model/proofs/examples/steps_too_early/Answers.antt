@@ -7,7 +7,7 @@ use Rattle.cl_model.specs.Lineages.{Kin}
 use Rattle.cl_model.specs.Preparation.{constraints_of}
 use Rattle.cl_model.specs.States.{Verdict, Need, IsLinked, Linkage, Keeps, AllMet, start}
 use Rattle.cl_model.specs.Works.{Made}
-use Rattle.cl_model.specs.Plans.{plan, ending}
+use Rattle.cl_model.specs.Plans.{plan, ending_verdict}
 use Rattle.cl_model.specs.Machine.{AreOfRecorded, Answers, Prepare, state_after}
 use Rattle.cl_model.specs.Examples.{app, plug, in_boot, in_app, in_plug, resolve_of, link_of}
 use Rattle.cl_model.specs.ExampleRuns.{overridden_service, serving, loading, of_svc, unsettled, unprepared}
@@ -37,7 +37,7 @@ not_refused : {n : Need} → of_svc ≡ Linkage n → ⊥
 not_refused e = absurd cc
 
 -- the equality is neither met nor what is answered
-unequal : Answers (state_after start loading) made_of_svc.needs (ending made_of_svc.ends) of_svc → ⊥
+unequal : Answers (state_after start loading) made_of_svc.needs (ending_verdict made_of_svc.ends) of_svc → ⊥
 unequal (inl (m, inl (n, inl (o, inl (p, inl (j, e)))))) = absurd (let same : app ≡ plug = joined_alone [] (codes "p/T") app plug refl j in cc)
 unequal (inl (m, inl (n, inl (o, inl (p, inr (r, e)))))) = not_refused e
 unequal (inl (m, inl (n, inl (o, inr (r, e))))) = not_refused e
@@ -48,7 +48,7 @@ unequal (inr (r, e)) = not_refused e
 pub returns-clause-settle : goal.returns-clause-settle
 returns-clause-settle c h =
     unequal
-    (subst (λ (m : Made Verdict). Answers (state_after start loading) m.needs (ending m.ends) of_svc)
+    (subst (λ (m : Made Verdict). Answers (state_after start loading) m.needs (ending_verdict m.ends) of_svc)
     (one_resolution overridden_service (in_plug "p/Use") 1 h.answered.made made_of_svc h.answered.resolved resolution_of_svc) h.answered.answered)
 
 pub returns-clause-settle_unrecorded : goal.returns-clause-settle_unrecorded

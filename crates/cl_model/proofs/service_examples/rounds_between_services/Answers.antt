@@ -4,7 +4,7 @@ use Rattle.cl_model.specs.States.{State, Answer, OutOfMemory, start, answer_to}
 use Rattle.cl_model.specs.Plans.{Request}
 use Rattle.cl_model.specs.Machine.{Setting, Scheduled, Step, Post, NextRound, MayGoOn, after, state_after}
 use Rattle.cl_model.specs.Service.{IsBegun, Serves, PassesRounds, AllServed}
-use Rattle.cl_model.specs.ExampleServices.{of_second, of_fourth, sparse, failed}
+use Rattle.cl_model.specs.ExampleServices.{of_second, of_fourth, sparse, failed_post}
 use Rattle.cl_model.specs.Steps.{IsOfService}
 use Rattle.cl_model.proofs.Serving.{of_service, post_number}
 use Rattle.cl_model.proofs.service_examples.rounds_between_services.Goals as goal
@@ -93,40 +93,40 @@ first_ends = goes_on start (omega arith) (λ e. absurd cc) (λ e. absurd cc)
 second_waits : MayGoOn sparse (state_after start (NextRound ∷ [])) → ⊥
 second_waits h = absurd (let e : false ≡ true = h.answered 0 _ refl refl in cc)
 
-second_ends : MayGoOn sparse (state_after start (NextRound ∷ failed 0 ∷ []))
-second_ends = goes_on (state_after start (NextRound ∷ failed 0 ∷ [])) (omega arith) (λ e. refl) (λ e. absurd cc)
+second_ends : MayGoOn sparse (state_after start (NextRound ∷ failed_post 0 ∷ []))
+second_ends = goes_on (state_after start (NextRound ∷ failed_post 0 ∷ [])) (omega arith) (λ e. refl) (λ e. absurd cc)
 
-third_ends : MayGoOn sparse (state_after start (NextRound ∷ failed 0 ∷ NextRound ∷ []))
-third_ends = goes_on (state_after start (NextRound ∷ failed 0 ∷ NextRound ∷ [])) (omega arith) (λ e. absurd cc) (λ e. absurd cc)
+third_ends : MayGoOn sparse (state_after start (NextRound ∷ failed_post 0 ∷ NextRound ∷ []))
+third_ends = goes_on (state_after start (NextRound ∷ failed_post 0 ∷ NextRound ∷ [])) (omega arith) (λ e. absurd cc) (λ e. absurd cc)
 
-fourth_waits : MayGoOn sparse (state_after start (NextRound ∷ failed 0 ∷ NextRound ∷ NextRound ∷ [])) → ⊥
+fourth_waits : MayGoOn sparse (state_after start (NextRound ∷ failed_post 0 ∷ NextRound ∷ NextRound ∷ [])) → ⊥
 fourth_waits h = absurd (let e : false ≡ true = h.answered 1 _ refl refl in cc)
 
-fourth_ends : MayGoOn sparse (state_after start (NextRound ∷ failed 0 ∷ NextRound ∷ NextRound ∷ failed 1 ∷ []))
-fourth_ends = goes_on (state_after start (NextRound ∷ failed 0 ∷ NextRound ∷ NextRound ∷ failed 1 ∷ [])) (omega arith) (λ e. absurd cc) (λ e. refl)
+fourth_ends : MayGoOn sparse (state_after start (NextRound ∷ failed_post 0 ∷ NextRound ∷ NextRound ∷ failed_post 1 ∷ []))
+fourth_ends = goes_on (state_after start (NextRound ∷ failed_post 0 ∷ NextRound ∷ NextRound ∷ failed_post 1 ∷ [])) (omega arith) (λ e. absurd cc) (λ e. refl)
 
-fifth_is_last : MayGoOn sparse (state_after start (NextRound ∷ failed 0 ∷ NextRound ∷ NextRound ∷ failed 1 ∷ NextRound ∷ [])) → ⊥
+fifth_is_last : MayGoOn sparse (state_after start (NextRound ∷ failed_post 0 ∷ NextRound ∷ NextRound ∷ failed_post 1 ∷ NextRound ∷ [])) → ⊥
 fifth_is_last h = absurd (let l : 4 + 1 < 5 = h.later in omega arith)
 
 -- ---- the clauses
 
 -- memory ran out at once
-at_once : (q : ℕ) (r : Request) (s : State) → Serves sparse q r s (failed q ∷ [])
+at_once : (q : ℕ) (r : Request) (s : State) → Serves sparse q r s (failed_post q ∷ [])
 at_once q r s = record { steps = []; begun = tt; answer = OutOfMemory; ends = tt; posted = refl }
 
 pub returns-clause-served : goal.returns-clause-served
 returns-clause-served c = (
   NextRound ∷ [],
-  failed 0 ∷ [],
-  NextRound ∷ NextRound ∷ failed 1 ∷ NextRound ∷ [],
+  failed_post 0 ∷ [],
+  NextRound ∷ NextRound ∷ failed_post 1 ∷ NextRound ∷ [],
   refl,
   (refl, first_ends, second_waits),
   at_once 0 of_second.request (after start NextRound),
-  (NextRound ∷ NextRound ∷ [], failed 1 ∷ [], NextRound ∷ [], refl, (refl, second_ends, (refl, third_ends, fourth_waits)), at_once 1 of_fourth.request (state_after start (NextRound ∷ failed 0 ∷ NextRound ∷ NextRound ∷ [])), (refl, fourth_ends, fifth_is_last)),
+  (NextRound ∷ NextRound ∷ [], failed_post 1 ∷ [], NextRound ∷ [], refl, (refl, second_ends, (refl, third_ends, fourth_waits)), at_once 1 of_fourth.request (state_after start (NextRound ∷ failed_post 0 ∷ NextRound ∷ NextRound ∷ [])), (refl, fourth_ends, fifth_is_last)),
 )
 
 pub returns-clause-first : goal.returns-clause-first
-returns-clause-first c h = (post_first sparse 0 0 OutOfMemory start of_second (of_fourth ∷ []) (NextRound ∷ NextRound ∷ NextRound ∷ failed 1 ∷ NextRound ∷ []) h).0 first_ends
+returns-clause-first c h = (post_first sparse 0 0 OutOfMemory start of_second (of_fourth ∷ []) (NextRound ∷ NextRound ∷ NextRound ∷ failed_post 1 ∷ NextRound ∷ []) h).0 first_ends
 
 -- what follows the first round
 first_behind : (es : List Step) → AllServed sparse 0 start sparse.script (NextRound ∷ es) → AllServed sparse 0 (after start NextRound) (of_second ∷ of_fourth ∷ []) es
@@ -134,23 +134,23 @@ first_behind es h = (round_first sparse 0 start (of_second ∷ of_fourth ∷ [])
 
 -- the first request is served
 abbrev one_served : State
-one_served = state_after start (NextRound ∷ failed 0 ∷ [])
+one_served = state_after start (NextRound ∷ failed_post 0 ∷ [])
 
-one_behind : (es : List Step) → AllServed sparse 0 start sparse.script (NextRound ∷ failed 0 ∷ es) → AllServed sparse 1 one_served (of_fourth ∷ []) es
-one_behind es h = (post_first sparse 0 0 OutOfMemory (after start NextRound) of_second (of_fourth ∷ []) es (first_behind (failed 0 ∷ es) h)).2
+one_behind : (es : List Step) → AllServed sparse 0 start sparse.script (NextRound ∷ failed_post 0 ∷ es) → AllServed sparse 1 one_served (of_fourth ∷ []) es
+one_behind es h = (post_first sparse 0 0 OutOfMemory (after start NextRound) of_second (of_fourth ∷ []) es (first_behind (failed_post 0 ∷ es) h)).2
 
-third_behind : (es : List Step) → AllServed sparse 0 start sparse.script (NextRound ∷ failed 0 ∷ NextRound ∷ es) → AllServed sparse 1 (after one_served NextRound) (of_fourth ∷ []) es
+third_behind : (es : List Step) → AllServed sparse 0 start sparse.script (NextRound ∷ failed_post 0 ∷ NextRound ∷ es) → AllServed sparse 1 (after one_served NextRound) (of_fourth ∷ []) es
 third_behind es h = (round_first sparse 1 one_served (of_fourth ∷ []) es (one_behind (NextRound ∷ es) h)).1
 
 -- and both are
 abbrev both_served : State
-both_served = state_after one_served (NextRound ∷ NextRound ∷ failed 1 ∷ [])
+both_served = state_after one_served (NextRound ∷ NextRound ∷ failed_post 1 ∷ [])
 
-both_behind : (es : List Step) → AllServed sparse 0 start sparse.script (NextRound ∷ failed 0 ∷ NextRound ∷ NextRound ∷ failed 1 ∷ es) → PassesRounds sparse both_served es
-both_behind es h = (post_first sparse 1 1 OutOfMemory (state_after one_served (NextRound ∷ NextRound ∷ [])) of_fourth [] es (round_first sparse 1 (after one_served NextRound) (of_fourth ∷ []) (failed 1 ∷ es) (third_behind (NextRound ∷ failed 1 ∷ es) h)).1).2
+both_behind : (es : List Step) → AllServed sparse 0 start sparse.script (NextRound ∷ failed_post 0 ∷ NextRound ∷ NextRound ∷ failed_post 1 ∷ es) → PassesRounds sparse both_served es
+both_behind es h = (post_first sparse 1 1 OutOfMemory (state_after one_served (NextRound ∷ NextRound ∷ [])) of_fourth [] es (round_first sparse 1 (after one_served NextRound) (of_fourth ∷ []) (failed_post 1 ∷ es) (third_behind (NextRound ∷ failed_post 1 ∷ es) h)).1).2
 
 pub returns-clause-between : goal.returns-clause-between
-returns-clause-between c h = (post_first sparse 1 1 OutOfMemory (after one_served NextRound) of_fourth [] (NextRound ∷ NextRound ∷ []) (third_behind (failed 1 ∷ NextRound ∷ NextRound ∷ []) h)).0 third_ends
+returns-clause-between c h = (post_first sparse 1 1 OutOfMemory (after one_served NextRound) of_fourth [] (NextRound ∷ NextRound ∷ []) (third_behind (failed_post 1 ∷ NextRound ∷ NextRound ∷ []) h)).0 third_ends
 
 pub returns-clause-last : goal.returns-clause-last
 returns-clause-last c h = both_behind [] h fourth_ends
@@ -159,4 +159,4 @@ pub returns-clause-past_last : goal.returns-clause-past_last
 returns-clause-past_last c h = fifth_is_last (both_behind (NextRound ∷ NextRound ∷ []) h).2.1
 
 pub returns-clause-out_of_turn : goal.returns-clause-out_of_turn
-returns-clause-out_of_turn c h = absurd (let e : 1 ≡ 0 = (post_first sparse 0 1 OutOfMemory (after start NextRound) of_second (of_fourth ∷ []) (failed 0 ∷ NextRound ∷ NextRound ∷ failed 1 ∷ NextRound ∷ []) (first_behind (failed 1 ∷ failed 0 ∷ NextRound ∷ NextRound ∷ failed 1 ∷ NextRound ∷ []) h)).1 in cc)
+returns-clause-out_of_turn c h = absurd (let e : 1 ≡ 0 = (post_first sparse 0 1 OutOfMemory (after start NextRound) of_second (of_fourth ∷ []) (failed_post 0 ∷ NextRound ∷ NextRound ∷ failed_post 1 ∷ NextRound ∷ []) (first_behind (failed_post 1 ∷ failed_post 0 ∷ NextRound ∷ NextRound ∷ failed_post 1 ∷ NextRound ∷ []) h)).1 in cc)

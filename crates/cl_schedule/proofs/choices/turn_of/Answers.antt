@@ -2,7 +2,7 @@ use Rattle.std.proofs.Common.{◌∙◌, ◌+◌, Option, Some, ap, subst, sym}
 use Rattle.std.specs.Prelude.{slice_get}
 use Rattle.cl_config.specs.Views.{Scripted}
 use Rattle.cl_schedule.specs.declared.seats.Seat.{Seat}
-use Rattle.cl_schedule.specs.Counting.{CountGrows, fault, faults, owed, owed_at, owed_of}
+use Rattle.cl_schedule.specs.Counting.{CountGrows, fault, faults, owed_fault, owed_at, owed_of}
 use Rattle.cl_schedule.specs.Places.{seat_at}
 use Rattle.cl_schedule.specs.Rooms.{HasTurned}
 use Rattle.cl_schedule.specs.Seats.{IsSeatedAt}
@@ -44,15 +44,15 @@ pub returns-clause-faults : goal.returns-clause-faults
 returns-clause-faults g c =
     let given = faults c.args.registry.now.answers in
     let at = owed_at c.args.room.now c.args.q in
-    let here = owed c.match-take.seat.call in
+    let here = owed_fault c.match-take.seat.call in
     let first : CountGrows (given + at) (given + here) (g.S.Source.refused c.args.source.now) (g.S.Source.refused c.match-take.source) =
     elim c.match-take.branch [
       | in-Some w ↦
           count_seated given at here _ _
-          (ap (λ (s : Seat g.row.T.Denot). owed s.call) w.seat-is ∙ ap owed_of w.in-Some.ensures.seat)
+          (ap (λ (s : Seat g.row.T.Denot). owed_fault s.call) w.seat-is ∙ ap owed_of w.in-Some.ensures.seat)
           (ap (λ (s : g.row.S.Denot). g.S.Source.refused s) w.source-is)
       | in-None+in_ok-held-in-None+in_ok-request-in-None+in-Ok w ↦
-          count_begun given at here (owed w.in-Ok.seat.call) _ _ _ (sym (ap owed_of w.in-None.ensures.seat)) (ap (λ (s : Seat g.row.T.Denot). owed s.call) w.seat-is)
+          count_begun given at here (owed_fault w.in-Ok.seat.call) _ _ _ (sym (ap owed_of w.in-None.ensures.seat)) (ap (λ (s : Seat g.row.T.Denot). owed_fault s.call) w.seat-is)
           (ap (λ (s : g.row.S.Denot). g.S.Source.refused s) w.source-is) w.in-Ok.ensures.faults
     ] in
     count_first c.advance.result (given + at) (given + here) (λ o. faults c.advance.new.registry.answers + owed_of o) _ _ _ first c.advance.ensures.faults

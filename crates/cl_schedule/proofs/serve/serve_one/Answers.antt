@@ -6,7 +6,7 @@ use Rattle.cl_config.specs.Scripts.{HasLoaders}
 use Rattle.cl_registry.specs.Tables.{Shown, posts, steps}
 use Rattle.cl_schedule.specs.Blames.{EachBlames}
 use Rattle.cl_schedule.specs.Counting.{Grows, faults}
-use Rattle.cl_schedule.specs.Serving.{reported, InOrder}
+use Rattle.cl_schedule.specs.Serving.{reported_registry, InOrder}
 use Rattle.cl_schedule.proofs.Serving.{bare, bare_trusted, next_upto, next_is_open, has_loader, report_tells}
 use Rattle.cl_schedule.proofs.Rounds.{known_bare, known_next, known_none, next_is_now, none_goes_on, nothing_left, served_bare, served_none, served_next, served_whole}
 use Rattle.cl_schedule.specs.Known.{KnownStays}
@@ -84,7 +84,7 @@ unreachable-requires g c =
     (ap (λ (s : Scripted). length s.requests) (inv.script ∙ sym c.deref.ensures) ∙ sym (ap length c.requests-count.ensures.requests) ∙ count) inv.over c.in-Err-into_report.ensures.refused.1
 
 -- the registry is the one that the report tells of, but for its rows
-told_of : (g : _) (c : goal.After-drop-config-2 g) → bare c.loop-q.registry ≡ reported c.args.config.value c.in-Ok-into_report.report
+told_of : (g : _) (c : goal.After-drop-config-2 g) → bare c.loop-q.registry ≡ reported_registry c.args.config.value c.in-Ok-into_report.report
 told_of g c = report_tells c.loop-q.registry c.in-Ok-into_report.report c.args.config.value c.in-Ok-into_report.ensures.reported.whole c.loop-q.invariant.config
 
 -- as many requests as the script has were served

@@ -1,6 +1,6 @@
 use Rattle.std.proofs.Common.{List, ap, length, ◌∙◌}
 use Rattle.cl_model.specs.declared.need.Equality.{Equality}
-use Rattle.cl_findings.specs.Findings.{Based, grounded}
+use Rattle.cl_findings.specs.Findings.{Based, grounded_answer}
 use Rattle.cl_findings.proofs.References.{member_kept, member_rests_kept}
 use Rattle.cl_findings.proofs.finding.Finding.member.Goals as goal
 
@@ -17,4 +17,4 @@ pub returns : goal.returns
 returns g c =
     let many = rw c.deref.ensures at c.needs-met.ensures.needs in
     c.said.ensures
-    ∙ ap (λ (b : Based). grounded c.args.request c.args.verdict b) (member_kept c.args.request c.args.found.now c.args.equalities.value (length c.needs-met.result.now) c.requires.origin (ap (λ (es : List Equality). length es) many))
+    ∙ ap (λ (b : Based). grounded_answer c.args.request c.args.verdict b) (member_kept c.args.request c.args.found.now c.args.equalities.value (length c.needs-met.result.now) c.requires.origin (ap (λ (es : List Equality). length es) many))

@@ -1,5 +1,5 @@
 use Rattle.std.proofs.Common.{◌≢◌, [], Some, None, refl, sym, subst}
-use Rattle.cl_hierarchy.specs.Kept.{KeepsPath, pathed}
+use Rattle.cl_hierarchy.specs.Kept.{KeepsPath, kept_path}
 use Rattle.cl_hierarchy.specs.Paths.{Pathed, Accepts, Completes}
 use Rattle.cl_hierarchy.specs.Repeats.{FitsLast}
 use Rattle.cl_hierarchy.proofs.Tables.{waits_last, accepts_so, held_accept, held_end}
@@ -11,7 +11,7 @@ accept_last-requires g c =
     (subst (λ (p : Pathed). p.frames ≢ []) (sym c.self.view_is) c.requires.waits)
 
 goes_on : (g : _) (c : goal.After-drop-self-inside g) → KeepsPath g.T.Told.told c.self.inside.config.value c.self.inside.loader c.in-Some.next c.accept_last.new.frames.entries
-    × Accepts (pathed c.self.inside.config.value c.self.inside.loader c.self.inside.at c.self.inside.frames.entries) (pathed c.self.inside.config.value c.self.inside.loader c.in-Some.next c.accept_last.new.frames.entries) c.args.place
+    × Accepts (kept_path c.self.inside.config.value c.self.inside.loader c.self.inside.at c.self.inside.frames.entries) (kept_path c.self.inside.config.value c.self.inside.loader c.in-Some.next c.accept_last.new.frames.entries) c.args.place
 goes_on g c =
     held_accept g.T.Told.told c.self.inside.config.value c.self.inside.loader c.self.inside.at c.self.inside.frames.entries c.in-Some.next c.accept_last.new.frames.entries c.args.place c.self.invariant
     (subst (λ (p : Pathed). FitsLast g.T.Told.told p c.args.place) (sym c.self.view_is) c.requires.fits)
@@ -28,11 +28,11 @@ invariant_of-self-in-Some-pop g c =
 
 pub returns-in-Some-clause-accepted : goal.returns-in-Some-clause-accepted
 returns-in-Some-clause-accepted g c =
-    subst (λ (p : Pathed). Accepts p (pathed c.self.inside.config.value c.self.inside.loader c.in-Some.next c.accept_last.new.frames.entries) c.args.place) c.self.view_is (goes_on g c).1
+    subst (λ (p : Pathed). Accepts p (kept_path c.self.inside.config.value c.self.inside.loader c.in-Some.next c.accept_last.new.frames.entries) c.args.place) c.self.view_is (goes_on g c).1
 
 pub returns-in-Some-pop-clause-accepted : goal.returns-in-Some-pop-clause-accepted
 returns-in-Some-pop-clause-accepted g c =
-    let new = pathed c.self.inside.config.value c.self.inside.loader c.in-Some-pop.class.name c.pop.new.self.entries in
+    let new = kept_path c.self.inside.config.value c.self.inside.loader c.in-Some-pop.class.name c.pop.new.self.entries in
     subst (λ (p : Pathed). Completes p new c.args.place c.in-Some-pop.frame) c.self.view_is
     (held_end g.T.Told.told c.self.inside.config.value c.self.inside.loader c.self.inside.at c.self.inside.frames.entries c.accept_last.new.frames.entries c.pop.new.self.entries c.in-Some-pop.class c.in-Some-pop.frame c.args.place c.self.invariant
     (accepts_so c.self.inside.frames.entries c.accept_last.new.frames.entries c.args.place c.args.place c.in_ok-next.field-0 None refl c.in-None.is c.in_ok-next.ensures.accepted)

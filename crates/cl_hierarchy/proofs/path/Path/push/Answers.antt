@@ -1,5 +1,5 @@
 use Rattle.std.proofs.Common.{◌≡◌, ◌∙◌, false, ap, sym, subst}
-use Rattle.cl_hierarchy.specs.Kept.{KeepsPath, pathed}
+use Rattle.cl_hierarchy.specs.Kept.{KeepsPath, kept_path}
 use Rattle.cl_hierarchy.specs.Paths.{Pathed, fresh, at_loader, at_name, is_on, with_frame}
 use Rattle.cl_hierarchy.proofs.Tables.{held_push, absent_push, put_same}
 use Rattle.cl_hierarchy.proofs.path.Path.push.Goals as goal
@@ -14,7 +14,7 @@ put-requires-clause-absent g c =
     (subst (λ (p : Pathed). is_on p c.args.draft.class ≡ false) (sym c.self.view_is) c.requires.absent)
 
 held : (g : _) (c : goal.After-len g) → KeepsPath g.T.Told.told c.self.inside.config.value c.self.inside.loader c.replace.new.dest c.put.new.frames.entries
-    × (pathed c.self.inside.config.value c.self.inside.loader c.replace.new.dest c.put.new.frames.entries ≡ with_frame (pathed c.self.inside.config.value c.self.inside.loader c.self.inside.at c.self.inside.frames.entries) (fresh c.args.draft))
+    × (kept_path c.self.inside.config.value c.self.inside.loader c.replace.new.dest c.put.new.frames.entries ≡ with_frame (kept_path c.self.inside.config.value c.self.inside.loader c.self.inside.at c.self.inside.frames.entries) (fresh c.args.draft))
 held g c =
     held_push g.T.Told.told c.self.inside.config.value c.self.inside.loader c.len.result c.self.inside.at c.replace.new.dest c.self.inside.frames.entries c.put.new.frames.entries c.args.draft c.self.invariant
     (c.put.ensures ∙ put_same c.self.inside.frames.entries c.prepare.new.frames.entries _ _ _ _ _ _ c.prepare.ensures.unchanged c.replace.ensures.value (ap (λ t. t.loader) c.class.ensures) c.new.ensures)

@@ -1,9 +1,9 @@
 use Rattle.std.proofs.Common.{◌≡◌, ◌∙◌, Some, None, ap, sym, subst}
 use Rattle.std.specs.Prelude.{IfOk}
-use Rattle.cl_model.specs.States.{recorded}
+use Rattle.cl_model.specs.States.{recorded_definer}
 use Rattle.cl_model.specs.Tables.{Records}
 use Rattle.cl_hierarchy.specs.Rows.{Rowed}
-use Rattle.cl_registry.specs.Tables.{Shown, Defines, IsKept, IsNew, records_of, state_of, looked}
+use Rattle.cl_registry.specs.Tables.{Shown, Defines, IsKept, IsNew, records_of, state_of, looked_row}
 use Rattle.cl_registry.specs.View.{shown}
 use Rattle.cl_registry.proofs.Asked.{found_none, found_some, known_defined}
 use Rattle.cl_registry.proofs.Looked.{looked_records}
@@ -15,7 +15,7 @@ use Rattle.cl_model.proofs.Bind.{none_not_some}
 abbrev known : (g : _) → goal.Joined-share g → Shown
 known g c = shown c.self.inside
 
-found : (g : _) (c : goal.Joined-share g) → looked (known g c) c.args.draft.class.loader c.args.draft.class.name ≡ Some c.in-Some.row.now.value
+found : (g : _) (c : goal.Joined-share g) → looked_row (known g c) c.args.draft.class.loader c.args.draft.class.name ≡ Some c.in-Some.row.now.value
 found g c =
     found_some (λ r. r.now) (λ r. r.value) g.T.Told.told (known g c) c.args.draft.class.loader c.args.draft.class.name c.self.invariant.kept _ (c.self.invariant.rows c.args.draft.class.loader c.args.draft.class.name) c.own_row.result c.in-Some.row c.own_row.ensures c.in-Some.is
 
@@ -41,7 +41,7 @@ returns-in-Some-clause-found g c =
 
 pub returns-in-Some-clause-shown : goal.returns-in-Some-clause-shown
 returns-in-Some-clause-shown g c =
-    subst (λ (y : Shown). IfOk c.match-share.result (λ r. looked y c.args.draft.class.loader c.args.draft.class.name ≡ Some r.value)) c.self.view_is
+    subst (λ (y : Shown). IfOk c.match-share.result (λ r. looked_row y c.args.draft.class.loader c.args.draft.class.name ≡ Some r.value)) c.self.view_is
     elim c.match-share.branch [
       | in-Ok w ↦ rw w.result-is (found g c ∙ ap (λ (v : Rowed). Some v) (sym w.in-Ok.ensures.row))
       | in-Err w ↦ rw w.result-is tt
@@ -54,7 +54,7 @@ returns-in-Some-clause-refused g c =
       | in-Err w ↦
           rw (w.result-is, w.in-Err.ensures.memory)
           (λ none.
-          absurd (none_not_some _ (subst (λ (y : Shown). recorded (records_of y) c.args.draft.class.loader c.args.draft.class.name ≡ None) (sym c.self.view_is) none) (records g c).1))
+          absurd (none_not_some _ (subst (λ (y : Shown). recorded_definer (records_of y) c.args.draft.class.loader c.args.draft.class.name ≡ None) (sym c.self.view_is) none) (records g c).1))
     ]
 
 fresh : (g : _) (c : goal.After-drop-draft-in-Ok-define_new g) → IsNew c.args.self.now c.args.draft

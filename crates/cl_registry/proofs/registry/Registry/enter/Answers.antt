@@ -3,7 +3,7 @@ use Rattle.std.specs.Option.{option_map}
 use Rattle.cl_model.specs.declared.need.Need.TheVariants as needs
 use Rattle.cl_delegation.specs.Searches.{Located}
 use Rattle.cl_hierarchy.specs.Rows.{Rowed}
-use Rattle.cl_registry.specs.Parts.{IsPut, shared}
+use Rattle.cl_registry.specs.Parts.{IsPut, shared_values}
 use Rattle.cl_registry.specs.Tables.{Shown, IsNew, MayEnter, DefinedAs, row_for, row_at, state_of}
 use Rattle.cl_registry.specs.Refusals.{AddRefusedFor, BlamesNeed}
 use Rattle.cl_registry.specs.View.{shown}
@@ -41,7 +41,7 @@ invariant_of-self-2 g c =
     let may : MayEnter x d = subst (λ (y : Shown). MayEnter y d) (sym c.self.view_is) c.requires.may in
     let made : c.in-Ok.row.value ≡ row_for x d = e.row ∙ row_made (λ r. r.value) g.T.Told.told x c.self.invariant.kept (row_at c.self.inside.tables.items) c.self.invariant.rows d in
     kept_defined g.T.Told.told x d _ _ _ _ _ _ _ _ c.to_come-left.result _ _ _ c.self.invariant c.home.ensures.draft may fresh e.entered
-    (subst (λ (v : Rowed). IsPut (shared (λ r. r.value) (row_at c.self.inside.tables.items)) (shared (λ r. r.value) (row_at c.record.new.tables.items)) d.class.loader d.class.name v) made e.put)
+    (subst (λ (v : Rowed). IsPut (shared_values (λ r. r.value) (row_at c.self.inside.tables.items)) (shared_values (λ r. r.value) (row_at c.record.new.tables.items)) d.class.loader d.class.name v) made e.put)
     (record {
       width = e.width;
       references_are = λ k i. refl;

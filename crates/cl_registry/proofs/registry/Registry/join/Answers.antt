@@ -3,7 +3,7 @@ use Rattle.std.specs.Option.{option_map}
 use Rattle.cl_model.specs.declared.need.Need.TheVariants as needs
 use Rattle.cl_model.specs.States.{Refused}
 use Rattle.cl_hierarchy.specs.Rows.{Rowed}
-use Rattle.cl_registry.specs.Tables.{Shown, LacksRecord, MayJoin, InitiatedAs, looked, state_of}
+use Rattle.cl_registry.specs.Tables.{Shown, LacksRecord, MayJoin, InitiatedAs, looked_row, state_of}
 use Rattle.cl_registry.specs.Refusals.{AddRefusedFor, BlamesNeed}
 use Rattle.cl_registry.specs.View.{shown}
 use Rattle.cl_registry.proofs.Entered.{add_refused, asked_entry, blamed_as, blames_record, kept_initiated, not_refused, share_refused, shown_initiate}
@@ -51,7 +51,7 @@ invariant_of-self-2 g c =
     let e = c.in-Ok-join.ensures in
     let fresh : LacksRecord x h.asked h.name = subst (λ (y : Shown). LacksRecord y h.asked h.name) (sym c.self.view_is) c.requires.fresh in
     let may : MayJoin x h = subst (λ (y : Shown). MayJoin y h) (sym c.self.view_is) c.requires.may in
-    let is : looked x h.place h.name ≡ Some c.in-Ok.row.value = subst (λ (y : Shown). looked y h.place h.name ≡ Some c.in-Ok.row.value) (sym c.self.view_is) c.in-Ok.ensures.row in
+    let is : looked_row x h.place h.name ≡ Some c.in-Ok.row.value = subst (λ (y : Shown). looked_row y h.place h.name ≡ Some c.in-Ok.row.value) (sym c.self.view_is) c.in-Ok.ensures.row in
     kept_initiated g.T.Told.told x h c.in-Ok.row.value _ _ _ _ _ _ _ _ c.to_come-left.result _ _ c.self.invariant c.in-Ok.ensures.leads c.in-Ok.ensures.within may fresh is e.entered e.put
     (record {
       width = e.width;
@@ -69,7 +69,7 @@ returns-clause-initiated g c =
     let y : Shown = record x { history = c.join.new.history.items } in
     let v = c.in-Ok-join.row.value in
     let may : MayJoin x h = subst (λ (z : Shown). MayJoin z h) (sym c.self.view_is) c.requires.may in
-    let is : looked x h.place h.name ≡ Some v = subst (λ (z : Shown). looked z h.place h.name ≡ Some c.in-Ok.row.value) (sym c.self.view_is) c.in-Ok.ensures.row ∙ ap (λ (w : Rowed). Some w) (sym e.row) in
+    let is : looked_row x h.place h.name ≡ Some v = subst (λ (z : Shown). looked_row z h.place h.name ≡ Some c.in-Ok.row.value) (sym c.self.view_is) c.in-Ok.ensures.row ∙ ap (λ (w : Rowed). Some w) (sym e.row) in
     subst (λ (z : Shown). InitiatedAs z y h v None) c.self.view_is (may, (e.entered (state_of x) c.self.invariant.book).0, shown_initiate x h _ e.event.events, is)
 
 pub returns-clause-kept : goal.returns-clause-kept

@@ -5,7 +5,7 @@ use Rattle.cl_preparation.specs.Listings.{Listing, with_all}
 use Rattle.cl_preparation.specs.Nearby.{near_declared}
 use Rattle.cl_preparation.specs.Relatives.{bare}
 use Rattle.cl_preparation.proofs.Listings.{listed_once}
-use Rattle.cl_preparation.proofs.near.Nearby.declared.Goals as goal
+use Rattle.cl_preparation.proofs.near.Nearby.declared_needs.Goals as goal
 
 pub returns : goal.returns
 returns g c =

@@ -52,12 +52,12 @@ lacks : (r : Rowed) (o : Option Rowed) → o ≡ None → o ≡ Some r → ⊥
 lacks r o e f = cc
 
 -- what is found for a class that is recorded
-pub looked_row : (x : Shown) (l p : ℕ) (n : List ℕ) → recorded_definer (records_of x) l n ≡ Some p → looked_row x l n ≡ row_of x.rows (class n p)
-looked_row x l p n e = ap (λ (o : Option ℕ). option_and_then (λ place. row_of x.rows (class n place)) o) e
+pub row_of_record : (x : Shown) (l p : ℕ) (n : List ℕ) → recorded_definer (records_of x) l n ≡ Some p → looked_row x l n ≡ row_of x.rows (class n p)
+row_of_record x l p n e = ap (λ (o : Option ℕ). option_and_then (λ place. row_of x.rows (class n place)) o) e
 
 -- one that has no row is not recorded
 pub none_recorded : (told : Option Content) (x : Shown) (c : Class) → IsKept told x → row_of x.rows c ≡ None → IsRecorded (state_of x) c → ⊥
-none_recorded told x c k none at = let r = recorded_row told x c.loader c.loader c.name k at in lacks r.row (row_of x.rows c) none (sym (looked_row x c.loader c.loader c.name at) ∙ r.found)
+none_recorded told x c k none at = let r = recorded_row told x c.loader c.loader c.name k at in lacks r.row (row_of x.rows c) none (sym (row_of_record x c.loader c.loader c.name at) ∙ r.found)
 
 -- ---- what a loader has defined
 
@@ -69,7 +69,7 @@ none_or None h = refl
 none_or (Some r) h = absurd (h r refl)
 
 pub own_row : (x : Shown) (l : ℕ) (n : List ℕ) (r : Rowed) → Records (state_of x) l n r.class → looked_row x l n ≡ Some r → r.class.loader ≡ l → Some r ≡ row_of x.rows (class n l)
-own_row x l n r rec at own = sym at ∙ looked_row x l l n (rec.1 ∙ ap (λ (p : ℕ). Some p) own)
+own_row x l n r rec at own = sym at ∙ row_of_record x l l n (rec.1 ∙ ap (λ (p : ℕ). Some p) own)
 
 pub other_row : (told : Option Content) (x : Shown) (l : ℕ) (n : List ℕ) (r : Rowed) → IsKept told x → Records (state_of x) l n r.class → (r.class.loader ≡ l → ⊥) → None ≡ row_of x.rows (class n l)
 other_row told x l n r k rec other =

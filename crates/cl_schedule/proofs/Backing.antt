@@ -30,7 +30,7 @@ use Rattle.cl_registry.specs.References.{Cited, cited_by, settled_by}
 use Rattle.cl_registry.specs.Settling.{FindingSettles}
 use Rattle.cl_registry.specs.Tables.{Shown, IsKept, MayEnter, looked_row, records_of, settled_at, state_of, steps, machine}
 use Rattle.cl_registry.proofs.Placed.{recorded_row}
-use Rattle.cl_registry.proofs.Tracing.{looked_row}
+use Rattle.cl_registry.proofs.Tracing.{row_of_record}
 use Rattle.cl_tasks.specs.Follows.{AnswerFollows, Backed}
 use Rattle.cl_tasks.specs.declared.turn.Turn.{Turn}
 use Rattle.cl_tasks.specs.declared.turn.Turn.TheVariants as turn
@@ -61,7 +61,7 @@ looked_later : (told : Option Content) (old new : Shown) (loader : ℕ) (name : 
 looked_later told old new loader name kept h is =
     let at = some_is (recorded_definer (records_of old) loader name) is in
     let r = recorded_row told old loader at.0 name kept at.1 in
-    r.found ∙ sym (looked_row new loader at.0 name (record_later old new loader at.0 name h at.1) ∙ row_stays old.rows h.more new.rows (class name at.0) r.row h.rows (sym (looked_row old loader at.0 name at.1) ∙ r.found))
+    r.found ∙ sym (row_of_record new loader at.0 name (record_later old new loader at.0 name h at.1) ∙ row_stays old.rows h.more new.rows (class name at.0) r.row h.rows (sym (row_of_record old loader at.0 name at.1) ∙ r.found))
 
 fit_later : (told : Option Content) (old new : Shown) (c : Class) (above : List Above) → IsKept told old → GoesOn old new → AllByRecursion (λ (a : Above). IsSome (recorded_definer (records_of old) c.loader a.name)) above
     → AllByRecursion (λ (a : Above). IfSome (looked_row old c.loader a.name) (FitsAs c a)) above → AllByRecursion (λ (a : Above). IfSome (looked_row new c.loader a.name) (FitsAs c a)) above

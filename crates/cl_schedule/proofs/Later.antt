@@ -28,7 +28,7 @@ use Rattle.cl_registry.specs.References.{IsSettledIn}
 use Rattle.cl_registry.specs.Tables.{Shown, ArePlaced, IsKept, IsOpen, IsTrusted, records_of, settled_at, settlements, state_of, steps, with_post}
 use Rattle.cl_registry.specs.Traced.{IsRowOf}
 use Rattle.cl_registry.proofs.Histories.{steps_posts, unposted, settlements_then}
-use Rattle.cl_registry.proofs.Tracing.{looked_row}
+use Rattle.cl_registry.proofs.Tracing.{row_of_record}
 use Rattle.cl_tasks.specs.Facts.{AllHave, AreSo, HaveAccepted, Holds, IsRecordedAs, IsSo}
 use Rattle.cl_tasks.specs.Tasks.{Tasked, Fact, Stands, StandsRefused, HasLineage, IsPrepared}
 use Rattle.cl_schedule.specs.Replies.{Did}
@@ -117,8 +117,8 @@ recorded_as_later old new loader name row h is =
     record {
       records = (is.records.0, there);
       kept =
-          looked_row new loader place name there
-          ∙ row_stays old.rows h.more new.rows (class name place) row h.rows (sym (looked_row old loader place name is.records.1) ∙ is.kept);
+          row_of_record new loader place name there
+          ∙ row_stays old.rows h.more new.rows (class name place) row h.rows (sym (row_of_record old loader place name is.records.1) ∙ is.kept);
     }
 
 accepted_later : (old new : Shown) → GoesOn old new → (c : Class) (ts : List Class) (others : List Above) → HaveAccepted old c ts others → HaveAccepted new c ts others

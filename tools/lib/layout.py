@@ -16,6 +16,8 @@ HANDLES = "Handles allowed: Threads, Wait."
 MOST_LINES = 500
 MOST_COLUMNS = 100
 TEXTS = (".rt", ".antt", ".md", ".edit", ".txt", ".py", "")
+# A relation or a type that a file of definitions states.
+STATED = re.compile(r"^(?:(?:abbrev|unfoldable) )?pub (?:(?:abbrev|unfoldable|record|data) )?([A-Z]\w*)\b", re.M)
 # A number of some paper or issue says nothing to a reader of the repository, which states its rules itself.
 CITATION = re.compile(r"(?<!\.)\b(?:[Pp]aper|[Ii]ssue|[Rr]equest|[Dd]efinition|[Rr]ule) [DRW]?\d+\b|\b[TDRW]\d{1,2} ?\([ivx]+\)|\bW\d{1,2}\b")
 
@@ -103,6 +105,17 @@ def files_are_short(root, files, _crates):
     return [f"{it}: {number} lines, over {MOST_LINES}" for it, number in counted if number > MOST_LINES]
 
 
+def meanings_have_names(root, files, _crates):
+    """No two files of definitions call a relation or a type by one name. (Functions may: as a method, each is of its own type.)"""
+    found = {}
+    for it in files:
+        parts = it.split("/")
+        if it.endswith(".antt") and len(parts) > 3 and parts[0] == "crates" and parts[2] == "specs":
+            for name in STATED.findall("\n".join(lines_of(f"{root}/{it}"))):
+                found.setdefault(name, []).append(it)
+    return [f"{', '.join(places)}: each defines {name}" for name, places in found.items() if len(places) > 1]
+
+
 def code_is_laid_out(root, _files, crates):
     """Each file of code is as `rt fmt` lays it out: rt ci proves no crate else."""
     return [f"{os.path.relpath(it.folder, root)}: {why}: run rt fmt there" for it in crates for why in kit.not_laid_out(it.folder)]
@@ -125,6 +138,7 @@ RULES = (
     nothing_half_merged,
     code_is_checked,
     code_is_laid_out,
+    meanings_have_names,
     stands_alone,
     files_are_short,
     edits_apply,

@@ -35,6 +35,7 @@
   unopened      the same interface, which is not public, so that each mention asks for packages
   mentioned     the same 10,000 times, one link and nine resolutions
   heaped        two classes over one another that each name it and another such by turns 40,000 times; the last is linked
+  piled         five classes over one another that each name it 65,535 times; the last is linked
   namesakes     a class of 20,000 methods of one name of 65,000 bytes; it is linked
   typed         the same of one descriptor
   shadowed      120 classes over one of 8,000 methods of such a name, each of which names an interface with the same; the last is linked
@@ -366,12 +367,21 @@ def mentioned(path, count=10000):
     named_again(path, count, [f"m{n}" for n in range(9)])
 
 
+def over_interfaces(path, over, names, interfaces):
+    """Classes over one another that each name these interfaces; the last is linked."""
+    classes = [TOP, *(section("app", name, flags="0601") for name in over)]
+    for name, above in zip(names, [OBJECT, *names]):
+        classes.append(f"%class app {name}\n@hex {class_file(name, above, [], interfaces).hex()}\n")
+    bundle(path, TWO, classes, [f"link app {names[-1]}\n"])
+
+
 def heaped(path, count=40000):
     over = [LONG, LONG[:-1] + "y"]
-    classes = [TOP, *(section("app", name, flags="0601") for name in over)]
-    for name, above in (("C", OBJECT), ("D", "C")):
-        classes.append(f"%class app {name}\n@hex {class_file(name, above, [], [over[place % 2] for place in range(count)]).hex()}\n")
-    bundle(path, TWO, classes, ["link app D\n"])
+    over_interfaces(path, over, ["C", "D"], [over[place % 2] for place in range(count)])
+
+
+def piled(path, count=65535):
+    over_interfaces(path, [LONG], ["C", "D", "E", "F", "G"], [LONG] * count)
 
 
 def named_again(path, count, resolved, flags="0601"):
@@ -563,7 +573,7 @@ def blocks(path, count=2000):
 
 def main(folder):
     os.makedirs(folder, exist_ok=True)
-    references = methods, settled, constraints, refused, described, stretched, lengthy, unopened, mentioned, heaped, namesakes, typed, shadowed
+    references = methods, settled, constraints, refused, described, stretched, lengthy, unopened, mentioned, heaped, piled, namesakes, typed, shadowed
     chains = overriding, repeated, halves, crowned, paired, against, inherits, renamed, hiding, turning, slotted, broad, veiled, draped, lone, uneven, dense, stacked, heads, pairs, differing, scanned, offered, crossed, fans, plain, topped, wide, distinct, many, inherited, naming, interfaces, beside, comb, fringe, twos, combs, blocks
     for make in *references, ladder, links, *chains:
         make(f"{folder}/{make.__name__}")

@@ -47,7 +47,7 @@ pub fn cut<'a>(alloc: Global, text: &'a str) -> Result<Sections<'a>, BundleFault
     ensures { CutOf text.entry.now result }
 {
     let mut lines = Lines::new(text);
-    opening(&mut lines)?;
+    take_config_line(&mut lines)?;
     let Body {
         text: config,
         mut end,
@@ -92,7 +92,7 @@ fn next_line<'a>(lines: &mut Lines<'a>) -> Option<Line<'a>>
 }
 
 /// Takes off the line `%config`, which only skipped lines may precede, with those.
-fn opening(lines: &mut Lines<'_>) -> Result<(), BundleFault>
+fn take_config_line(lines: &mut Lines<'_>) -> Result<(), BundleFault>
     ensures { OpeningOf lines.old result lines.new }
 {
     while let Some(line) = next_line(lines) {

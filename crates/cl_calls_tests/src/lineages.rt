@@ -147,7 +147,7 @@ fn define_top(
     config: &Arc<Config>,
 ) -> Result<bool, AllocError> {
     for loader in [BOOT, APP] {
-        let source = telling(alloc, &[(BOOT, Named::Top)])?;
+        let source = telling_source(alloc, &[(BOOT, Named::Top)])?;
         if record(alloc, tables, config, source, loader, bytes_of(Named::Top))? != Told::Done {
             return Ok(false);
         }

@@ -25,7 +25,10 @@ const FILES: [(u16, Named); 5] = [
 ];
 
 /// Those that are left where the superclass is prepared.
-fn left(alloc: Global, lineage: Lineage<Untold>) -> Result<Equalities<Untold>, AllocError> {
+fn equalities_left(
+    alloc: Global,
+    lineage: Lineage<Untold>,
+) -> Result<Equalities<Untold>, AllocError> {
     let place = lineage.above().len();
     let mut whole = Preparations::of(lineage);
     fewer_constraints_of(alloc, &mut whole, place, Given::Superclass)
@@ -40,7 +43,7 @@ fn list(
 ) -> Result<Equalities<Untold>, RegistryFault> {
     let lineage = tables.lineage(alloc, class)?;
     if call == ImposeLeft {
-        return Ok(left(alloc, lineage)?);
+        return Ok(equalities_left(alloc, lineage)?);
     }
     Ok(constraints_of(alloc, &lineage)?)
 }
@@ -120,7 +123,14 @@ fn ask(
     let (call, loader, name) = step;
     let name = bytes_of(name);
     if call == Record {
-        return record(alloc, tables, config, telling(alloc, &FILES)?, loader, name);
+        return record(
+            alloc,
+            tables,
+            config,
+            telling_source(alloc, &FILES)?,
+            loader,
+            name,
+        );
     }
     let class = class(alloc, loader, name)?;
     match list(alloc, tables, &class, call) {

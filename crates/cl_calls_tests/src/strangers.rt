@@ -199,9 +199,9 @@ fn initiate(
     home: &Home<Untold>,
     name: &Name,
 ) -> Result<Result<u16, Told>, Fail> {
-    let was_recorded = tables.look(home.asked(), name).is_some();
+    let was_recorded = tables.look(home.asked_loader(), name).is_some();
     let told = tell_loader(alloc, tables, home);
-    if told.is_err() && tables.look(home.asked(), name).is_some() != was_recorded {
+    if told.is_err() && tables.look(home.asked_loader(), name).is_some() != was_recorded {
         return Err(Fail::new("a refused record left a trace"));
     }
     if told == Err(Told::Memory) {

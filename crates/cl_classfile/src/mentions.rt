@@ -22,7 +22,7 @@ pub struct Mentions {
 
 impl Mentions {
     /// The first that the text of the one at this place names, if that is told.
-    fn told(&self, place: usize) -> Option<u16>
+    fn first_at(&self, place: usize) -> Option<u16>
         ensures { result ≡ slice_get self.now.firsts.items place }
     {
         self.firsts.as_slice().get(place).copied()
@@ -35,7 +35,7 @@ impl Mentions {
             → (result ≤ place)
             × (named_at pool interfaces result ≡ named_at pool interfaces place) }
     {
-        match self.told(place) {
+        match self.first_at(place) {
             Some(first) => first as usize,
             None => place,
         }
@@ -43,7 +43,7 @@ impl Mentions {
 }
 
 /// The index of the text that names the class at an index, or 0.
-fn naming(pool: &[Entry], index: u16) -> u16
+fn class_name_index(pool: &[Entry], index: u16) -> u16
     ensures { result ≡ naming_text (at pool.now index) }
 {
     match item_at(pool, index) {
@@ -86,7 +86,7 @@ pub fn mentions_of(
     }
     let mut marks = vec![in alloc; 0u16; pool.len()]?;
     for place in 0..interfaces.len() {
-        let text = naming(pool, interfaces[place]);
+        let text = class_name_index(pool, interfaces[place]);
         firsts.push(meet(&mut marks, text, place as u16))?;
     }
     Ok(Mentions { firsts })

@@ -88,11 +88,11 @@ impl Numbers {
     pub fn number_of(&self, pool: &[Entry], text: &Name) -> Option<u16>
         ensures { result ≡ number_of pool.now self.now text.now }
     {
-        self.found(pool, rank_of(text), text)
+        self.number_at_rank(pool, rank_of(text), text)
     }
 
     /// The number of the text of this rank.
-    fn found(&self, pool: &[Entry], rank: usize, text: &Name) -> Option<u16>
+    fn number_at_rank(&self, pool: &[Entry], rank: usize, text: &Name) -> Option<u16>
         ensures { result ≡ found_number pool.now self.now rank text.now }
     {
         let number = self.slot(rank);
@@ -151,7 +151,7 @@ impl Numbers {
             return Ok(0);
         };
         let rank = rank_of(text);
-        if let Some(number) = self.found(pool, rank, text) {
+        if let Some(number) = self.number_at_rank(pool, rank, text) {
             return Ok(number);
         }
         self.meet(alloc, rank, text, index)?;

@@ -109,7 +109,7 @@ impl<T: Told> Search<T> {
 
     /// How many loaders of the route have not been found to lack the name. While no bytes were found these are still to be
     /// probed, if each of them lacks it.
-    pub fn left(&self) -> usize
+    pub fn probes_left(&self) -> usize
         ensures { result ≡ length (route_of self.now) - length self.now.absent }
     {
         self.route.len().saturating_sub(self.absent.len())
@@ -223,7 +223,7 @@ impl<T: Told> Home<T> {
     }
 
     /// The loader that was asked.
-    pub fn asked(&self) -> LoaderId
+    pub fn asked_loader(&self) -> LoaderId
         ensures { result ≡ self.now.asked }
     {
         self.asked
@@ -318,7 +318,7 @@ impl<T: Told> Unfound<T> {
     }
 
     /// The loader that was asked.
-    pub fn asked(&self) -> LoaderId
+    pub fn asked_loader(&self) -> LoaderId
         ensures { result ≡ self.now.asked }
     {
         self.loader

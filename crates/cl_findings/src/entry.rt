@@ -27,7 +27,7 @@ impl<T: Told> Finding<T> {
     {
         // brings that the file is what the class's bytes spell, where a content is told
         let _ = d.class();
-        Finding::said(request, verdict, Basis::Entry { config, d })
+        Finding::with_verdict(request, verdict, Basis::Entry { config, d })
     }
 
     /// What an entry of the pool of the class `d` is resolved to that names the class `c`: an IllegalAccessError where that is
@@ -46,6 +46,6 @@ impl<T: Told> Finding<T> {
         // brings that the files are what the classes' bytes spell, where a content is told
         let _ = d.class();
         let _ = c.class();
-        Finding::said(request, verdict, Basis::Class { config, d, c })
+        Finding::with_verdict(request, verdict, Basis::Class { config, d, c })
     }
 }

@@ -43,7 +43,7 @@ impl<T: Told> Model for Finding<T> {
 
 impl<T: Told> Finding<T> {
     /// A verdict that rests on this (JVMS SE 8, 5.3 to 5.4.3).
-    pub(crate) fn said(request: Request, verdict: Verdict, basis: Basis<T>) -> Finding<T>
+    pub(crate) fn with_verdict(request: Request, verdict: Verdict, basis: Basis<T>) -> Finding<T>
         requires { Rests T.told (grounded_answer request verdict (basis_of request basis)) }
         ensures { result ≡ grounded_answer request verdict (basis_of request basis) }
     {

@@ -124,7 +124,7 @@ fn end_at<T: Told>(
             // brings that no loader has the name, where a content is told
             let _ = unfound.config();
             let kind = missing_kind(target, path);
-            let loader = unfound.asked();
+            let loader = unfound.asked_loader();
             let name = unfound.into_name();
             End {
                 verdict: Verdict::Error(kind, Class { name, loader }),
@@ -213,7 +213,7 @@ impl<T: Told> Finding<T> {
             path,
             at: end.at,
         };
-        Finding::said(request, end.verdict, basis)
+        Finding::with_verdict(request, end.verdict, basis)
     }
 
     /// The refusal of the record that comes next in a load: LinkageError of that need (JVMS SE 8, 5.3.4).
@@ -231,7 +231,7 @@ impl<T: Told> Finding<T> {
             (refused_at request target path next) }
     {
         let at = refused_at(&request, &target, &path, next, &need);
-        Finding::said(
+        Finding::with_verdict(
             request,
             Verdict::Linkage(need),
             Basis::Load { target, path, at },

@@ -33,7 +33,7 @@ impl<T: Told> Finding<T> {
         let _ = found.d().class();
         let _ = found.c().class();
         let met = equalities.needs().len();
-        Finding::said(request, verdict, Basis::Asked { equalities, met })
+        Finding::with_verdict(request, verdict, Basis::Asked { equalities, met })
     }
 
     /// The error of an entry of the class `d` whose member was not found through the class `c`: NoSuchFieldError,
@@ -53,6 +53,6 @@ impl<T: Told> Finding<T> {
         // brings what is kept of the classes' lineages
         let _ = d.class();
         let _ = c.class();
-        Finding::said(request, verdict, Basis::Lookup { d, c })
+        Finding::with_verdict(request, verdict, Basis::Lookup { d, c })
     }
 }

@@ -48,7 +48,7 @@ impl<T: Told> Finding<T> {
             equalities,
             met: index,
         };
-        Finding::said(request, Verdict::Linkage(need), basis)
+        Finding::with_verdict(request, Verdict::Linkage(need), basis)
     }
 
     /// The refusal of the equality at this index of those of the preparation of the class at this place of the lineage of a
@@ -76,6 +76,6 @@ impl<T: Told> Finding<T> {
             equalities,
             met: index,
         };
-        Finding::said(request, Verdict::Linkage(need), basis)
+        Finding::with_verdict(request, Verdict::Linkage(need), basis)
     }
 }

@@ -128,7 +128,7 @@ fn end_is_refused<T: Told, X: Tables>(tables: &X, at: &At<T>) -> bool
             let class = frame.draft().class();
             tables.rejects(class.loader, &class.name, class.loader)
         }
-        At::Away(home) => tables.rejects(home.asked(), home.name(), home.place()),
+        At::Away(home) => tables.rejects(home.asked_loader(), home.name(), home.place()),
     }
 }
 

@@ -64,6 +64,9 @@ pub fn source(alloc: Global, classes: &[(u16, Named)]) -> Result<MemorySource, A
 }
 
 /// A source of the files of these classes of these loaders.
-pub fn telling(alloc: Global, classes: &[(u16, Named)]) -> Result<Telling<Untold>, AllocError> {
+pub fn telling_source(
+    alloc: Global,
+    classes: &[(u16, Named)],
+) -> Result<Telling<Untold>, AllocError> {
     Ok(source(alloc, classes)?.tell::<Untold>())
 }

@@ -9,7 +9,7 @@ use Rattle.cl_model.specs.declared.class.Class.{Class}
 use Rattle.cl_model.specs.Frames.{wanted_supertype, asking_loader}
 use Rattle.cl_hierarchy.specs.Frames.{Framed, frame_of}
 use Rattle.cl_hierarchy.specs.Kept.{first_name, frames_in, last_wants}
-use Rattle.cl_hierarchy.specs.Paths.{name_of, sought, misfit_in, misfit_under}
+use Rattle.cl_hierarchy.specs.Paths.{name_of, sought_name, misfit_in, misfit_under}
 
 -- ---- lists
 
@@ -68,7 +68,7 @@ pub asking_push : (loader : ℕ) (xs : List Framed) (x : Framed) → asking_load
 asking_push loader [] x = refl
 asking_push loader (y ∷ ys) x = asking_push y.draft.class.loader ys x
 
-pub sought_push : (name : List ℕ) (xs : List Framed) (x : Framed) → sought name (xs ++ x ∷ []) ≡ name_of (wanted_supertype (frame_of x))
+pub sought_push : (name : List ℕ) (xs : List Framed) (x : Framed) → sought_name name (xs ++ x ∷ []) ≡ name_of (wanted_supertype (frame_of x))
 sought_push name [] x = refl
 sought_push name (y ∷ ys) x = sought_push (name_of (wanted_supertype (frame_of y))) ys x
 

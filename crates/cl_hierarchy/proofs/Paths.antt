@@ -10,7 +10,7 @@ use Rattle.cl_config.specs.Views.{Configured}
 use Rattle.cl_delegation.specs.Worlds.{world_of}
 use Rattle.cl_hierarchy.specs.Drafts.{Drafted, IsDraft}
 use Rattle.cl_hierarchy.specs.Frames.{Framed, frame_of, with_place}
-use Rattle.cl_hierarchy.specs.Paths.{Pathed, frames_of, fresh, name_of, sought, at_loader, at_name, is_on, FrameStands, AllStand, KeepsRules, IsPath, with_frame}
+use Rattle.cl_hierarchy.specs.Paths.{Pathed, frames_of, fresh, name_of, sought_name, at_loader, at_name, is_on, FrameStands, AllStand, KeepsRules, IsPath, with_frame}
 use Rattle.cl_hierarchy.specs.Repeats.{FitsNext}
 use Rattle.cl_hierarchy.proofs.Ends.{all_push, all_pop, asking_push, sought_push}
 use Rattle.cl_hierarchy.proofs.Frames.{accepts_one}
@@ -18,11 +18,11 @@ use Rattle.cl_hierarchy.proofs.Placed.{fresh_frame}
 
 -- ---- each stands for the one before
 
-stand_push : (c : Configured) (loader : ℕ) (name : List ℕ) (xs : List Framed) (x : Framed) → AllStand c loader name xs → FrameStands c (asking_loader loader (map frame_of xs)) (sought name xs) x → AllStand c loader name (xs ++ x ∷ [])
+stand_push : (c : Configured) (loader : ℕ) (name : List ℕ) (xs : List Framed) (x : Framed) → AllStand c loader name xs → FrameStands c (asking_loader loader (map frame_of xs)) (sought_name name xs) x → AllStand c loader name (xs ++ x ∷ [])
 stand_push c loader name [] x all s = (s, tt)
 stand_push c loader name (y ∷ ys) x all s = (all.0, stand_push c y.draft.class.loader (name_of (wanted_supertype (frame_of y))) ys x all.1 s)
 
-pub stand_pop : (c : Configured) (loader : ℕ) (name : List ℕ) (xs : List Framed) (x : Framed) → AllStand c loader name (xs ++ x ∷ []) → AllStand c loader name xs × FrameStands c (asking_loader loader (map frame_of xs)) (sought name xs) x
+pub stand_pop : (c : Configured) (loader : ℕ) (name : List ℕ) (xs : List Framed) (x : Framed) → AllStand c loader name (xs ++ x ∷ []) → AllStand c loader name xs × FrameStands c (asking_loader loader (map frame_of xs)) (sought_name name xs) x
 stand_pop c loader name [] x all = (tt, all.0)
 stand_pop c loader name (y ∷ ys) x all = let r = stand_pop c y.draft.class.loader (name_of (wanted_supertype (frame_of y))) ys x all.1 in ((all.0, r.0), r.1)
 
@@ -39,10 +39,10 @@ Ruled c content loader name xs al an = IsFrames (world_of c content) [] loader n
 -- frames with one more at the end lead to what that one wants
 ruled_end : (c : Configured) (content : Content) (loader : ℕ) (name : List ℕ) (xs : List Framed) (x : Framed) (a : Above) → wanted_supertype (frame_of x) ≡ Some a
     → IsFrames (world_of c content) [] loader name (map frame_of xs ++ frame_of x ∷ []) x.draft.class.loader a.name
-    → Ruled c content loader name (xs ++ x ∷ []) (asking_loader loader (map frame_of (xs ++ x ∷ []))) (sought name (xs ++ x ∷ []))
+    → Ruled c content loader name (xs ++ x ∷ []) (asking_loader loader (map frame_of (xs ++ x ∷ []))) (sought_name name (xs ++ x ∷ []))
 ruled_end c content loader name xs x a want r =
     let w = world_of c content in
-    let at : sought name (xs ++ x ∷ []) ≡ a.name = sought_push name xs x ∙ ap name_of want in
+    let at : sought_name name (xs ++ x ∷ []) ≡ a.name = sought_push name xs x ∙ ap name_of want in
     subst (λ (n : List ℕ). Ruled c content loader name (xs ++ x ∷ []) (asking_loader loader (map frame_of (xs ++ x ∷ []))) n) (sym at)
     (subst (λ (l : ℕ). Ruled c content loader name (xs ++ x ∷ []) l a.name) (sym (asking_push loader xs x))
     (subst (λ (fs : List Frame). IsFrames w [] loader name fs x.draft.class.loader a.name) (sym (map_push frame_of xs x)) r))
@@ -79,7 +79,7 @@ module _ (told : Option Content) (c : Configured) (loader : ℕ) (name : List �
   abbrev pub along : List Framed → Pathed
   along fs = record { config = c; loader = loader; name = name; frames = fs }
 
-  rules_pop : (told : Option Content) → KeepsRules told (along (xs ++ x ∷ [])) → x.draft.class.name ≡ sought name xs → KeepsRules told (along xs)
+  rules_pop : (told : Option Content) → KeepsRules told (along (xs ++ x ∷ [])) → x.draft.class.name ≡ sought_name name xs → KeepsRules told (along xs)
   rules_pop None rules named = tt
   rules_pop (Some content) rules named =
       let w = world_of c content in

@@ -16,7 +16,7 @@ use Rattle.cl_delegation.specs.Worlds.{world_of}
 use Rattle.cl_hierarchy.specs.Drafts.{IsSpelt}
 use Rattle.cl_hierarchy.specs.Frames.{Framed, accepted_of, frame_of}
 use Rattle.cl_hierarchy.specs.Kept.{frames_in, kept_path}
-use Rattle.cl_hierarchy.specs.Paths.{Pathed, Accepts as accepts, Completes, IsPath, at_loader, at_name, misfit_in, misfit_under, name_of, sought}
+use Rattle.cl_hierarchy.specs.Paths.{Pathed, Accepts as accepts, Completes, IsPath, at_loader, at_name, misfit_in, misfit_under, name_of, sought_name}
 use Rattle.cl_hierarchy.specs.Repeats.{AcceptsAgain, CompletesAgain, FitsLast, FitsNext, Repeats, RepeatsLast}
 use Rattle.cl_hierarchy.proofs.Ends.{frames_push, last_split, sought_push, under_last}
 use Rattle.cl_hierarchy.proofs.Frames.{as_many}
@@ -34,7 +34,7 @@ suits_next (Some content) c x t f spelt named fits = λ a want.
 
 pub fits_last : (told : Option Content) (p : Pathed) (t : Class) (f : Structure) → IsSpelt told t f → t.name ≡ at_name p → misfit_under p.frames t (file_of f) ≡ None → FitsLast told p t.loader
 fits_last told p t f spelt named fits = λ before x e.
-    suits_next told p.config x t f spelt (named ∙ ap (sought p.name) e ∙ sought_push p.name before x)
+    suits_next told p.config x t f spelt (named ∙ ap (sought_name p.name) e ∙ sought_push p.name before x)
     (sym (under_last before x t (file_of f)) ∙ ap (λ (xs : List Framed). misfit_under xs t (file_of f)) (sym e) ∙ fits)
 
 -- ---- one that was accepted before

@@ -51,9 +51,9 @@ name_of (Some a) = a.name
 
 -- the name that is looked for under these frames: the supertype that the last one wants
 -- (5.3.5, steps 3 and 4)
-abbrev pub sought : List ℕ → List Framed → List ℕ
-sought name [] = name
-sought name (x ∷ xs) = sought (name_of (wanted_supertype (frame_of x))) xs
+abbrev pub sought_name : List ℕ → List Framed → List ℕ
+sought_name name [] = name
+sought_name name (x ∷ xs) = sought_name (name_of (wanted_supertype (frame_of x))) xs
 
 -- the loader that is asked now: that of the last class, or the request's (5.3.5, steps 3 and 4)
 abbrev pub at_loader : Pathed → ℕ
@@ -61,7 +61,7 @@ at_loader p = asking_loader p.loader (frames_of p)
 
 -- the name that it is asked for (5.3.5, steps 3 and 4)
 abbrev pub at_name : Pathed → List ℕ
-at_name p = sought p.name p.frames
+at_name p = sought_name p.name p.frames
 
 -- what is looked for, as a class of the loader that is asked (5.3.5, steps 3 and 4)
 abbrev pub sought_class : Pathed → Class

@@ -82,7 +82,7 @@ impl<T: Told> Frame<T> {
 
     /// The loader that defined the class of the supertype that comes next, where the file names that one again and it was
     /// accepted before. Constant time.
-    pub fn repeated(&self) -> Option<LoaderId>
+    pub fn place_if_repeated(&self) -> Option<LoaderId>
         ensures { IfSome result (Repeats self.now) }
     {
         let first = self.draft.first_of_name(self.places.len());

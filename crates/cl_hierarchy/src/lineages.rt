@@ -327,7 +327,7 @@ impl<T: Told> Lineages<T> {
         // brings what the lineage keeps
         let _ = self.lineage();
         match self.kept_for(place) {
-            Some(over) if over.of == place => over.sharing(index),
+            Some(over) if over.of == place => over.sharing_count(index),
             _ => 0,
         }
     }

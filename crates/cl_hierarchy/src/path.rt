@@ -244,7 +244,7 @@ impl<T: Told> Path<T> {
         ensures path { IsPath T.told self.old }
         ensures unchanged { IfErr result (λ e. self.new ≡ self.old) }
     {
-        match self.repeated() {
+        match self.place_if_repeated() {
             None => Ok(Again::Other),
             Some(place) => match self.accept_as(place)? {
                 None => Ok(Again::Waits),
@@ -254,12 +254,12 @@ impl<T: Told> Path<T> {
     }
 
     /// The loader that defined the class of the supertype that is looked for, where the last class accepted that one before.
-    fn repeated(&self) -> Option<LoaderId>
+    fn place_if_repeated(&self) -> Option<LoaderId>
         ensures repeats { IfSome result (RepeatsLast self.now) }
         ensures path { IsPath T.told self.now }
     {
         let (_, frame) = self.frames.last()?;
-        frame.repeated()
+        frame.place_if_repeated()
     }
 
     /// The last class accepts the supertype that is looked for, of which this loader defined the class.

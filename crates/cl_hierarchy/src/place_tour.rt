@@ -62,7 +62,7 @@ impl OverAt {
     }
 
     /// How many superclasses in a row are known to have the superinterface of this number.
-    pub fn sharing(&self, index: usize) -> usize
+    pub fn sharing_count(&self, index: usize) -> usize
         ensures { result ≤ sharing_in self.now.sharing_all self.now.more.items index }
     {
         match self.more.get(index) {

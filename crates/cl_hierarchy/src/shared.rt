@@ -25,7 +25,7 @@ fn counts_below(alloc: Global, rows: usize, over: &OverAt) -> Result<Vec<usize>,
         count_at(
             &mut counts,
             over.places[at],
-            over.sharing(at).saturating_add(1),
+            over.sharing_count(at).saturating_add(1),
         );
     }
     Ok(counts)

@@ -44,7 +44,7 @@ fn keep_apart<T: Told>(rows: &mut Vec<Arc<ClassRow<T>>>, classes: &IndexSet<Clas
 }
 
 /// The superinterfaces of the class that offer the method, in preorder.
-fn offering<T: Told>(
+fn superinterfaces_offering<T: Told>(
     alloc: Global,
     c: &Lineage<T>,
     symbol: Symbol<'_>,
@@ -97,7 +97,7 @@ pub fn interface_owner<T: Told>(
         (method_key (plain_symbol symbol.entry))) }
     ensures row { IfOk result (λ o. IfSome o (λ r. IsRowIn (rows_in c.now) r.value)) }
 {
-    let mut rows = offering(alloc, c, symbol)?;
+    let mut rows = superinterfaces_offering(alloc, c, symbol)?;
     let first = first_of(rows.as_slice())?;
     let beneath = c.superinterfaces_of_any(alloc, rows.as_slice())?;
     keep_apart(&mut rows, &beneath);

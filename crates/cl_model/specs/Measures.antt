@@ -13,16 +13,16 @@ abbrev pub supers_behind : Frame → ℕ
 supers_behind x = length (supers x.file) - suc (length x.accepted)
 
 -- what is left under these frames, where so much is left of what the last of them waits for
-abbrev pub left : ℕ → (ℕ → ℕ) → ℕ → List Frame → ℕ
-left most last room [] = last room
-left most last zero (x ∷ xs) = 0
-left most last (suc room) (x ∷ xs) =
-    suc (supers_behind x * whole most room) + left most last room xs
+abbrev pub left_under : ℕ → (ℕ → ℕ) → ℕ → List Frame → ℕ
+left_under most last room [] = last room
+left_under most last zero (x ∷ xs) = 0
+left_under most last (suc room) (x ∷ xs) =
+    suc (supers_behind x * whole most room) + left_under most last room xs
 
 -- a load is still to be made
 abbrev pub left_loading : ℕ → ℕ → List Frame → ℕ
-left_loading most room xs = left most (whole most) room xs
+left_loading most room xs = left_under most (whole most) room xs
 
 -- a load has ended, or nothing is left for the last frame to load
 abbrev pub left_ended : ℕ → ℕ → List Frame → ℕ
-left_ended most room xs = left most (λ r. 1) room xs
+left_ended most room xs = left_under most (λ r. 1) room xs

@@ -9,7 +9,7 @@ ghost use Rattle.cl_model.specs.Lines.{line};
 ghost use Rattle.cl_model.specs.Examples.{boot, app, plug, kid, fifth, object, names, the_root, in_boot, in_app, in_plug, in_kid, in_fifth, taking_none, taking_t, an_int, an_array, int_letter, long_letter, load_of, resolve_of, link_of, entry, own, root_record, root_for, through_app, equal, same_t, same_v, same_both, ends_at, all_needs, HasBytes, Loads, LoadFails, LoadNeeds, ResolvesTo, ResolveNeeds, Links, LinkNeeds, Costs};
 ghost use Rattle.cl_model.specs.ExampleLoads.{copies, twice, bad, circle, missing, importing, imports, misfits, two_parents};
 ghost use Rattle.cl_model.specs.Lineages.{lineage, superclasses, superinterfaces};
-ghost use Rattle.cl_model.specs.ExampleLookups.{chosen_method, found, from_d, from_r, Orders};
+ghost use Rattle.cl_model.specs.ExampleLookups.{chosen_method, from_u, from_d, from_r, Orders};
 ghost use Rattle.cl_model.specs.ExampleReferences.{service, three_users, hidden, arrays, from_u, NeedsPast};
 ghost use Rattle.cl_model.specs.ExampleOverriding.{overriding, declared, through_kid, whole_lineage, three_loaders, packages};
 ghost use Rattle.cl_model.specs.ExampleRuns.{over, standing_after, AnswerIs, of_use, t_refused, kid_refused, both_defined, both_stand, constrained, across, in_rounds, two_rounds, serving, loading, resolving, linking, of_svc, unsettled, unprepared, unconstrained, end_state, resolved_in_kid, overridden_alone, below_hidden, joined_with_kid};
@@ -131,32 +131,32 @@ pub fn orders_of_ancestors()
 /// A method of a class is looked up in the superclasses and then in the superinterfaces, those of
 /// superclasses too, of which the most specific counts; private and static ones are not offered.
 pub fn methods_of_classes()
-    ensures of_superclass_interface { found 1 ≡ Some (IsMethod (in_app "p/J") (taking_none "m")) }
-    ensures of_superclass { found 2 ≡ Some (IsMethod (in_app "p/S") (taking_none "a")) }
-    ensures first_offered { found 4 ≡ Some (IsMethod (in_app "p/M") (taking_none "n")) }
-    ensures first_of_superclass { found 17 ≡ Some (IsMethod (in_app "p/M") (taking_none "n")) }
-    ensures private_method { found 5 ≡ Some (Wrong (NoSuchMethod (in_app "p/C"))) }
-    ensures static_method { found 6 ≡ Some (Wrong (NoSuchMethod (in_app "p/C"))) }
-    ensures absent { found 12 ≡ Some (Wrong (NoSuchMethod (in_app "p/C"))) }
-    ensures most_specific { found 14 ≡ Some (IsMethod (in_app "p/J") (taking_none "m")) }
+    ensures of_superclass_interface { from_u 1 ≡ Some (IsMethod (in_app "p/J") (taking_none "m")) }
+    ensures of_superclass { from_u 2 ≡ Some (IsMethod (in_app "p/S") (taking_none "a")) }
+    ensures first_offered { from_u 4 ≡ Some (IsMethod (in_app "p/M") (taking_none "n")) }
+    ensures first_of_superclass { from_u 17 ≡ Some (IsMethod (in_app "p/M") (taking_none "n")) }
+    ensures private_method { from_u 5 ≡ Some (Wrong (NoSuchMethod (in_app "p/C"))) }
+    ensures static_method { from_u 6 ≡ Some (Wrong (NoSuchMethod (in_app "p/C"))) }
+    ensures absent { from_u 12 ≡ Some (Wrong (NoSuchMethod (in_app "p/C"))) }
+    ensures most_specific { from_u 14 ≡ Some (IsMethod (in_app "p/J") (taking_none "m")) }
 {}
 
 /// A field is looked up in the superclass too.
 pub fn fields_of_classes()
-    ensures of_superclass { found 3 ≡ Some (IsField (in_app "p/S") (an_int "y")) }
-    ensures absent { found 13 ≡ Some (Wrong (NoSuchField (in_app "p/C"))) }
+    ensures of_superclass { from_u 3 ≡ Some (IsField (in_app "p/S") (an_int "y")) }
+    ensures absent { from_u 13 ≡ Some (Wrong (NoSuchField (in_app "p/C"))) }
 {}
 
 /// An interface's method is looked up in it, among the public ones of the root, and in its
 /// superinterfaces; a class's method is asked of no interface.
 pub fn methods_of_interfaces()
-    ensures of_superinterface { found 7 ≡ Some (IsMethod (in_app "p/J") (taking_none "m")) }
-    ensures of_root { found 8 ≡ Some (IsMethod the_root (taking_none "h")) }
-    ensures own { found 9 ≡ Some (IsMethod (in_app "p/I") (taking_none "f")) }
-    ensures not_protected_of_root { found 10 ≡ Some (IsMethod (in_app "p/I") (taking_none "f")) }
-    ensures not_static_of_root { found 15 ≡ Some (Wrong (NoSuchMethod (in_app "p/K"))) }
-    ensures root_before_superinterfaces { found 16 ≡ Some (IsMethod the_root (taking_none "e")) }
-    ensures as_class { found 11 ≡ Some (Wrong (IncompatibleClassChange (in_app "p/K"))) }
+    ensures of_superinterface { from_u 7 ≡ Some (IsMethod (in_app "p/J") (taking_none "m")) }
+    ensures of_root { from_u 8 ≡ Some (IsMethod the_root (taking_none "h")) }
+    ensures own { from_u 9 ≡ Some (IsMethod (in_app "p/I") (taking_none "f")) }
+    ensures not_protected_of_root { from_u 10 ≡ Some (IsMethod (in_app "p/I") (taking_none "f")) }
+    ensures not_static_of_root { from_u 15 ≡ Some (Wrong (NoSuchMethod (in_app "p/K"))) }
+    ensures root_before_superinterfaces { from_u 16 ≡ Some (IsMethod the_root (taking_none "e")) }
+    ensures as_class { from_u 11 ≡ Some (Wrong (IncompatibleClassChange (in_app "p/K"))) }
 {}
 
 /// A protected member is open to subclasses, through classes of their own line; a static one

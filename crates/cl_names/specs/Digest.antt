@@ -16,8 +16,8 @@ abbrev pub digest : List ℕ → List ℕ
 digest text = bytes_low_first 0 8 (sip.finish (sip.write sip.initial text))
 
 -- the bytes as a name keeps them that shares no others: a long text has its digest behind it
-abbrev pub kept : List ℕ → List ℕ
-kept text = if is_long text then text ++ digest text else text
+abbrev pub bytes_to_keep : List ℕ → List ℕ
+bytes_to_keep text = if is_long text then text ++ digest text else text
 
 -- what a table hashes of a name: its bytes, or the digest of a long one
 abbrev pub hashed_bytes : List ℕ → List ℕ

@@ -1,7 +1,7 @@
 //! What stands behind the text of a long name, so that no table and no test of packages need go through the text each time.
 
 ghost use Rattle.std.specs.Prelude.{◌≡◌, IfOk};
-ghost use Rattle.cl_names.specs.Digest.{digest, kept};
+ghost use Rattle.cl_names.specs.Digest.{digest, bytes_to_keep};
 
 use std::alloc::{AllocError, Global};
 use std::hash::{DefaultHasher, Hasher};
@@ -24,8 +24,8 @@ fn digest(text: &[u8]) -> [u8; 8]
 }
 
 /// A copy of a text as a name keeps it: with its digest behind it, if it is long.
-pub fn kept(alloc: Global, text: &[u8]) -> Result<Vec<u8>, AllocError>
-    ensures { IfOk result (λ v. v.items ≡ kept text.now) }
+pub fn bytes_to_keep(alloc: Global, text: &[u8]) -> Result<Vec<u8>, AllocError>
+    ensures { IfOk result (λ v. v.items ≡ bytes_to_keep text.now) }
 {
     if text.len() <= MOST_SHARED_BYTES {
         return Vec::from_slice(alloc, text);

@@ -13,7 +13,7 @@ ghost use Rattle.cl_names.specs.Escape.{escaped_text, WritesName};
 ghost use Rattle.cl_names.specs.Name.{TestedNameOf, WritesClass};
 ghost use Rattle.cl_names.specs.Plain.{plain_of};
 
-use crate::digest::{DIGEST_BYTES, MOST_SHARED_BYTES, kept};
+use crate::digest::{DIGEST_BYTES, MOST_SHARED_BYTES, bytes_to_keep};
 use crate::escape::{bytes_of_text, put_printed};
 use crate::kind::{
     MOST_TEXT_BYTES, has_class_form, has_method_form, has_unqualified_form, is_class_name,
@@ -101,7 +101,7 @@ impl Hash for Name {
     // The bytes at once, and then one that no text has, as std hashes a str: byte by byte takes ten times as long. Behind a
     // digest another, so that no short name is hashed as a long one.
     fn hash<H: Hasher>(&self, state: &mut H) {
-        state.write(self.hashed());
+        state.write(self.bytes_to_hash());
         state.write_u8(if self.is_long() { 0xfe } else { 0xff });
     }
 }
@@ -157,7 +157,7 @@ impl Name {
             0
         };
         Ok(Name {
-            bytes: ArcSlice::from_vec(kept(alloc, bytes)?)?,
+            bytes: ArcSlice::from_vec(bytes_to_keep(alloc, bytes)?)?,
             start: 0,
             len: bytes.len() as u16,
             front: front as u16,
@@ -314,7 +314,7 @@ impl Name {
     }
 
     /// What a table hashes of it: its bytes, or the digest of a long one.
-    fn hashed(&self) -> &[u8]
+    fn bytes_to_hash(&self) -> &[u8]
         ensures { result.now ≡ hashed_bytes self.now }
     {
         if !self.is_long() {

@@ -100,7 +100,7 @@ fn report_over<R: Threads + Wait + Sync>(
     report_of(
         rt,
         alloc,
-        telling(alloc, classes)?,
+        telling_source(alloc, classes)?,
         text,
         workers,
         &OpenGate,
@@ -140,7 +140,7 @@ fn reads_overlap(rt: HostRuntime) -> Result<(), Fail> {
         locks: AtomicU64::new(0),
         spent: AtomicU64::new(0),
     };
-    let report = report_of(&rt, alloc, telling(alloc, &PLAIN)?, EIGHT, 8, &gate)?;
+    let report = report_of(&rt, alloc, telling_source(alloc, &PLAIN)?, EIGHT, 8, &gate)?;
     let are_classes = are_classes(report.answers.as_slice(), 8, false);
     drop(report);
     assert!(rt; are_classes);
@@ -156,7 +156,7 @@ fn are_refused<R: Threads + Wait + Sync>(
     alloc: Global,
     workers: u32,
 ) -> Result<bool, Fail> {
-    let source = telling(alloc, &PLAIN)?;
+    let source = telling_source(alloc, &PLAIN)?;
     match serve_by(rt, alloc, source, "load app p/T", workers, &OpenGate) {
         Ok(report) => {
             drop(report);
@@ -234,7 +234,7 @@ fn a_failed_read_stops_no_other(rt: HostRuntime) -> Result<(), Fail> {
     let alloc = rt.alloc();
     let script = "load plug p/T\nthen\nload app p/T\nload app java/lang/Object\n";
     for at in 0..12 {
-        let source = FaultySource::new(telling(alloc, &SHARED)?, at);
+        let source = FaultySource::new(telling_source(alloc, &SHARED)?, at);
         let report = report_of(&rt, alloc, source, script, 4, &OpenGate)?;
         let are_classes = are_classes(report.answers.as_slice(), 3, at > 0);
         drop(report);

@@ -83,7 +83,7 @@ fn any_has_methods<T: Told>(rows: &[&Arc<ClassRow<T>>]) -> bool
 
 impl<'a, T: Told> Away<'a, T> {
     /// The classes of these rows, in which little is to be looked up.
-    pub fn unfiltered(alloc: Global, rows: Vec<&'a Arc<ClassRow<T>>>) -> Away<'a, T>
+    pub fn without_filters(alloc: Global, rows: Vec<&'a Arc<ClassRow<T>>>) -> Away<'a, T>
         ensures { result ≡ map (λ r. r.now.value) rows.entry.items }
     {
         Away {
@@ -93,7 +93,7 @@ impl<'a, T: Told> Away<'a, T> {
     }
 
     /// The classes of these rows, in which much is to be looked up.
-    pub fn filtered(
+    pub fn with_filters(
         alloc: Global,
         rows: Vec<&'a Arc<ClassRow<T>>>,
     ) -> Result<Away<'a, T>, AllocError>

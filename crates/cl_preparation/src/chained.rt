@@ -157,7 +157,7 @@ impl<'a, 'b, 'c, 'd, T: Told> Chained<'a, 'b, 'c, 'd, T> {
         }
         let many = methods.len().saturating_mul(FEW);
         let like = rows_like(alloc, &self.own, self.over.as_slice(), many)?;
-        let over = Away::unfiltered(alloc, like);
+        let over = Away::without_filters(alloc, like);
         let pushed = self.push_each_declared(alloc, needs, &over, methods, given);
         drop(over);
         pushed
@@ -246,7 +246,7 @@ impl<'a, 'b, 'c, 'd, T: Told> Chained<'a, 'b, 'c, 'd, T> {
 
     /// How many superclasses in a row are known to have the superinterface of this number. Where none is, and the class names no
     /// superinterface, 1: its superclass has all of them.
-    fn sharing(&self, index: usize) -> usize
+    fn sharing_count(&self, index: usize) -> usize
         ensures { AreSharingIn (kin_of self.now) index result }
     {
         let known = self.whole.sharing_at(self.place, index);
@@ -271,7 +271,7 @@ impl<'a, 'b, 'c, 'd, T: Told> Chained<'a, 'b, 'c, 'd, T> {
             (bare row.now.value).file.methods))) }
     {
         let methods = hiding.hidden_of(alloc, row)?;
-        let interface = Relative::unfiltered(row)?;
+        let interface = Relative::without_filter(row)?;
         self.push_methods(alloc, needs, &interface, methods.as_slice())
     }
 
@@ -318,7 +318,7 @@ impl<'a, 'b, 'c, 'd, T: Told> Chained<'a, 'b, 'c, 'd, T> {
             (flat_map (λ r. by_row (kin_of self.now) r.now.value) rows.now) needs.new) }
     {
         for at in 0..rows.len() {
-            self.push_new_row(alloc, needs, rows[at], self.sharing(at), hiding)?;
+            self.push_new_row(alloc, needs, rows[at], self.sharing_count(at), hiding)?;
         }
         Ok(())
     }

@@ -100,7 +100,7 @@ pub(crate) fn class_above<T: Told>(lineage: &Lineage<T>) -> Result<Option<Relati
     let Some(row) = lineage.superclass() else {
         return Ok(None);
     };
-    let above = Relative::unfiltered(row)?;
+    let above = Relative::without_filter(row)?;
     if above.is_interface() {
         return Ok(None);
     }

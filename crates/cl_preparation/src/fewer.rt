@@ -47,7 +47,7 @@ fn away_of<T: Told>(alloc: Global, lineage: &Lineage<T>) -> Result<Away<'_, T>, 
 {
     // mostly one: all but java/lang/Object are of one loader
     let rows = lineage.superclasses_of_others(alloc)?;
-    Away::filtered(alloc, rows)
+    Away::with_filters(alloc, rows)
 }
 
 /// Whether what stands over the class at a place, which is no interface, may add to the few: else it has no superinterfaces, or such
@@ -108,10 +108,10 @@ fn over_at<T: Told>(
         → IfOk result (λ a. AddAll l a × AreOver l a) }
 {
     if !may_add {
-        return Ok(Away::unfiltered(alloc, Vec::new(alloc)));
+        return Ok(Away::without_filters(alloc, Vec::new(alloc)));
     }
     let rows = whole.superinterfaces_at(alloc, place)?;
-    Ok(Away::unfiltered(alloc, rows))
+    Ok(Away::without_filters(alloc, rows))
 }
 
 /// The few equalities of the class at a place, which is no interface, with what stands near it.
@@ -277,8 +277,8 @@ fn interface_needs<T: Told>(
         (bare own).file.methods)) }
 {
     // (the superclass of an interface is not asked)
-    let away = Away::unfiltered(alloc, Vec::new(alloc));
-    let over = Away::unfiltered(alloc, over);
+    let away = Away::without_filters(alloc, Vec::new(alloc));
+    let over = Away::without_filters(alloc, over);
     let nearby = Nearby { own, away, over };
     let needs = nearby.declared_needs(alloc, seed);
     drop(nearby);

@@ -164,7 +164,7 @@ fn put<T: Told>(
 ) -> Result<(), AllocError>
     ensures { OnOk result (MethodIsPut methods.old key.now (bare class.now) methods.new) }
 {
-    let Some(is_open) = class.offered(key) else {
+    let Some(is_open) = class.open_if_offered(key) else {
         return Ok(());
     };
     let texts = MethodTexts::of(alloc, key)?;

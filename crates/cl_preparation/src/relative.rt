@@ -66,7 +66,7 @@ pub(crate) fn names_of(alloc: Global, file: &ClassFile) -> Result<Option<NameFil
 }
 
 /// Whether a method of these flags is public or protected, where it takes part in overriding (JVMS SE 8, 5.4.5).
-fn opening(is_special: bool, flags: u16) -> Option<bool>
+fn open_if_taking_part(is_special: bool, flags: u16) -> Option<bool>
     ensures { result ≡ (if not is_special && is_virtual flags then Some (is_wide flags) else
         None) }
 {
@@ -78,7 +78,7 @@ fn opening(is_special: bool, flags: u16) -> Option<bool>
 
 /// Of a method of these flags that is neither private nor static: whether it takes part in overriding and is public or protected
 /// (JVMS SE 8, 5.4.5).
-fn offering(is_special: bool, flags: u16) -> Option<bool>
+fn open_if_virtual(is_special: bool, flags: u16) -> Option<bool>
     ensures { result ≡ (if is_virtual flags then Some (not is_special && is_wide flags) else
         None) }
 {
@@ -163,7 +163,7 @@ impl<T: Told> Relative<T> {
     }
 
     /// The class of a row, with no filter: for where few methods are looked up in it.
-    pub fn unfiltered(row: &Arc<ClassRow<T>>) -> Result<Relative<T>, AllocError>
+    pub fn without_filter(row: &Arc<ClassRow<T>>) -> Result<Relative<T>, AllocError>
         ensures { IfOk result (λ r. r ≡ row.now.value) }
     {
         Ok(Relative {
@@ -235,12 +235,12 @@ impl<T: Told> Relative<T> {
     /// Of its method with this key that is neither private nor static, if it declares one: whether that takes part in overriding
     /// and is public or protected (JVMS SE 8, 5.4.5).
     #[tactic(auto, using(crate::proofs::Declared::flags_offered))]
-    pub fn offered(&self, key: &MethodKey) -> Option<bool>
+    pub fn open_if_offered(&self, key: &MethodKey) -> Option<bool>
         ensures { result ≡ (if is_offered key.now (bare self.now) then Some (opens key.now
             (bare self.now)) else None) }
     {
         match self.flags(key) {
-            Some(flags) => offering(key.is_special(), flags),
+            Some(flags) => open_if_virtual(key.is_special(), flags),
             None => None,
         }
     }
@@ -266,7 +266,7 @@ impl<T: Told> Relative<T> {
         ensures { result ≡ declared_open key.now (bare self.now) }
     {
         match self.flags(key) {
-            Some(flags) => opening(key.is_special(), flags),
+            Some(flags) => open_if_taking_part(key.is_special(), flags),
             None => None,
         }
     }

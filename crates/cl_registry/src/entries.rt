@@ -225,7 +225,7 @@ pub fn asked_row<'a, T: Told>(tables: &'a Rows<T>, home: &Home<T>) -> Option<&'a
     ensures { option_map (λ r. r.now) result ≡ row_at tables.now.items home.now.asked
         home.now.name }
 {
-    find(tables, home.asked(), home.name())
+    find(tables, home.asked_loader(), home.name())
 }
 
 /// The row of the class of a home, where the home has defined it.
@@ -251,7 +251,7 @@ fn event_of<T: Told>(alloc: Global, home: &Home<T>) -> Result<Event, AllocError>
         name: home.name().try_clone(alloc)?,
         loader: home.place(),
     };
-    Ok(Event::Initiate(class, home.asked()))
+    Ok(Event::Initiate(class, home.asked_loader()))
 }
 
 /// Records the loader that was asked as initiating the class of this row, under a copy of its name: in the book too, one
@@ -293,11 +293,11 @@ pub fn join<T: Told>(
     let key = home.name().try_clone(alloc)?;
     let answered = Arc::try_clone(&row)?;
     history.reserve(left + 1)?;
-    reserve_row(tables, home.asked())?;
-    if let Err(refusal) = book.enter(alloc, name, home.asked(), home.place()) {
-        return Err(entry_fault(refusal, home.asked(), home.place()));
+    reserve_row(tables, home.asked_loader())?;
+    if let Err(refusal) = book.enter(alloc, name, home.asked_loader(), home.place()) {
+        return Err(entry_fault(refusal, home.asked_loader(), home.place()));
     }
-    insert_reserved(tables, home.asked(), key, row);
+    insert_reserved(tables, home.asked_loader(), key, row);
     history.push_reserved(event);
     Ok(answered)
 }

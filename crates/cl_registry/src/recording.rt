@@ -205,9 +205,9 @@ impl<T: Told> Registry<T> {
         ensures unchanged { IfErr result (λ fault. self.new ≡ self.old) }
         ensures kept { IsKept T.told self.new }
     {
-        if !self.book.admits(&name, home.asked(), home.place()) {
+        if !self.book.admits(&name, home.asked_loader(), home.place()) {
             return Err(RegistryFault::Violates(Need::Entry {
-                loader: home.asked(),
+                loader: home.asked_loader(),
                 name,
                 home: home.place(),
             }));
@@ -260,7 +260,9 @@ impl<T: Told> Registry<T> {
         ensures within { home.now.place < length home.now.config.loaders }
         ensures kept { IsKept T.told self.now }
     {
-        if !home.config().is_same(&self.config) || home.asked().0 as usize >= self.config.count() {
+        if !home.config().is_same(&self.config)
+            || home.asked_loader().0 as usize >= self.config.count()
+        {
             return None;
         }
         defined_row(&self.tables, home)

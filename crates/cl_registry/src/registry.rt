@@ -107,11 +107,11 @@ impl<T: Told> Model for Registry<T> {
 
     ghost Value = { Shown };
 
-    ghost use Rattle.cl_registry.specs.View.{shown};
+    ghost use Rattle.cl_registry.specs.View.{shown_of};
 
-    ghost view = { shown };
+    ghost view = { shown_of };
 
-    ghost invariant = { λ r. IsRegistry T.told (shown r) (record { table = shared_values (λ c. c.value) (row_at r.tables.items); parts = length r.tables.items; references = shared_values (λ s. s.value) (reference_in r.references); prepared = r.prepared.keys; met = r.met.items; events = vec_len r.history; room_for_events = vec_capacity r.history; left = r.left; unanswered = r.unanswered.items; round = r.round; filled = vec_len r.room; room = vec_capacity r.room }) (⟦<GroupedBook as ConstraintBook>⟧.stands_for r.book) };
+    ghost invariant = { λ r. IsRegistry T.told (shown_of r) (record { table = shared_values (λ c. c.value) (row_at r.tables.items); parts = length r.tables.items; references = shared_values (λ s. s.value) (reference_in r.references); prepared = r.prepared.keys; met = r.met.items; events = vec_len r.history; room_for_events = vec_capacity r.history; left = r.left; unanswered = r.unanswered.items; round = r.round; filled = vec_len r.room; room = vec_capacity r.room }) (⟦<GroupedBook as ConstraintBook>⟧.stands_for r.book) };
 }
 
 /// A registry could not be made.

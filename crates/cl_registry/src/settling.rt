@@ -19,7 +19,7 @@ use std::alloc::{AllocError, Global};
 use std::sync::Arc;
 
 /// The verdict that a finding says, if it is one that is settled.
-fn binding<T: Told>(finding: &Finding<T>) -> Option<&Verdict>
+fn verdict_to_settle<T: Told>(finding: &Finding<T>) -> Option<&Verdict>
     ensures { MatchOption result (SaysNone finding.now) (λ v. SaysVerdict finding.now v.now) }
 {
     match finding.answer() {
@@ -127,7 +127,7 @@ impl<T: Told> Registry<T> {
         let Some((class, index)) = self.cited_by(finding.request()) else {
             return Err(RegistryFault::Stray);
         };
-        let Some(verdict) = binding(finding) else {
+        let Some(verdict) = verdict_to_settle(finding) else {
             return Err(RegistryFault::Stray);
         };
         if !self.stands(finding) {

@@ -38,7 +38,7 @@ fn serve_failing(
     at: u64,
     text: &str,
 ) -> Result<Failing, AllocError> {
-    let mut source = FaultySource::new(telling(alloc, classes)?, at);
+    let mut source = FaultySource::new(telling_source(alloc, classes)?, at);
     let report = report_over(alloc, &mut source, text);
     let failures = source.failures();
     drop(source);
@@ -155,7 +155,7 @@ fn serve_from(
 fn a_thousand_resolutions_settle_once(rt: HostRuntime) -> Result<(), Fail> {
     let alloc = rt.alloc();
     let script = thousand_resolutions(alloc)?;
-    let report = serve_from(alloc, telling(alloc, &SHARED)?, script.as_str())?;
+    let report = serve_from(alloc, telling_source(alloc, &SHARED)?, script.as_str())?;
     let settles_once = settles_once(report.history.events(), report.answers.as_slice());
     drop(report);
     assert!(rt; settles_once);
@@ -260,7 +260,11 @@ fn many_requests(rt: HostRuntime) -> Result<(), Fail> {
     for _ in 0..32_767 {
         script.push_str("load app p/Z\nload plug java/lang/Object\n")?;
     }
-    let report = serve_from(alloc, telling(alloc, &[(BOOT, Top)])?, script.as_str())?;
+    let report = serve_from(
+        alloc,
+        telling_source(alloc, &[(BOOT, Top)])?,
+        script.as_str(),
+    )?;
     let are_said = are_said(report.answers.as_slice());
     let count = report.answers.as_slice().len();
     drop(report);

@@ -127,7 +127,7 @@ fn ask_turns<R: Abort>(
 #[test]
 fn replies_are_expected_in_turn(rt: HostRuntime) -> Result<(), Fail> {
     let alloc = rt.alloc();
-    let mut source = telling(alloc, &[(BOOT, T)])?;
+    let mut source = telling_source(alloc, &[(BOOT, T)])?;
     let mut task = task(alloc)?;
     let asked = ask_turns(&rt, alloc, &mut source, &mut task);
     drop(task);

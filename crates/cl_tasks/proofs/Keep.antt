@@ -12,7 +12,7 @@ use Rattle.cl_config.specs.Views.{Configured}
 use Rattle.cl_hierarchy.specs.Rows.{FitsAs, Rowed}
 use Rattle.cl_hierarchy.specs.Drafts.{Drafted}
 use Rattle.cl_hierarchy.specs.Frames.{Framed, accepted_of, frame_of, with_place}
-use Rattle.cl_hierarchy.specs.Paths.{Pathed, frames_of, fresh, name_of, sought, at_loader, at_name, FrameStands, AllStand, IsPath, with_frame, misfit_in, misfit_under, Accepts, Completes}
+use Rattle.cl_hierarchy.specs.Paths.{Pathed, frames_of, fresh, name_of, sought_name, at_loader, at_name, FrameStands, AllStand, IsPath, with_frame, misfit_in, misfit_under, Accepts, Completes}
 use Rattle.cl_model.proofs.Stacks.{complete_is_kept}
 use Rattle.cl_model.proofs.Ancestors.{class_at}
 use Rattle.cl_hierarchy.proofs.Frames.{accepts_one}
@@ -61,11 +61,11 @@ pub map_last : (xs : List Framed) (x : Framed) → map frame_of (xs ++ x ∷ [])
 map_last [] x = refl
 map_last (y ∷ ys) x = ap (λ (fs : List Frame). frame_of y ∷ fs) (map_last ys x)
 
-pub sought_last : (name : Name) (xs : List Framed) (x : Framed) → sought name (xs ++ x ∷ []) ≡ name_of (wanted_supertype (frame_of x))
+pub sought_last : (name : Name) (xs : List Framed) (x : Framed) → sought_name name (xs ++ x ∷ []) ≡ name_of (wanted_supertype (frame_of x))
 sought_last name [] x = refl
 sought_last name (y ∷ ys) x = sought_last (name_of (wanted_supertype (frame_of y))) ys x
 
-pub stands_last : (c : Configured) (loader : ℕ) (name : Name) (xs : List Framed) (x : Framed) → AllStand c loader name (xs ++ x ∷ []) → FrameStands c (asking_loader loader (map frame_of xs)) (sought name xs) x
+pub stands_last : (c : Configured) (loader : ℕ) (name : Name) (xs : List Framed) (x : Framed) → AllStand c loader name (xs ++ x ∷ []) → FrameStands c (asking_loader loader (map frame_of xs)) (sought_name name xs) x
 stands_last c loader name [] x h = h.0
 stands_last c loader name (y ∷ ys) x h = stands_last c y.draft.class.loader (name_of (wanted_supertype (frame_of y))) ys x h.1
 
@@ -77,7 +77,7 @@ pub record Top (p : Pathed) (before : List Framed) (last : Framed) : Type 0 wher
   pub name : at_name p ≡ above.name
   pub judged : (t : Class) (f : File) → misfit_under p.frames t f ≡ misfit last.draft.class above.role t f
   pub frames : frames_of p ≡ map frame_of before ++ frame_of last ∷ []
-  pub stands : FrameStands p.config (asking_loader p.loader (map frame_of before)) (sought p.name before) last
+  pub stands : FrameStands p.config (asking_loader p.loader (map frame_of before)) (sought_name p.name before) last
 
 pub some_of : (o : Option Above) → IsSome o → (a : Above) × (o ≡ Some a)
 some_of None h = absurd cc
@@ -91,7 +91,7 @@ top_of told p before last path split =
       above = w.0;
       wants = w.1;
       loader = ap (λ (xs : List Framed). asking_loader p.loader (map frame_of xs)) split ∙ asking_push p.loader before last;
-      name = ap (λ (xs : List Framed). sought p.name xs) split ∙ sought_last p.name before last ∙ ap name_of w.1;
+      name = ap (λ (xs : List Framed). sought_name p.name xs) split ∙ sought_last p.name before last ∙ ap name_of w.1;
       judged = λ t f. ap (λ (xs : List Framed). misfit_under xs t f) split ∙ under_last before last t f ∙ ap (λ (o : Option Above). misfit_in last o t f) w.1;
       frames = ap (λ (xs : List Framed). map frame_of xs) split ∙ map_last before last;
       stands = stands;

@@ -17,7 +17,7 @@ use Rattle.cl_model.proofs.Looks.{recorded_answers}
 use Rattle.cl_model.proofs.Service.{load_comes}
 use Rattle.cl_config.specs.Views.{Configured}
 use Rattle.cl_hierarchy.specs.Frames.{Framed, frame_of}
-use Rattle.cl_hierarchy.specs.Paths.{Pathed, at_loader, at_name, frames_of, sought}
+use Rattle.cl_hierarchy.specs.Paths.{Pathed, at_loader, at_name, frames_of, sought_name}
 use Rattle.cl_hierarchy.specs.Rows.{Rowed}
 use Rattle.cl_findings.specs.declared.load.Target.{Target}
 use Rattle.cl_findings.specs.declared.load.Target.TheVariants as targets
@@ -143,7 +143,7 @@ root_loader : (p : Pathed) → p.frames ≡ [] → at_loader p ≡ p.loader
 root_loader p e = ap (λ (fs : List Framed). asking_loader p.loader (map frame_of fs)) e
 
 root_name : (p : Pathed) → p.frames ≡ [] → at_name p ≡ p.name
-root_name p e = ap (sought p.name) e
+root_name p e = ap (sought_name p.name) e
 
 -- nothing is in hand
 root_frames : (p : Pathed) → p.frames ≡ [] → frames_of p ≡ []

@@ -6,8 +6,8 @@ use Rattle.cl_bundle.proofs.sections.cut.Goals as goal
 
 pub loop-end-init : goal.loop-end-init
 loop-end-init c =
-    let opened = rw c.new-lines.ensures at c.in_ok-opening.ensures in
-    rw c.new-classes.ensures.items (cut_starts c.args.text.now _ c.in_ok-config.field-0.end c.opening.new.lines c.next_body.new.lines opened c.in_ok-config.ensures.body)
+    let opened = rw c.new-lines.ensures at c.in_ok-take_config_line.ensures in
+    rw c.new-classes.ensures.items (cut_starts c.args.text.now _ c.in_ok-config.field-0.end c.take_config_line.new.lines c.next_body.new.lines opened c.in_ok-config.ensures.body)
 
 pub returns-in_err-body : goal.returns-in_err-body
 returns-in_err-body c =

@@ -13,9 +13,9 @@ pub loop-place-preserved : goal.loop-place-preserved
 loop-place-preserved c =
     let e = c.meet.ensures in
     let h = c.loop-place.invariant in
-    let is : text_of_interface c.args.pool.now (slice_get c.args.interfaces.now c.loop-place.place) ≡ c.naming-text.result = text_there c.args.pool.now c.args.interfaces.now c.loop-place.place c.naming-text.result c.loop-place-test.true c.naming-text.ensures in
+    let is : text_of_interface c.args.pool.now (slice_get c.args.interfaces.now c.loop-place.place) ≡ c.class_name_index-text.result = text_there c.args.pool.now c.args.interfaces.now c.loop-place.place c.class_name_index-text.result c.loop-place-test.true c.class_name_index-text.ensures in
     let more : AreMentions c.args.pool.now c.args.interfaces.now (c.loop-place.firsts.items ++ c.meet.result ∷ []) =
-    first_more c.args.pool.now c.args.interfaces.now c.loop-place.firsts.items c.loop-place.marks.items c.naming-text.result c.meet.result h.1
-    (subst (λ (n : ℕ). AreMet c.args.pool.now c.args.interfaces.now n c.loop-place.marks.items) (sym h.0) h.2) (subst (λ (n : ℕ). MetAt c.loop-place.marks.items c.naming-text.result n c.meet.result) (sym h.0) e.first)
+    first_more c.args.pool.now c.args.interfaces.now c.loop-place.firsts.items c.loop-place.marks.items c.class_name_index-text.result c.meet.result h.1
+    (subst (λ (n : ℕ). AreMet c.args.pool.now c.args.interfaces.now n c.loop-place.marks.items) (sym h.0) h.2) (subst (λ (n : ℕ). MetAt c.loop-place.marks.items c.class_name_index-text.result n c.meet.result) (sym h.0) e.first)
     (ap (λ (n : ℕ). text_of_interface c.args.pool.now (slice_get c.args.interfaces.now n)) h.0 ∙ is) in
-    (search rules, subst (λ (firsts : List ℕ). AreMentions c.args.pool.now c.args.interfaces.now firsts) (sym c.in_ok-push.ensures.items) more, met_more c.args.pool.now c.args.interfaces.now c.loop-place.marks.items c.meet.new.marks.items c.naming-text.result c.loop-place.place h.2 e.marks is)
+    (search rules, subst (λ (firsts : List ℕ). AreMentions c.args.pool.now c.args.interfaces.now firsts) (sym c.in_ok-push.ensures.items) more, met_more c.args.pool.now c.args.interfaces.now c.loop-place.marks.items c.meet.new.marks.items c.class_name_index-text.result c.loop-place.place h.2 e.marks is)

@@ -4,7 +4,7 @@ use Rattle.cl_findings.proofs.load.end_at.Goals as goal
 pub returns-in-Missing-clause-rests : goal.returns-in-Missing-clause-rests
 returns-in-Missing-clause-rests g c =
     let stops = rw c.in-Missing.is at c.requires.stops in
-    rw (c.in-Missing.is, c.missing_kind-kind.ensures, c.into_name-name.ensures, c.asked-loader.ensures)
+    rw (c.in-Missing.is, c.missing_kind-kind.ensures, c.into_name-name.ensures, c.asked_loader-loader.ensures)
     (missing_rests g.T.Told.told c.args.request.now c.args.target.now c.args.path.now c.in-Missing.unfound c.requires.path c.bring_row.ensures c.config.ensures.path stops c.config-in-Missing.ensures.leads)
 
 pub returns-in-Unreadable-clause-rests : goal.returns-in-Unreadable-clause-rests

@@ -6,12 +6,12 @@ use Rattle.cl_preparation.proofs.fewer.away_of.Goals as goal
 
 pub returns-clause-classes : goal.returns-clause-classes
 returns-clause-classes g c =
-    ok_forth _ _ c.filtered.result
+    ok_forth _ _ c.with_filters.result
     (λ a made. mapped_rows (λ r. r.now.value) (λ k. others_of (Some k.class.loader) (superclasses k)) c.args.lineage.now c.in_ok-rows.rows.items c.in_ok-rows.rows.items a refl made c.in_ok-rows.ensures.superclasses)
-    c.filtered.ensures
+    c.with_filters.ensures
 
 pub returns-clause-rows : goal.returns-clause-rows
 returns-clause-rows g c =
-    ok_forth _ _ c.filtered.result
+    ok_forth _ _ c.with_filters.result
     (λ a made. mapped_in (λ r. r.now.value) c.args.lineage.now c.in_ok-rows.rows.items c.in_ok-rows.rows.items a refl made c.in_ok-rows.ensures.rows)
-    c.filtered.ensures
+    c.with_filters.ensures

@@ -16,4 +16,4 @@ push_each_declared-pushed-requires g c =
     let l = c.args.self.now in
     let like = map (λ r. r.now.value) c.in_ok-like.like.items in
     let are = subst (λ rs. AreLike c.self.inside.own rs like) c.as_slice.ensures c.in_ok-like.ensures in
-    subst (λ rs. AddLoaders l rs) (sym c.unfiltered-over.ensures) (like_add l c.self.inside.own c.self.inside.over like is.own_is is.over_are.loaders_are are)
+    subst (λ rs. AddLoaders l rs) (sym c.without_filters-over.ensures) (like_add l c.self.inside.own c.self.inside.over like is.own_is is.over_are.loaders_are are)

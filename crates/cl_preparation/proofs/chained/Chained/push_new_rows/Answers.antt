@@ -11,7 +11,7 @@ use Rattle.cl_preparation.proofs.chained.Chained.push_new_rows.Goals as goal
 pub push_new_row-requires : goal.push_new_row-requires
 push_new_row-requires g c = record {
   imposed = λ some.
-      c.requires c.loop-at.at c.sharing.result c.index-rows-at.result.now.value some c.sharing.ensures
+      c.requires c.loop-at.at c.sharing_count.result c.index-rows-at.result.now.value some c.sharing_count.ensures
       (slice_get-map (λ r. r.now.value) c.args.rows.now c.loop-at.at ∙ ap (λ o. option_map (λ r. r.now.value) o) (row_at c.args.rows.now c.loop-at.at c.index-rows-at.result c.loop-at-test.true c.index-rows-at.is));
 }
 

@@ -4,7 +4,7 @@ use Rattle.cl_model.specs.States.{recorded_definer}
 use Rattle.cl_model.specs.Tables.{Records}
 use Rattle.cl_hierarchy.specs.Rows.{Rowed}
 use Rattle.cl_registry.specs.Tables.{Shown, Defines, IsKept, IsNew, records_of, state_of, looked_row}
-use Rattle.cl_registry.specs.View.{shown}
+use Rattle.cl_registry.specs.View.{shown_of}
 use Rattle.cl_registry.proofs.Asked.{found_none, found_some, known_defined}
 use Rattle.cl_registry.proofs.Looked.{looked_records}
 use Rattle.cl_registry.proofs.Entered.{is_defined, records_defined, shown_defined}
@@ -13,7 +13,7 @@ use Rattle.cl_registry.proofs.registry.Registry.define.Goals.{in-Ok, in-Err}
 use Rattle.cl_model.proofs.Bind.{none_not_some}
 
 abbrev known : (g : _) → goal.Joined-share g → Shown
-known g c = shown c.self.inside
+known g c = shown_of c.self.inside
 
 found : (g : _) (c : goal.Joined-share g) → looked_row (known g c) c.args.draft.class.loader c.args.draft.class.name ≡ Some c.in-Some.row.now.value
 found g c =

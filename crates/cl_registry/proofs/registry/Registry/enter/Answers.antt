@@ -6,7 +6,7 @@ use Rattle.cl_hierarchy.specs.Rows.{Rowed}
 use Rattle.cl_registry.specs.Parts.{IsPut, shared_values}
 use Rattle.cl_registry.specs.Tables.{Shown, IsNew, MayEnter, DefinedAs, row_for, row_at, state_of}
 use Rattle.cl_registry.specs.Refusals.{AddRefusedFor, BlamesNeed}
-use Rattle.cl_registry.specs.View.{shown}
+use Rattle.cl_registry.specs.View.{shown_of}
 use Rattle.cl_registry.proofs.Asked.{row_made}
 use Rattle.cl_registry.proofs.Entered.{add_refused, blames_record, kept_defined, not_refused, own_entry, shown_define}
 use Rattle.cl_registry.proofs.Kept.{come_by, kept_failed}
@@ -15,7 +15,7 @@ use Rattle.cl_findings.specs.Loads.{own_record}
 
 pub returns-then-not-admits-clause-refused : goal.returns-then-not-admits-clause-refused
 returns-then-not-admits-clause-refused g c =
-    let x : Shown = shown c.self.inside in
+    let x : Shown = shown_of c.self.inside in
     subst (λ (y : Shown). BlamesNeed y (needs.Entry c.place-home.result c.args.name c.place-home.result) (own_record c.args.draft.now)) c.self.view_is
     (blames_record x _ c.admits.result _ _ _ (own_record c.args.draft.now) (own_entry g.T.Told.told c.args.draft.now c.home.ensures.draft c.args.name c.place-home.result c.requires.named (c.place-home.ensures ∙ ap (λ (h : Located). h.place) (c.deref.ensures ∙ c.home.ensures.home))) c.admits.ensures
     c.if-not-admits.true c.self.invariant.book)
@@ -34,7 +34,7 @@ invariant_of-self g c =
 
 pub invariant_of-self-2 : goal.invariant_of-self-2
 invariant_of-self-2 g c =
-    let x : Shown = shown c.self.inside in
+    let x : Shown = shown_of c.self.inside in
     let d = c.args.draft.now in
     let e = c.in-Ok.ensures in
     let fresh : IsNew x d = subst (λ (y : Shown). IsNew y d) (sym c.self.view_is) c.requires.fresh in
@@ -56,7 +56,7 @@ invariant_of-self-2 g c =
 
 pub returns-clause-defined : goal.returns-clause-defined
 returns-clause-defined g c =
-    let x : Shown = shown c.self.inside in
+    let x : Shown = shown_of c.self.inside in
     let d = c.args.draft.now in
     let e = c.in-Ok.ensures in
     let y : Shown = record x { rows = map (λ r. r.value) c.record.new.rows.items; history = c.record.new.history.items } in
@@ -71,7 +71,7 @@ returns-clause-kept g c = (invariant_of-self-2 g c).kept
 
 pub returns-in-Err-clause-refused : goal.returns-in-Err-clause-refused
 returns-in-Err-clause-refused g c =
-    let x : Shown = shown c.self.inside in
+    let x : Shown = shown_of c.self.inside in
     let d = c.args.draft.now in
     let own = own_entry g.T.Told.told d c.home.ensures.draft c.args.name c.place-home.result c.requires.named (c.place-home.ensures ∙ ap (λ (h : Located). h.place) (c.deref.ensures ∙ c.home.ensures.home)) in
     subst (λ (y : Shown). AddRefusedFor y (own_record d) c.in-Err.fault) c.self.view_is

@@ -8,7 +8,7 @@ pub returns-clause-none : goal.returns-clause-none
 returns-clause-none g c =
     subst (λ (y : Shown). MatchOption c.defined_row.result (MayJoin y c.args.home.now → ⊥) (λ r. MayJoin y c.args.home.now)) c.self.view_is
     (joins (λ r. r.value) g.T.Told.told _ c.self.invariant.kept (row_at c.self.inside.tables.items) c.self.invariant.rows (λ r. r.now) c.args.home.now c.defined_row.result (sym c.config.ensures.config ∙ c.if-not-is_same.ensures ∙ c.deref.ensures)
-    (below_count _ _ _ _ c.if-asked-count.false (c.asked-else-not-is_same.view_is ∙ c.asked.ensures) (c.count.ensures.count ∙ ap (λ k. length k.loaders) c.deref-else-not-is_same.ensures))
+    (below_count _ _ _ _ c.if-asked_loader-count.false (c.asked_loader-else-not-is_same.view_is ∙ c.asked_loader.ensures) (c.count.ensures.count ∙ ap (λ k. length k.loaders) c.deref-else-not-is_same.ensures))
     c.defined_row.ensures.row c.defined_row.ensures.own)
 
 pub returns-clause-row : goal.returns-clause-row

@@ -3,7 +3,7 @@ use Rattle.cl_hierarchy.specs.Imposed.{equal_need}
 use Rattle.cl_model.specs.States.{Met}
 use Rattle.cl_registry.specs.Imposing.{Imposes, IsNextOf}
 use Rattle.cl_registry.specs.Tables.{IsKept, Shown, state_of}
-use Rattle.cl_registry.specs.View.{shown}
+use Rattle.cl_registry.specs.View.{shown_of}
 use Rattle.cl_registry.proofs.Imposed.{constrains_as, impose_lacks, impose_refused, names_equality}
 use Rattle.cl_registry.proofs.Known.{standing_with}
 use Rattle.cl_registry.proofs.Tested.{imposes_new, imposes_old, next_of, read_at}
@@ -11,7 +11,7 @@ use Rattle.cl_registry.proofs.registry.Registry.impose_allowed.Goals as goal
 
 pub returns-then-is_met : goal.returns-then-is_met
 returns-then-is_met g c =
-    let x : Shown = shown c.self.inside in
+    let x : Shown = shown_of c.self.inside in
     let at = read_at c.needs.result.now c.args.list.now.needs c.args.place c.index-needs-place.result c.needs.ensures.needs c.requires.may.within c.index-needs-place.is in
     let met = subst (λ (y : Shown). Met (state_of y) (equal_need c.index-needs-place.result)) c.self.view_is (c.if-is_met.ensures (state_of x) (standing_with (state_of x) _ _ c.as_slice.ensures.value c.self.invariant.book c.self.invariant.met)) in
     record {
@@ -26,12 +26,12 @@ returns-then-is_met g c =
 
 pub constrain-requires-clause-unmet : goal.constrain-requires-clause-unmet
 constrain-requires-clause-unmet g c =
-    let x : Shown = shown c.self.inside in
+    let x : Shown = shown_of c.self.inside in
     (subst (λ (y : Shown). Met (state_of y) (equal_need c.index-needs-place.result) → ⊥) c.self.view_is (c.if-is_met.ensures (state_of x) (standing_with (state_of x) _ _ c.as_slice.ensures.value c.self.invariant.book c.self.invariant.met)))
 
 pub constrain-requires-clause-may : goal.constrain-requires-clause-may
 constrain-requires-clause-may g c =
-    let x : Shown = shown c.self.inside in
+    let x : Shown = shown_of c.self.inside in
     constrains_as g.T.Told.told c.args.self.now c.args.list.now c.args.place c.index-needs-place.result (subst (IsKept g.T.Told.told) c.self.view_is c.self.invariant.kept) c.bring_lineages.ensures c.requires.may (read_at c.needs.result.now c.args.list.now.needs c.args.place c.index-needs-place.result c.needs.ensures.needs c.requires.may.within c.index-needs-place.is) (subst (λ (y : Shown). Met (state_of y) (equal_need c.index-needs-place.result) → ⊥) c.self.view_is (c.if-is_met.ensures (state_of x) (standing_with (state_of x) _ _ c.as_slice.ensures.value c.self.invariant.book c.self.invariant.met)))
 
 pub constrain-requires-clause-within : goal.constrain-requires-clause-within
@@ -40,7 +40,7 @@ constrain-requires-clause-within g c =
 
 pub returns-in_default : goal.returns-in_default
 returns-in_default g c =
-    let x : Shown = shown c.self.inside in
+    let x : Shown = shown_of c.self.inside in
     let at = read_at c.needs.result.now c.args.list.now.needs c.args.place c.index-needs-place.result c.needs.ensures.needs c.requires.may.within c.index-needs-place.is in
     let unmet = subst (λ (y : Shown). Met (state_of y) (equal_need c.index-needs-place.result) → ⊥) c.self.view_is (c.if-is_met.ensures (state_of x) (standing_with (state_of x) _ _ c.as_slice.ensures.value c.self.invariant.book c.self.invariant.met)) in
     record {
@@ -55,7 +55,7 @@ returns-in_default g c =
 
 pub returns-in-Err : goal.returns-in-Err
 returns-in-Err g c =
-    let x : Shown = shown c.self.inside in
+    let x : Shown = shown_of c.self.inside in
     let at = read_at c.needs.result.now c.args.list.now.needs c.args.place c.index-needs-place.result c.needs.ensures.needs c.requires.may.within c.index-needs-place.is in
     let unmet = subst (λ (y : Shown). Met (state_of y) (equal_need c.index-needs-place.result) → ⊥) c.self.view_is (c.if-is_met.ensures (state_of x) (standing_with (state_of x) _ _ c.as_slice.ensures.value c.self.invariant.book c.self.invariant.met)) in
     record {
@@ -70,7 +70,7 @@ returns-in-Err g c =
 
 pub returns : goal.returns
 returns g c =
-    let x : Shown = shown c.self.inside in
+    let x : Shown = shown_of c.self.inside in
     let at = read_at c.needs.result.now c.args.list.now.needs c.args.place c.index-needs-place.result c.needs.ensures.needs c.requires.may.within c.index-needs-place.is in
     let unmet = subst (λ (y : Shown). Met (state_of y) (equal_need c.index-needs-place.result) → ⊥) c.self.view_is (c.if-is_met.ensures (state_of x) (standing_with (state_of x) _ _ c.as_slice.ensures.value c.self.invariant.book c.self.invariant.met)) in
     record {

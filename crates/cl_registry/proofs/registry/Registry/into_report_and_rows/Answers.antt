@@ -2,7 +2,7 @@ use Rattle.std.proofs.Common.{◌∙◌, ◌<◌, ◌≤◌, ◌+◌, ℕ, Some,
 use Rattle.cl_registry.specs.declared.report.Report.{Report}
 use Rattle.cl_registry.specs.Reports.{IsReport, IsReported, IsUnfinished}
 use Rattle.cl_registry.specs.Tables.{Shown}
-use Rattle.cl_registry.specs.View.{shown}
+use Rattle.cl_registry.specs.View.{shown_of}
 use Rattle.cl_registry.proofs.Histories.{first_open}
 use Rattle.cl_registry.proofs.Schedules.{round_left, no_round_left}
 use Rattle.cl_registry.proofs.Running.{report_names}
@@ -22,7 +22,7 @@ returns-then-self-ne0-clause-refused g c = (
 
 pub returns-clause-reported : goal.returns-clause-reported
 returns-clause-reported g c =
-    let x : Shown = shown c.self.inside in
+    let x : Shown = shown_of c.self.inside in
     let r : Report = record { script = c.self.inside.script; history = c.from.result; answers = c.from-2.result } in
     let whole : IsReport x r = record { script = refl; history = c.from.ensures; answers = ap (map (λ a. Some a)) c.from-2.ensures ∙ c.collect.ensures } in
     subst (λ (y : Shown). IsReported g.T.Told.told y r) c.self.view_is

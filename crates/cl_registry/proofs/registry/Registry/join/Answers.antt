@@ -5,7 +5,7 @@ use Rattle.cl_model.specs.States.{Refused}
 use Rattle.cl_hierarchy.specs.Rows.{Rowed}
 use Rattle.cl_registry.specs.Tables.{Shown, LacksRecord, MayJoin, InitiatedAs, looked_row, state_of}
 use Rattle.cl_registry.specs.Refusals.{AddRefusedFor, BlamesNeed}
-use Rattle.cl_registry.specs.View.{shown}
+use Rattle.cl_registry.specs.View.{shown_of}
 use Rattle.cl_registry.proofs.Entered.{add_refused, asked_entry, blamed_as, blames_record, kept_initiated, not_refused, share_refused, shown_initiate}
 use Rattle.cl_registry.proofs.Kept.{come_by, kept_failed}
 use Rattle.cl_registry.proofs.registry.Registry.join.Goals as goal
@@ -13,24 +13,24 @@ use Rattle.cl_findings.specs.Loads.{asked_record}
 
 pub returns-then-not-admits-clause-refused : goal.returns-then-not-admits-clause-refused
 returns-then-not-admits-clause-refused g c =
-    let x : Shown = shown c.self.inside in
+    let x : Shown = shown_of c.self.inside in
     let h = c.args.home.now in
-    subst (λ (y : Shown). BlamesNeed y (needs.Entry c.asked-then-not-admits.result c.args.name c.place-then-not-admits.result) (asked_record h)) c.self.view_is
-    (blamed_as x (asked_record h) (asked_record h) c.args.name c.args.name c.asked.result c.asked-then-not-admits.result c.place.result c.place-then-not-admits.result (c.asked.ensures ∙ sym c.asked-then-not-admits.ensures) (c.place.ensures ∙ sym c.place-then-not-admits.ensures) refl
-    (blames_record x _ c.admits.result _ _ _ (asked_record h) (asked_entry h c.asked.result c.place.result c.args.name c.asked.ensures c.place.ensures c.requires.named) c.admits.ensures c.if-not-admits.true c.self.invariant.book) refl)
+    subst (λ (y : Shown). BlamesNeed y (needs.Entry c.asked_loader-then-not-admits.result c.args.name c.place-then-not-admits.result) (asked_record h)) c.self.view_is
+    (blamed_as x (asked_record h) (asked_record h) c.args.name c.args.name c.asked_loader.result c.asked_loader-then-not-admits.result c.place.result c.place-then-not-admits.result (c.asked_loader.ensures ∙ sym c.asked_loader-then-not-admits.ensures) (c.place.ensures ∙ sym c.place-then-not-admits.ensures) refl
+    (blames_record x _ c.admits.result _ _ _ (asked_record h) (asked_entry h c.asked_loader.result c.place.result c.args.name c.asked_loader.ensures c.place.ensures c.requires.named) c.admits.ensures c.if-not-admits.true c.self.invariant.book) refl)
 
 pub returns-in-Err-clause-refused : goal.returns-in-Err-clause-refused
 returns-in-Err-clause-refused g c =
-    let x : Shown = shown c.self.inside in
+    let x : Shown = shown_of c.self.inside in
     let h = c.args.home.now in
-    share_refused c.args.self.now h c.in-Err.fault c.requires.may (subst (λ (y : Shown). Refused (state_of y) (asked_record h) → ⊥) c.self.view_is (not_refused x _ c.admits.result _ (asked_record h) (asked_entry h c.asked.result c.place.result c.args.name c.asked.ensures c.place.ensures c.requires.named) c.admits.ensures c.if-not-admits.false c.self.invariant.book)) c.in-Err.ensures.refused
+    share_refused c.args.self.now h c.in-Err.fault c.requires.may (subst (λ (y : Shown). Refused (state_of y) (asked_record h) → ⊥) c.self.view_is (not_refused x _ c.admits.result _ (asked_record h) (asked_entry h c.asked_loader.result c.place.result c.args.name c.asked_loader.ensures c.place.ensures c.requires.named) c.admits.ensures c.if-not-admits.false c.self.invariant.book)) c.in-Err.ensures.refused
 
 pub returns-in-Err-join-clause-refused : goal.returns-in-Err-join-clause-refused
 returns-in-Err-join-clause-refused g c =
-    let x : Shown = shown c.self.inside in
+    let x : Shown = shown_of c.self.inside in
     let h = c.args.home.now in
     subst (λ (y : Shown). AddRefusedFor y (asked_record h) c.in-Err-join.fault) c.self.view_is
-    (add_refused x _ (asked_record h) c.in-Err-join.fault c.self.invariant.book (not_refused x _ c.admits.result _ (asked_record h) (asked_entry h c.asked.result c.place.result c.args.name c.asked.ensures c.place.ensures c.requires.named) c.admits.ensures c.if-not-admits.false c.self.invariant.book) c.in-Err-join.ensures.blames)
+    (add_refused x _ (asked_record h) c.in-Err-join.fault c.self.invariant.book (not_refused x _ c.admits.result _ (asked_record h) (asked_entry h c.asked_loader.result c.place.result c.args.name c.asked_loader.ensures c.place.ensures c.requires.named) c.admits.ensures c.if-not-admits.false c.self.invariant.book) c.in-Err-join.ensures.blames)
 
 pub join-requires-clause-fresh : goal.join-requires-clause-fresh
 join-requires-clause-fresh g c =
@@ -46,7 +46,7 @@ invariant_of-self g c =
 
 pub invariant_of-self-2 : goal.invariant_of-self-2
 invariant_of-self-2 g c =
-    let x : Shown = shown c.self.inside in
+    let x : Shown = shown_of c.self.inside in
     let h = c.args.home.now in
     let e = c.in-Ok-join.ensures in
     let fresh : LacksRecord x h.asked h.name = subst (λ (y : Shown). LacksRecord y h.asked h.name) (sym c.self.view_is) c.requires.fresh in
@@ -63,7 +63,7 @@ invariant_of-self-2 g c =
 
 pub returns-clause-initiated : goal.returns-clause-initiated
 returns-clause-initiated g c =
-    let x : Shown = shown c.self.inside in
+    let x : Shown = shown_of c.self.inside in
     let h = c.args.home.now in
     let e = c.in-Ok-join.ensures in
     let y : Shown = record x { history = c.join.new.history.items } in

@@ -5,7 +5,7 @@ use Rattle.cl_model.specs.declared.need.Equality.{Equality}
 use Rattle.cl_model.specs.States.{AllMet}
 use Rattle.cl_registry.specs.Imposing.{OriginStands}
 use Rattle.cl_registry.specs.Tables.{Shown, state_of}
-use Rattle.cl_registry.specs.View.{shown}
+use Rattle.cl_registry.specs.View.{shown_of}
 use Rattle.cl_registry.proofs.Known.{standing_with}
 use Rattle.cl_registry.proofs.Tested.{impose_by}
 use Rattle.cl_registry.proofs.registry.Registry.may_impose.Goals as goal
@@ -15,7 +15,7 @@ returns-then-not-has_origin-clause-may g c = λ may. c.if-not-has_origin.ensures
 
 pub returns-clause-may : goal.returns-clause-may
 returns-clause-may g c =
-    let x : Shown = shown c.self.inside in
+    let x : Shown = shown_of c.self.inside in
     impose_by c.args.self.now c.args.list.now c.args.place c.are_met.result (subst (OriginStands c.args.self.now) c.origin.ensures.origin c.if-not-has_origin.ensures.stands)
     (subst (λ (es : List Equality). c.args.place < length es) c.needs.ensures.needs c.if-place-needs.false)
     (subst (λ (y : Shown). Decides c.are_met.result (AllMet (state_of y) (needs_of (take c.args.place c.args.list.now.needs)))) c.self.view_is

@@ -5,14 +5,14 @@ use Rattle.cl_model.specs.declared.request.Request.{Request}
 use Rattle.cl_config.specs.Views.{Scripted}
 use Rattle.cl_registry.specs.Posting.{AnswerFits, IsBacked}
 use Rattle.cl_registry.specs.Tables.{Shown}
-use Rattle.cl_registry.specs.View.{shown}
+use Rattle.cl_registry.specs.View.{shown_of}
 use Rattle.cl_registry.proofs.Histories.{left_set}
 use Rattle.cl_registry.proofs.Posts.{kept_post, counts_down, not_later, one_less}
 use Rattle.cl_registry.proofs.registry.Registry.post.Goals as goal
 
 pub returns-then-not-backs-clause-refused : goal.returns-then-not-backs-clause-refused
 returns-then-not-backs-clause-refused g c =
-    let x : Shown = shown c.self.inside in
+    let x : Shown = shown_of c.self.inside in
     let asked : slice_get c.self.inside.script.value.requests c.args.q ≡ Some c.args.finding.request = ap (λ (l : List Request). slice_get l c.args.q) (sym (c.requests.ensures.requests ∙ ap (λ (s : Scripted). s.requests) c.deref.ensures)) ∙ c.if-not-is_asked.ensures ∙ ap (λ (r : Request). Some r) c.request.ensures.request in
     let is : slice_get c.self.inside.answers.items c.args.q ≡ Some None = ap (λ (xs : List (Option Answer)). slice_get xs c.args.q) (sym c.deref-3.ensures.value) ∙ c.if-not-is_open.ensures in
     let at : slice_get c.self.inside.script.value.rounds_of c.args.q ≡ Some c.round_of-round.result = ap (λ (s : Scripted). slice_get s.rounds_of c.args.q) (sym c.deref-2.ensures) ∙ c.round_of-round.ensures in
@@ -44,7 +44,7 @@ push_reserved-requires g c =
 
 pub invariant_of-self : goal.invariant_of-self
 invariant_of-self g c =
-    let x : Shown = shown c.self.inside in
+    let x : Shown = shown_of c.self.inside in
     let asked : slice_get c.self.inside.script.value.requests c.args.q ≡ Some c.args.finding.request = ap (λ (l : List Request). slice_get l c.args.q) (sym (c.requests.ensures.requests ∙ ap (λ (s : Scripted). s.requests) c.deref.ensures)) ∙ c.if-not-is_asked.ensures ∙ ap (λ (r : Request). Some r) c.request.ensures.request in
     let is : slice_get c.self.inside.answers.items c.args.q ≡ Some None = ap (λ (xs : List (Option Answer)). slice_get xs c.args.q) (sym c.deref-3.ensures.value) ∙ c.if-not-is_open.ensures in
     let at : slice_get c.self.inside.script.value.rounds_of c.args.q ≡ Some c.round_of-round.result = ap (λ (s : Scripted). slice_get s.rounds_of c.args.q) (sym c.deref-2.ensures) ∙ c.round_of-round.ensures in
@@ -56,7 +56,7 @@ invariant_of-self g c =
 
 pub returns-clause-fits : goal.returns-clause-fits
 returns-clause-fits g c =
-    let x : Shown = shown c.self.inside in
+    let x : Shown = shown_of c.self.inside in
     let asked : slice_get c.self.inside.script.value.requests c.args.q ≡ Some c.args.finding.request = ap (λ (l : List Request). slice_get l c.args.q) (sym (c.requests.ensures.requests ∙ ap (λ (s : Scripted). s.requests) c.deref.ensures)) ∙ c.if-not-is_asked.ensures ∙ ap (λ (r : Request). Some r) c.request.ensures.request in
     let is : slice_get c.self.inside.answers.items c.args.q ≡ Some None = ap (λ (xs : List (Option Answer)). slice_get xs c.args.q) (sym c.deref-3.ensures.value) ∙ c.if-not-is_open.ensures in
     let at : slice_get c.self.inside.script.value.rounds_of c.args.q ≡ Some c.round_of-round.result = ap (λ (s : Scripted). slice_get s.rounds_of c.args.q) (sym c.deref-2.ensures) ∙ c.round_of-round.ensures in

@@ -4,7 +4,7 @@ use Rattle.cl_model.specs.declared.class.Class.{Class}
 use Rattle.cl_model.specs.States.{IsRecorded}
 use Rattle.cl_registry.specs.Imposing.{MayPrepareAs, with_prepare}
 use Rattle.cl_registry.specs.Tables.{Shown, state_of}
-use Rattle.cl_registry.specs.View.{shown}
+use Rattle.cl_registry.specs.View.{shown_of}
 use Rattle.cl_registry.proofs.Imposed.{kept_prepared, prepared_more}
 use Rattle.cl_registry.proofs.Kept.{come_by, grown, kept_failed}
 use Rattle.cl_registry.proofs.registry.Registry.prepare.Goals as goal
@@ -23,7 +23,7 @@ invariant_of-self g c =
 
 pub invariant_of-self-2 : goal.invariant_of-self-2
 invariant_of-self-2 g c =
-    let x : Shown = shown c.self.inside in
+    let x : Shown = shown_of c.self.inside in
     let d = c.args.class.now in
     let e = c.in-Ok.ensures in
     kept_prepared g.T.Told.told x d _ _ _ _ _ _ c.to_come-left.result _ _ c.self.invariant (subst (λ (y : Shown). IsRecorded (state_of y) d) (sym c.self.view_is) c.requires.recorded)
@@ -38,13 +38,13 @@ invariant_of-self-2 g c =
 
 pub returns-clause-prepared : goal.returns-clause-prepared
 returns-clause-prepared g c =
-    let x : Shown = shown c.self.inside in
+    let x : Shown = shown_of c.self.inside in
     let y : Shown = record x { history = c.add_prepared.new.history.items } in
     subst (λ (z : Shown). y ≡ with_prepare z c.args.class.now) c.self.view_is (ap (λ hs. grown x x.rows hs) c.in-Ok.ensures.event.events)
 
 pub returns-clause-stands : goal.returns-clause-stands
 returns-clause-stands g c =
-    let x : Shown = shown c.self.inside in
+    let x : Shown = shown_of c.self.inside in
     subst (λ (y : Shown). Contains (state_of y).prepared c.args.class.now) (sym (ap (λ hs. grown x x.rows hs) c.in-Ok.ensures.event.events)) (prepared_more x c.args.class.now)
 
 pub returns-clause-kept : goal.returns-clause-kept

@@ -4,7 +4,7 @@ use Rattle.cl_model.specs.declared.settled.Settled.{Settled}
 use Rattle.cl_registry.specs.References.{settled_by, IsSettledIn}
 use Rattle.cl_registry.specs.Settling.{IsToSettle, Settles}
 use Rattle.cl_registry.specs.Tables.{Shown}
-use Rattle.cl_registry.specs.View.{shown}
+use Rattle.cl_registry.specs.View.{shown_of}
 use Rattle.cl_registry.proofs.Binding.{bound, registry_bound}
 use Rattle.cl_registry.proofs.Cited.{settled_by_in}
 use Rattle.cl_registry.proofs.registry.Registry.settle.Goals as goal
@@ -20,7 +20,7 @@ returns-in-Some-clause-found g c =
     ]
 
 abbrev known : (g : _) → goal.In-Ok-bind g → Shown
-known g c = shown c.self.inside
+known g c = shown_of c.self.inside
 
 free : (g : _) (c : goal.In-Ok-bind g) → settled_by (known g c) c.args.finding.now.request ≡ None
 free g c =

@@ -5,6 +5,6 @@ use Rattle.cl_registry.proofs.registry.Registry.to_settle.Goals as goal
 
 pub returns-in-Err-clause-refused : goal.returns-in-Err-clause-refused
 returns-in-Err-clause-refused g c = (
-  record { class = c.in-Some.class.now; index = c.in-Some.index; verdict = c.in-Some-binding.verdict.now },
-  record { cited = sym (c.in-Some.ensures ∙ ap (λ (r : Request). cited_by c.args.self.now r) c.request.ensures.request); says = c.in-Some-binding.ensures; stands = c.if-not-stands.ensures },
+  record { class = c.in-Some.class.now; index = c.in-Some.index; verdict = c.in-Some-verdict_to_settle.verdict.now },
+  record { cited = sym (c.in-Some.ensures ∙ ap (λ (r : Request). cited_by c.args.self.now r) c.request.ensures.request); says = c.in-Some-verdict_to_settle.ensures; stands = c.if-not-stands.ensures },
 )

@@ -1,6 +1,6 @@
 use Rattle.std.proofs.Common.{◌≡◌, length}
 use Rattle.cl_bundle.specs.Cuts.{cuts_of}
-use Rattle.cl_bundle.proofs.sections.opening.Given as goal
+use Rattle.cl_bundle.proofs.sections.take_config_line.Given as goal
 
 abbrev pub invariant-loop-line : goal.invariant-loop-line
 invariant-loop-line l = cuts_of l.initial.lines ≡ cuts_of l.lines

@@ -1,6 +1,6 @@
 use Rattle.std.proofs.Common.{◌∙◌}
 use Rattle.cl_bundle.proofs.Cutting.{opens_at, opens_later, opens_wrong}
-use Rattle.cl_bundle.proofs.sections.opening.Goals as goal
+use Rattle.cl_bundle.proofs.sections.take_config_line.Goals as goal
 
 pub returns-then-is_config : goal.returns-then-is_config
 returns-then-is_config c =

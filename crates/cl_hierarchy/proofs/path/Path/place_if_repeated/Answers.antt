@@ -1,6 +1,6 @@
 use Rattle.std.proofs.Common.{sym}
 use Rattle.cl_hierarchy.proofs.Repeats.{last_repeats}
-use Rattle.cl_hierarchy.proofs.path.Path.repeated.Goals as goal
+use Rattle.cl_hierarchy.proofs.path.Path.place_if_repeated.Goals as goal
 
 pub returns-clause-repeats : goal.returns-clause-repeats
 returns-clause-repeats g c =

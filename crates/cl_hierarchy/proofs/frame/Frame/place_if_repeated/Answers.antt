@@ -2,7 +2,7 @@ use Rattle.std.proofs.Common.{◌≡◌, ◌∙◌, ℕ, List, length, slice_get
 use Rattle.std.proofs.lemmas.Option.{slice_get_read}
 use Rattle.cl_hierarchy.proofs.Frames.{held}
 use Rattle.cl_hierarchy.proofs.Repeats.{repeats_at}
-use Rattle.cl_hierarchy.proofs.frame.Frame.repeated.Goals as goal
+use Rattle.cl_hierarchy.proofs.frame.Frame.place_if_repeated.Goals as goal
 
 pub returns : goal.returns
 returns g c =

@@ -3,7 +3,7 @@ use Rattle.cl_hierarchy.specs.Lineages.{Lined}
 use Rattle.cl_preparation.specs.Chains.{IsChained}
 use Rattle.cl_preparation.specs.Relatives.{names_interfaces}
 use Rattle.cl_preparation.proofs.Coverage.{named_none}
-use Rattle.cl_preparation.proofs.chained.Chained.sharing.Goals as goal
+use Rattle.cl_preparation.proofs.chained.Chained.sharing_count.Goals as goal
 
 pub returns-then-not-names_interfaces : goal.returns-then-not-names_interfaces
 returns-then-not-names_interfaces g c =

@@ -7,7 +7,7 @@ use Rattle.cl_model.specs.Lineages.{offers}
 use Rattle.cl_hierarchy.specs.Lineages.{IsRowIn, kin_at, rows_in}
 use Rattle.cl_members.specs.Members.{method_in}
 use Rattle.cl_members.proofs.Lists.{all_kept, filter_map_is}
-use Rattle.cl_members.proofs.interface.offering.Goals as goal
+use Rattle.cl_members.proofs.interface.superinterfaces_offering.Goals as goal
 
 pub returns-clause-kins : goal.returns-clause-kins
 returns-clause-kins g c =

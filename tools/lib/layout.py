@@ -14,6 +14,7 @@ from source import files as texts_of, functions, names_of
 
 HANDLES = "Handles allowed: Threads, Wait."
 MOST_LINES = 500
+CLAUSE = re.compile(r"\s*(?:requires|ensures|ghost (?!use\b)\w+ =)")
 MOST_COLUMNS = 100
 TEXTS = (".rt", ".antt", ".md", ".edit", ".txt", ".py", "")
 # A relation or a type that a file of definitions states.
@@ -149,12 +150,16 @@ RULES = (
 
 
 def long_clauses(root, files):
+    """The lines of clauses and of ghost members that are too long, whichever line of theirs it is."""
     found = []
     for it in files:
-        if it.endswith(".rt"):
-            for number, line in enumerate(lines_of(f"{root}/{it}"), 1):
-                if len(line) > MOST_COLUMNS and re.match(r"\s*(requires|ensures)\b", line):
-                    found.append(f"{it}:{number}: a clause of {len(line)} columns, over {MOST_COLUMNS}")
+        depth = 0
+        for number, line in enumerate(lines_of(f"{root}/{it}") if it.endswith(".rt") else (), 1):
+            is_first = depth == 0 and CLAUSE.match(line)
+            if (is_first or depth > 0) and len(line) > MOST_COLUMNS:
+                found.append(f"{it}:{number}: a line of a clause has {len(line)} columns, over {MOST_COLUMNS}")
+            if is_first or depth > 0:
+                depth = max(depth + line.count("{") - line.count("}"), 0)
     return found
 
 

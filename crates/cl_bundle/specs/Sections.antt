@@ -33,8 +33,8 @@ pub data Heading : Type 0 where
   WrongLine : Heading
 
 -- the name that a word writes as escaped text, where a class may have it (JVMS SE 8, 4.2.1)
-abbrev pub class_named : List ℕ → Option (List ℕ)
-class_named word =
+abbrev pub class_word : List ℕ → Option (List ℕ)
+class_word word =
     option_and_then (λ name. if is_class_name name then Some name else None) (unescaped_name word)
 
 -- a class section begins, where its word is a class's name; else the line is wrong
@@ -44,7 +44,7 @@ named_heading loader None = WrongLine
 
 -- `%class` has two words behind it, a loader's and a class's name
 abbrev pub class_heading : List (List ℕ) → Heading
-class_heading (loader ∷ name ∷ []) = named_heading loader (class_named name)
+class_heading (loader ∷ name ∷ []) = named_heading loader (class_word name)
 class_heading _ = WrongLine
 
 -- `%script` stands alone

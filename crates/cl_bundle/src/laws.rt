@@ -34,7 +34,7 @@ pub fn sections_tell_one_content()
         → SameFault f g }
 {}
 
-/// Want of memory apart, a text is read in one way at most: as one bundle, or with one fault.
+/// Unless memory runs out, a text is read in one way at most: as one bundle, or with one fault.
 pub fn reads_one_way()
     ensures same { (text : List ℕ) (c d : Configured) (a b : Content) (s t : Scripted)
         → IsBundle text c a s → IsBundle text d b t → (c ≡ d) × TellsSame a b × (s ≡ t) }

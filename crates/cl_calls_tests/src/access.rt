@@ -1,6 +1,7 @@
 //! What is accessible to whom (JVMS SE 8, 5.4.4).
 
 use crate::lineages::{CLASS, H, NONE, P, Q, QD, QE, R, Row, TOP, class_of, lineage, name_of};
+use cl_classfile::{PRIVATE, PROTECTED, PUBLIC};
 use cl_given::{APP, PLUG};
 use cl_hierarchy::{class_accessible, member_accessible};
 use cl_model::{Class, LoaderId, Untold};
@@ -20,11 +21,7 @@ pub const PACKAGES: [Row; 6] = [
 
 const PACKAGE: u16 = 0;
 
-const PRIVATE: u16 = 2;
-
-const PROTECTED: u16 = 4;
-
-const STATIC: u16 = 0xc;
+const PROTECTED_STATIC: u16 = 0xc;
 
 /// From which class, the class that declares a member, the member's flags, through which class, and whether it is accessible
 /// so (JVMS SE 8, 5.4.4).
@@ -35,17 +32,17 @@ pub const MEMBERS: [Member; 15] = [
     (QD, P, PROTECTED, QD, true),
     (QD, P, PROTECTED, QE, true),
     (QD, P, PROTECTED, Q, false),
-    (QD, P, STATIC, Q, true),
+    (QD, P, PROTECTED_STATIC, Q, true),
     (QD, P, PACKAGE, P, false),
     (QD, P, PRIVATE, P, false),
     (QD, QD, PRIVATE, QD, true),
     (QD, R, PROTECTED, R, false),
-    (QD, R, STATIC, R, false),
+    (QD, R, PROTECTED_STATIC, R, false),
     (R, P, PACKAGE, P, true),
     (R, P, PRIVATE, P, false),
     (R, P, PROTECTED, QD, true),
     (R, P, PROTECTED, Q, true),
-    (QD, R, 1, R, true),
+    (QD, R, PUBLIC, R, true),
 ];
 
 /// Whether a member that a class declares with these flags is accessible to another through a third.

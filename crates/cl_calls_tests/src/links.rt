@@ -267,7 +267,7 @@ fn ask_steps<R: Abort>(
 }
 
 /// A list is imposed one after another, then its class is marked, supertypes first, each once; a record that would violate is
-/// refused; a list of other loaders is strayed. A link is posted once its class is prepared.
+/// refused; a list of other loaders is refused as Stray. A link is posted once its class is prepared.
 #[test]
 fn constraints_are_imposed_and_marked(rt: HostRuntime) -> Result<(), Fail> {
     let alloc = rt.alloc();

@@ -355,8 +355,8 @@ fn post_each<R: Abort>(
     Ok(())
 }
 
-/// What was found under other loaders is strayed and changes nothing, though their numbers are the same; a class is recorded
-/// once its supertypes are, and what is recorded stays.
+/// What was found under other loaders is refused as Stray and changes nothing, though their numbers are the same; a class is
+/// recorded once its supertypes are, and what is recorded stays.
 #[test]
 fn strangers_change_nothing(rt: HostRuntime) -> Result<(), Fail> {
     let alloc = rt.alloc();

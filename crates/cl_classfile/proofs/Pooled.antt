@@ -14,13 +14,13 @@ use Rattle.cl_classfile.specs.declared.fault.Fault.TheVariants.{BadPool}
 use Rattle.cl_classfile.specs.Pool.{entry_spelling, two_indices, EntryFits, IsIndex, is_wide, AreSpaced}
 use Rattle.cl_classfile.specs.Structure.{pool_spelling, PoolFits}
 use Rattle.cl_classfile.specs.Tags as tags
-use Rattle.cl_classfile.specs.Reading.{Reader, number_at, test_at, map_at, text_at, byte_at, signed_at, two_at, handle_at, tagged_at, entry_at, slot_at, next_place, entries_at, pool_at}
+use Rattle.cl_classfile.specs.Reading.{Reader, number_at, test_at, map_at, utf8_at, byte_at, signed_at, two_at, handle_at, tagged_at, entry_at, slot_at, next_place, entries_at, pool_at}
 use Rattle.cl_classfile.proofs.Codec.{IsBytes, bind_ok, ok_is, Takes, Takes-then, IsCodec, number16, number32, number64, also, tested, mapped, many, EachFits, sized}
 
 -- ---- what stands behind a tag
 
-text : IsCodec text_at (λ t. to_be_bytes w16 (length t) ++ t) (λ t. length t < 2 ^ 16)
-unfolding text_at
+text : IsCodec utf8_at (λ t. to_be_bytes w16 (length t) ++ t) (λ t. length t < 2 ^ 16)
+unfolding utf8_at
 text = sized w16 (2 ^ 16) number16
 
 byte_taken : (bytes : List ℕ) (x : ℕ × List ℕ) → IsBytes bytes → byte_at bytes ≡ Ok x → Takes bytes (x.0 ∷ []) x.1 × (x.0 < 2 ^ 8)
@@ -89,7 +89,7 @@ narrow n i e fits usable slim = record { fits = fits; usable = usable; room = λ
 tagged_taken : (n i tag : ℕ) (rest : List ℕ) → IsBytes (tag ∷ rest) → IsTaken n i (tag ∷ rest) (tagged_at n i tag rest)
 unfolding tagged_at
 tagged_taken n i tag rest fits =
-    choose n i (tag ∷ rest) (eqb tag tags.utf8) _ _ (kind n i tags.utf8 tag rest text_at _ _ (λ t. Utf8 t) text (λ t h. (refl, narrow n i (Utf8 t) h (λ is. absurd cc) refl)) fits)
+    choose n i (tag ∷ rest) (eqb tag tags.utf8) _ _ (kind n i tags.utf8 tag rest utf8_at _ _ (λ t. Utf8 t) text (λ t h. (refl, narrow n i (Utf8 t) h (λ is. absurd cc) refl)) fits)
     (choose n i (tag ∷ rest) (eqb tag tags.integer) _ _ (kind n i tags.integer tag rest (signed_at w32) _ _ (λ v. Integer v) signed32 (λ v h. (refl, narrow n i (Integer v) h (λ is. absurd cc) refl)) fits)
     (choose n i (tag ∷ rest) (eqb tag tags.float) _ _ (kind n i tags.float tag rest (number_at w32) _ _ (λ b. Float b) number32 (λ b h. (refl, narrow n i (Float b) h (λ is. absurd cc) refl)) fits)
     (choose n i (tag ∷ rest) (eqb tag tags.long) _ _ (λ is.

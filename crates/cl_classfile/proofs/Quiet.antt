@@ -16,7 +16,7 @@ use Rattle.cl_classfile.specs.Files.{class_name}
 use Rattle.cl_classfile.specs.Rows.{entry_traits, keeps_entry}
 use Rattle.cl_names.specs.Steps.{◌>>=◌}
 use Rattle.cl_classfile.specs.Checking.{kept_entry, checked_entries, keeps_names, keeps_interfaces, checked_class, keeps_member, same_member, checked_members, checked_list, checked_tables, kept_file}
-use Rattle.cl_classfile.specs.Reading.{Reader, number_at, bytes_at, then_at, test_at, map_at, sized_at, many_at, counted_at, header_at, text_at, byte_at, signed_at, two_at, handle_at, wide_at, tagged_at, entry_at, slot_at, next_place, entries_at, pool_at, class_at, interfaces_at, attribute_at, attributes_at, member_at, members_at, tables_at, FileParts, parts_at, structure_of, structure_at, whole_of, read_of}
+use Rattle.cl_classfile.specs.Reading.{Reader, number_at, bytes_at, then_at, test_at, map_at, sized_at, many_at, counted_at, header_at, utf8_at, byte_at, signed_at, two_at, handle_at, wide_at, tagged_at, entry_at, slot_at, next_place, entries_at, pool_at, class_at, interfaces_at, attribute_at, attributes_at, member_at, members_at, tables_at, FileParts, parts_at, structure_of, structure_at, whole_of, read_of}
 use Rattle.cl_classfile.proofs.Judging.{differ}
 
 -- the header's own faults
@@ -80,8 +80,8 @@ many step next p (suc n) c bytes = bind (step c bytes) _ (p c bytes) (λ x. bind
 counts : {A : Type 0} (r : Reader A) → Quiet r → Quiet (counted_at r)
 counts r p bytes = bind (number_at w16 bytes) _ (number w16 bytes) (λ n. many {C = ℕ} (λ i. r) (λ i a. i) (λ i. p) n.0 0 n.1)
 
-text : Quiet text_at
-unfolding text_at
+text : Quiet utf8_at
+unfolding utf8_at
 text bytes = bind (number_at w16 bytes) _ (number w16 bytes) (λ n. those n.0 n.1)
 
 byte : Quiet byte_at
@@ -108,7 +108,7 @@ entry : (n i : ℕ) → Quiet (entry_at n i)
 unfolding entry_at tagged_at
 entry n i [] = err Truncated refl
 entry n i (tag ∷ rest) =
-    choice (eqb tag tags.utf8) _ _ (seen text_at _ text rest)
+    choice (eqb tag tags.utf8) _ _ (seen utf8_at _ text rest)
     (choice (eqb tag tags.integer) _ _ (seen (signed_at w32) _ (signed w32) rest)
     (choice (eqb tag tags.float) _ _ (seen (number_at w32) _ (number w32) rest)
     (choice (eqb tag tags.long) _ _ (wide n i _ (seen (signed_at w64) _ (signed w64)) rest)

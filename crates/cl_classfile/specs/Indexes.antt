@@ -22,7 +22,7 @@ use Rattle.cl_classfile.specs.declared.entry.Entry.{Entry}
 use Rattle.cl_classfile.specs.declared.numbers.Numbers.{Numbers}
 use Rattle.cl_classfile.specs.declared.index.Places.{Places}
 use Rattle.cl_classfile.specs.declared.index.Index.{Index}
-use Rattle.cl_classfile.specs.declared.index.TheConstants.{FEW}
+use Rattle.cl_classfile.specs.declared.index.TheConstants.{FEW_MEMBERS}
 use Rattle.cl_classfile.specs.Structure.{Structure, MemberInfo}
 use Rattle.cl_classfile.specs.Numbers.{AreNoted, noted_at, number_of}
 use Rattle.cl_classfile.specs.Seen.{pair_cmp}
@@ -87,8 +87,8 @@ pub record IndexLeads (pool : List Entry) (i : Index) (fs ms : List MemberInfo) 
 
 -- these fields and these methods are so few that they have no index
 pub record MembersAreFew (fs ms : List MemberInfo) : Type 0 where
-  pub fields : length fs ≤ FEW
-  pub methods : length ms ≤ FEW
+  pub fields : length fs ≤ FEW_MEMBERS
+  pub methods : length ms ≤ FEW_MEMBERS
 
 -- fields and methods are few, or there is an index, which leads to them
 abbrev pub IsIndexed : List Entry → List MemberInfo → List MemberInfo → Option Index → Type 0

@@ -46,7 +46,7 @@ pub record MemberInfo : Type 0 where
 abbrev pub counted_list : {A : Type 0} → (A → List ℕ) → List A → List ℕ
 counted_list spell xs = to_be_bytes w16 (length xs) ++ flat_map spell xs
 
--- the bytes of an attribute (4.7)
+-- the bytes of an attribute (4.7; own choice that its name and its bytes are not looked at)
 abbrev pub attribute_spelling : Attribute → List ℕ
 attribute_spelling a = to_be_bytes w16 a.name_index ++ (to_be_bytes w32 (length a.bytes) ++ a.bytes)
 
@@ -90,7 +90,7 @@ TakesUnits of_class text =
     descriptors.SpellsSomeMethod text
     (λ m. descriptors.IsMethodType m × (units_of_method m + (if of_class then 0 else 1) ≤ MOST_UNITS))
 
--- the flags of <clinit> are not looked at; those of <init> are more narrow (4.6)
+-- the flags of <clinit> are not looked at; those of <init> are more narrow (4.6; own choice for <clinit>)
 pub record KeepsMethod (pool : List Entry) (of_interface : Bool) (m : MemberInfo) : Type 0 where
   pub flags : (IsText pool m.name_index clinit → ⊥) → IsTrue (is_method_flags of_interface m.flags)
   pub init_flags : IsText pool m.name_index init → IsTrue (is_init_flags m.flags)

@@ -18,7 +18,7 @@ use Rattle.cl_classfile.specs.Lookups.{is_this}
 abbrev pub text_cmp : List ℕ → List ℕ → Ordering
 text_cmp a b = slice_cmp nat_cmp a b
 
--- what stands for a text where texts are looked for: own choice, no answer depends on it
+-- what stands for a text where texts are looked for: no answer depends on it
 unfoldable pub rank_of : List ℕ → ℕ
 rank_of text = hasher.finish (fold hasher.write hasher.initial (fed_name text))
 

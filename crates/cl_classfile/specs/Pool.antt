@@ -166,7 +166,7 @@ MayCall pool i =
 abbrev pub HasPlainName : List Entry → ℕ → Type 0
 HasPlainName pool i = (IsNameAndType pool i init → ⊥) × (IsNameAndType pool i clinit → ⊥)
 
--- a name and its descriptor go together (4.4.6)
+-- a name and its descriptor go together (4.4.6; own choice for the names of methods)
 abbrev pub MayPair : List Entry → ℕ → ℕ → Type 0
 MayPair pool name descriptor =
     (HasText pool descriptor IsFieldDescriptor × HasText pool name (IsNameOf IsUnqualified))

@@ -123,8 +123,8 @@ unfoldable pub header_at : Reader (ℕ × (ℕ × ℕ))
 header_at = then_at magic_at (λ magic. version_at)
 
 -- two bytes of length, and that many bytes of text (4.4.7)
-unfoldable pub text_at : Reader (List ℕ)
-text_at bytes = sized_at w16 bytes
+unfoldable pub utf8_at : Reader (List ℕ)
+utf8_at bytes = sized_at w16 bytes
 
 -- one byte (4)
 unfoldable pub byte_at : Reader ℕ
@@ -147,7 +147,7 @@ wide_at n i r bytes = if nat_lt i n then r bytes else Err (BadPool i)
 unfoldable pub tagged_at : ℕ → ℕ → ℕ → Reader Entry
 tagged_at n i tag rest =
     if tag == tags.utf8
-    then map_at text_at (λ text. Utf8 text) rest
+    then map_at utf8_at (λ text. Utf8 text) rest
     else if tag == tags.integer
     then map_at (signed_at w32) (λ value. Integer value) rest
     else if tag == tags.float

@@ -114,14 +114,14 @@ abbrev pub object : List ℕ
 object = codes "java/lang/Object"
 
 -- super_class is 0 exactly in java/lang/Object, which is no interface; of any other it is a class,
--- and of an interface java/lang/Object (4.1)
+-- and of an interface java/lang/Object (4.1; own choice that it is 0 in java/lang/Object)
 abbrev pub KeepsSuper : List Entry → Bool → List ℕ → ℕ → Type 0
 KeepsSuper pool of_interface name super =
     ((name ≡ object) × IsFalse of_interface × (super ≡ 0))
     ⊎ ((name ≡ object → ⊥) × (above : List ℕ) × NamesClass pool super above
     × (IsTrue of_interface → above ≡ object))
 
--- an interface of the class is a class of the pool (4.1)
+-- an interface of the class is a class of the pool (4.1; own choice that one may be listed twice)
 abbrev pub KeepsInterface : List Entry → ℕ → Type 0
 KeepsInterface pool i = (name : List ℕ) × NamesClass pool i name
 

@@ -60,7 +60,8 @@ impl Model for ClassFile {
 
     ghost view = { structure };
 
-    ghost invariant = { λ f. IsClassFile (structure f) × IsIndexOf f.index (structure f) × AreMentionsOf (structure f) f.mentions };
+    ghost invariant = { λ f. IsClassFile (structure f) × IsIndexOf f.index (structure f) ×
+        AreMentionsOf (structure f) f.mentions };
 }
 
 impl ClassFile {

@@ -15,7 +15,7 @@ use std::alloc::{AllocError, Global};
 use std::collections::BTreeMap;
 
 /// So many members are looked through as fast, without an index.
-const FEW: usize = 16;
+const FEW_MEMBERS: usize = 16;
 
 /// Where members stand, by the numbers of their names and descriptors.
 #[derive(Debug, Drop)]
@@ -35,7 +35,7 @@ pub struct Index {
 pub fn are_few(fields: &[Member], methods: &[Member]) -> bool
     ensures { result ≡ true → MembersAreFew fields.now methods.now }
 {
-    fields.len() <= FEW && methods.len() <= FEW
+    fields.len() <= FEW_MEMBERS && methods.len() <= FEW_MEMBERS
 }
 
 /// The index of members that have these numbers and stand at these places.

@@ -22,7 +22,13 @@ impl Model for Member {
 
     ghost Value = { structure.MemberInfo };
 
-    ghost view = { λ m. record { flags = m.flags; name_index = m.name_index; descriptor_index = m.descriptor_index; attributes = m.attributes.items } };
+    ghost view = { λ m. record {
+      flags = m.flags;
+      name_index = m.name_index;
+      descriptor_index =
+          m.descriptor_index;
+      attributes = m.attributes.items;
+    } };
 }
 
 /// Whether a count can say how many attributes there are, and each fits its widths.

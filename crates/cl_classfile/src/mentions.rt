@@ -12,7 +12,7 @@ use crate::limits::MOST_COUNTED;
 use std::alloc::{AllocError, Global};
 
 /// So many interfaces are looked at as fast one by one.
-const FEW: usize = 16;
+const FEW_INTERFACES: usize = 16;
 
 /// Of each interface of many, the first that the same text names.
 #[derive(Debug, Drop)]
@@ -81,7 +81,7 @@ pub fn mentions_of(
     ensures { IfOk result (λ m. AreMentions pool.now interfaces.now m.firsts.items) }
 {
     let mut firsts = Vec::new(alloc);
-    if interfaces.len() <= FEW || interfaces.len() > MOST_COUNTED {
+    if interfaces.len() <= FEW_INTERFACES || interfaces.len() > MOST_COUNTED {
         return Ok(Mentions { firsts });
     }
     let mut marks = vec![in alloc; 0u16; pool.len()]?;

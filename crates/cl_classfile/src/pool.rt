@@ -5,7 +5,7 @@ ghost use Rattle.cl_classfile.specs.declared.fault.Fault.TheVariants as faults;
 ghost use Rattle.std.specs.Int.{w32, w64};
 ghost use Rattle.cl_names.specs.Steps.{Finds};
 ghost use Rattle.cl_classfile.specs.Checking.{Gives};
-ghost use Rattle.cl_classfile.specs.Reading.{number_at, text_at, byte_at, signed_at, two_at, handle_at, entry_at, slot_at, entries_at, pool_at};
+ghost use Rattle.cl_classfile.specs.Reading.{number_at, utf8_at, byte_at, signed_at, two_at, handle_at, entry_at, slot_at, entries_at, pool_at};
 ghost use Rattle.cl_classfile.specs.Raw.{plain_entry, plain_entries};
 
 use crate::fault::{Fault, ReadError};
@@ -14,9 +14,9 @@ use crate::reading::{bytes_at, u16_at, u32_at};
 use crate::tags;
 use std::alloc::Global;
 
-#[tactic(auto, unfolding(crate::specs::Reading::text_at))]
-fn text_at(bytes: &[u8]) -> Result<(&[u8], &[u8]), Fault>
-    ensures { Finds (λ x. (x.0.now, x.1.now)) result (text_at bytes.now) }
+#[tactic(auto, unfolding(crate::specs::Reading::utf8_at))]
+fn utf8_at(bytes: &[u8]) -> Result<(&[u8], &[u8]), Fault>
+    ensures { Finds (λ x. (x.0.now, x.1.now)) result (utf8_at bytes.now) }
 {
     let (count, rest) = u16_at(bytes)?;
     bytes_at(count as usize, rest)
@@ -97,7 +97,7 @@ fn entry_at(last: u16, index: u16, bytes: &[u8]) -> Result<(RawEntry<'_>, &[u8])
     };
     match *tag {
         tags::UTF8 => {
-            let (text, rest) = text_at(rest)?;
+            let (text, rest) = utf8_at(rest)?;
             Ok((RawEntry::Utf8(text), rest))
         }
         tags::INTEGER => {

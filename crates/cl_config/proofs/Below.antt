@@ -10,7 +10,7 @@ use Rattle.cl_config.specs.Fields.{list_from}
 use Rattle.cl_config.specs.Entries.{Entry, EntryImport}
 use Rattle.cl_model.specs.Homes.{Import}
 use Rattle.cl_config.specs.Views.{Loader}
-use Rattle.cl_config.specs.Configs.{place_of, earlier, parent_of, import_of, imports_of, loader_of, loaders_of, LeadsBelow, AllLeadBelow}
+use Rattle.cl_config.specs.Configs.{place_of_name, earlier, parent_of, import_of, imports_of, loader_of, loaders_of, LeadsBelow, AllLeadBelow}
 
 -- two steps that succeed
 pub record Bound {A B : Type 0} (r : Result A ConfigFault) (f : A → Result B ConfigFault) (y : B) : Type 0 where
@@ -38,13 +38,13 @@ parent_below : (entries : List Entry) (i : ℕ) (name : Option (List ℕ)) (p : 
 parent_below entries i None None h = tt
 parent_below entries i None (Some p) h = absurd cc
 parent_below entries i (Some name) p h =
-    let b = bound (earlier i (place_of entries name)) _ p h in
+    let b = bound (earlier i (place_of_name entries name)) _ p h in
     some_below i b.x p (Ok (Some b.x)) (earlier_below i b.x _ b.first) refl b.second
 
 import_below : (entries : List Entry) (i : ℕ) (e : EntryImport) (m : Import) → import_of entries i e ≡ Ok m → m.target < i
 unfolding import_of
 import_below entries i e m h =
-    let b = bound (earlier i (place_of entries e.from)) _ m h in
+    let b = bound (earlier i (place_of_name entries e.from)) _ m h in
     let same : b.x ≡ m.target = ap (λ (r : Result Import ConfigFault). elim r [ Ok m ↦ m.target | Err f ↦ 0 ]) b.second in
     rw (← same) (earlier_below i b.x _ b.first)
 

@@ -82,8 +82,8 @@ top_of ms = do
 -- ---- whom a loader asks: each loader in order, its parent and then its imports
 
 -- the first loader of this name
-abbrev pub place_of : List Entry → List ℕ → Option ℕ
-place_of = first_named (λ e. e.name)
+abbrev pub place_of_name : List Entry → List ℕ → Option ℕ
+place_of_name = first_named (λ e. e.name)
 
 -- a place, where it is that of an earlier loader than i
 abbrev pub earlier : ℕ → Option ℕ → Result ℕ ConfigFault
@@ -93,12 +93,12 @@ earlier i (Some p) = if nat_lt p i then Ok p else Err (LaterLoader i)
 -- the parent of loader i
 abbrev pub parent_of : List Entry → ℕ → Option (List ℕ) → Result (Option ℕ) ConfigFault
 parent_of entries i None = Ok None
-parent_of entries i (Some name) = earlier i (place_of entries name) >>= λ p. Ok (Some p)
+parent_of entries i (Some name) = earlier i (place_of_name entries name) >>= λ p. Ok (Some p)
 
 -- an import of loader i
 unfoldable pub import_of : List Entry → ℕ → EntryImport → Result Import ConfigFault
 import_of entries i e = do
-  target ← earlier i (place_of entries e.from)
+  target ← earlier i (place_of_name entries e.from)
   Ok (record { prefix = e.prefix; target = target })
 
 -- the imports of loader i

@@ -139,8 +139,7 @@ thens_in [] = 0
 thens_in (Ask r ∷ xs) = thens_in xs
 thens_in (Then ∷ xs) = thens_in xs + 1
 
--- there are not too many requests, and not too many lines that begin a round (own choice of the
--- numbers)
+-- there are not too many requests, and not too many lines that begin a round
 pub record ScriptFits (xs : List Said) : Type 0 where
   pub requests : length (requests_in xs) ≤ MOST_REQUESTS
   pub thens : thens_in xs ≤ MOST_THENS

@@ -50,7 +50,8 @@ impl Model for Config {
 
     ghost view = { λ c. record { loaders = c.loaders.items } };
 
-    ghost invariant = { λ c. IsConfig (record { loaders = c.loaders.items }) × (map string_bytes c.names.items ≡ names_of (record { loaders = c.loaders.items })) };
+    ghost invariant = { λ c. IsConfig (record { loaders = c.loaders.items }) × (map string_bytes
+        c.names.items ≡ names_of (record { loaders = c.loaders.items })) };
 }
 
 impl Config {

@@ -111,7 +111,13 @@ impl Model for Entry {
 
     ghost Value = { Shown };
 
-    ghost view = { λ s. record { name = s.name; dir = s.dir; parent = s.parent; order = s.order; imports = s.imports } };
+    ghost view = { λ s. record {
+      name = s.name;
+      dir = s.dir;
+      parent = s.parent;
+      order = s.order;
+      imports = s.imports;
+    } };
 }
 
 impl Entry {

@@ -16,9 +16,11 @@ pub fn lines_that_say()
 
 /// An index is one to five digits, leading zeros among them, of at most `MOST_INDEX`.
 pub fn indices()
+    // Those that are taken.
     ensures none { WritesIndex (codes "0") 0 }
     ensures zeros { WritesIndex (codes "00017") 17 }
     ensures greatest { WritesIndex (codes "65535") 65535 }
+    // Those that are none.
     ensures too_great { (i : ℕ) → WritesIndex (codes "65536") i → ⊥ }
     ensures too_long { (i : ℕ) → WritesIndex (codes "000001") i → ⊥ }
     ensures sign { (i : ℕ) → WritesIndex (codes "+1") i → ⊥ }
@@ -28,13 +30,16 @@ pub fn indices()
 
 /// Lines that no script may have; a bad index or name comes before a loader that is none.
 pub fn lines_that_are_bad()
+    // A bad index, or one where none stands.
     ensures without_index { IsBad (codes "resolve app p/A") }
     ensures great_index { IsBad (codes "resolve x p/A 65536") }
     ensures load_with_index { IsBad (codes "load app p/A 1") }
     ensures link_with_index { IsBad (codes "link app p/A 1") }
+    // A bad name, or bad words.
     ensures no_class { IsBad (codes "link x p.A") }
     ensures upper_case { IsBad (codes "Link app p/A") }
     ensures two_rounds { IsBad (codes "then then") }
+    // A loader that is none.
     ensures unknown { LacksLoader two (codes "resolve x p/A 1") }
 {}
 

@@ -1,7 +1,7 @@
 //! Loaders, each parent and import by its number.
 
 ghost use Rattle.std.specs.Prelude.{◌≡◌, ◌<◌, ◌≤◌, ◌^◌, [], length, Ok, IfOk};
-ghost use Rattle.cl_config.specs.Configs.{place_of, earlier, parent_of, import_of, imports_of, loader_of, loaders_of, AllLeadBelow};
+ghost use Rattle.cl_config.specs.Configs.{place_of_name, earlier, parent_of, import_of, imports_of, loader_of, loaders_of, AllLeadBelow};
 ghost use Rattle.cl_config.specs.Steps.{Finds, Agrees};
 
 use crate::entry::{Entry, EntryImport};
@@ -103,7 +103,13 @@ impl Model for Loader {
 
     ghost Value = { Shown };
 
-    ghost view = { λ l. record { name = l.name; dir = l.dir; parent = l.parent; order = l.order; imports = l.imports } };
+    ghost view = { λ l. record {
+      name = l.name;
+      dir = l.dir;
+      parent = l.parent;
+      order = l.order;
+      imports = l.imports;
+    } };
 }
 
 impl Loader {
@@ -144,8 +150,8 @@ impl Loader {
 }
 
 /// The place of the first loader of this name.
-fn place_of(entries: &[Entry], name: &str) -> Option<usize>
-    ensures { result ≡ place_of entries.now name.now }
+fn place_of_name(entries: &[Entry], name: &str) -> Option<usize>
+    ensures { result ≡ place_of_name entries.now name.now }
 {
     entries.iter().position(|entry| entry.name() == name)
 }
@@ -153,9 +159,9 @@ fn place_of(entries: &[Entry], name: &str) -> Option<usize>
 /// The loader of this name, where it stands before loader `i`.
 fn earlier(entries: &[Entry], i: usize, name: &str) -> Result<LoaderId, ConfigFault>
     requires { i < MOST_LOADERS }
-    ensures { Finds (λ p. p) result (earlier i (place_of entries.now name.now)) }
+    ensures { Finds (λ p. p) result (earlier i (place_of_name entries.now name.now)) }
 {
-    match place_of(entries, name) {
+    match place_of_name(entries, name) {
         None => Err(ConfigFault::UnknownLoader(i as u32)),
         Some(place) if place < i => Ok(LoaderId(place as u16)),
         Some(_) => Err(ConfigFault::LaterLoader(i as u32)),

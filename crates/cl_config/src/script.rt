@@ -42,9 +42,19 @@ impl Model for Script {
 
     ghost Value = { Scripted };
 
-    ghost view = { λ s. record { requests = s.requests.items; rounds_of = s.rounds_of.items; rounds = s.rounds } };
+    ghost view = { λ s. record {
+      requests = s.requests.items;
+      rounds_of = s.rounds_of.items;
+      rounds
+          = s.rounds;
+    } };
 
-    ghost invariant = { λ s. IsScript (record { requests = s.requests.items; rounds_of = s.rounds_of.items; rounds = s.rounds }) };
+    ghost invariant = { λ s. IsScript (record {
+      requests = s.requests.items;
+      rounds_of =
+          s.rounds_of.items;
+      rounds = s.rounds;
+    }) };
 }
 
 /// Why a text is no script. Lines count from 1, skipped ones included.

@@ -76,7 +76,10 @@ impl Model for Groups {
 
     ghost view = { λ g. record { records = g.records.items; groups = g.groups.items } };
 
-    ghost invariant = { λ g. IsGrouped (record { records = g.records.items; groups = g.groups.items }) };
+    ghost invariant = { λ g. IsGrouped (record {
+      records = g.records.items;
+      groups = g.groups.items;
+    }) };
 }
 
 impl Groups {

@@ -73,7 +73,8 @@ impl Model for Pairs {
 
     ghost view = { λ p. record { records = p.records.items; pairs = p.pairs.items } };
 
-    ghost invariant = { λ p. KeepsEnds (record { records = p.records.items; pairs = p.pairs.items }) };
+    ghost invariant = { λ p. KeepsEnds
+        (record { records = p.records.items; pairs = p.pairs.items }) };
 }
 
 impl NameBook for Pairs {

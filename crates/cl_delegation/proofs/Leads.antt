@@ -7,7 +7,7 @@ use Rattle.cl_model.proofs.Probes.{home_is_on_route}
 use Rattle.cl_source.specs.Told.{IsTold}
 use Rattle.cl_source.specs.Views.{Found}
 use Rattle.cl_delegation.specs.Worlds.{world_of}
-use Rattle.cl_delegation.specs.Searches.{Searched, route_of, next_on, with_bytes, IsProbeOf, AllLack, IsFound, IsEnd, FollowsRoute, LeadsTo}
+use Rattle.cl_delegation.specs.Searches.{Searched, route_of, next_on, after_probe, IsProbeOf, AllLack, IsFound, IsEnd, FollowsRoute, LeadsTo}
 use Rattle.cl_config.specs.Configs.{IsConfig}
 use Rattle.cl_delegation.proofs.Once.{route_within}
 
@@ -25,7 +25,7 @@ next_unfound way n None l e = (refl, e)
 next_unfound way n (Some p) l e = absurd cc
 
 pub follows_on : (told : Option Content) (s : Searched) (p : Found) (bytes : Option (List ℕ)) → FollowsRoute told s → next_on (route_of s) (length s.absent) s.found ≡ Some p.loader → p.name ≡ s.name → IsTold told p.loader p.name p.bytes → p.bytes ≡ bytes
-    → FollowsRoute told (with_bytes s p bytes)
+    → FollowsRoute told (after_probe s p bytes)
 follows_on told s p None f next same is found =
     let n = next_unfound (route_of s) (length s.absent) s.found p.loader next in
     record {

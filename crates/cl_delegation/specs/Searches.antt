@@ -51,13 +51,13 @@ abbrev pub next_of : Searched → Option ℕ
 next_of s = next_on (route_of s) (length s.absent) s.found
 
 -- one probe more: only absence leads on (5.3.2)
-abbrev pub with_bytes : Searched → Found → Option (List ℕ) → Searched
-with_bytes s p None = record s { absent = s.absent ++ p ∷ [] }
-with_bytes s p (Some bytes) = record s { found = Some p }
+abbrev pub after_probe : Searched → Found → Option (List ℕ) → Searched
+after_probe s p None = record s { absent = s.absent ++ p ∷ [] }
+after_probe s p (Some bytes) = record s { found = Some p }
 
 -- one probe more (5.3.2)
 abbrev pub with_probe : Searched → Found → Searched
-with_probe s p = with_bytes s p p.bytes
+with_probe s p = after_probe s p p.bytes
 
 -- the probe is of this loader and name, and what the source tells (5.3.2)
 pub record IsProbeOf (content : Option Content) (sought : List ℕ) (asked : ℕ) (p : Found)

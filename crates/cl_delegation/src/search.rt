@@ -48,9 +48,24 @@ impl<T: Told> Model for Search<T> {
 
     ghost Value = { Searched };
 
-    ghost view = { λ s. record { config = s.config.value; loader = s.loader; name = s.name; absent = s.absent.items; found = s.found } };
+    ghost view = { λ s. record {
+      config = s.config.value;
+      loader = s.loader;
+      name = s.name;
+      absent =
+          s.absent.items;
+      found = s.found;
+    } };
 
-    ghost invariant = { λ s. HasRouteAtHand T.told (record { config = s.config.value; loader = s.loader; name = s.name; absent = s.absent.items; found = s.found }) s.route.items (vec_len s.absent) (vec_capacity s.absent) };
+    ghost invariant = { λ s. HasRouteAtHand T.told (record {
+      config = s.config.value;
+      loader =
+          s.loader;
+      name = s.name;
+      absent = s.absent.items;
+      found = s.found;
+    }) s.route.items (vec_len
+        s.absent) (vec_capacity s.absent) };
 }
 
 /// A search could not begin.
@@ -206,9 +221,18 @@ impl<T: Told> Model for Home<T> {
 
     ghost Value = { Located };
 
-    ghost view = { λ h. record { config = h.config.value; asked = h.asked; place = h.probe.loader; name = h.name; bytes = unwrap_or h.probe.bytes []; absent = h.absent.items } };
+    ghost view = { λ h. record {
+      config = h.config.value;
+      asked = h.asked;
+      place = h.probe.loader;
+      name = h.name;
+      bytes = unwrap_or h.probe.bytes [];
+      absent = h.absent.items;
+    } };
 
-    ghost invariant = { λ h. (h.probe.name ≡ h.name) × (h.probe.bytes ≡ Some (unwrap_or h.probe.bytes [])) × LeadsTo T.told h.config.value h.asked h.name (Some h.probe.loader) × (h.probe.loader < length h.config.value.loaders) };
+    ghost invariant = { λ h. (h.probe.name ≡ h.name) × (h.probe.bytes ≡ Some (unwrap_or
+        h.probe.bytes [])) × LeadsTo T.told h.config.value h.asked h.name (Some h.probe.loader) ×
+        (h.probe.loader < length h.config.value.loaders) };
 }
 
 impl<T: Told> Home<T> {
@@ -303,7 +327,13 @@ impl<T: Told> Model for Unfound<T> {
 
     ghost Value = { Sought };
 
-    ghost view = { λ u. record { config = u.config.value; asked = u.loader; name = u.name; absent = u.absent.items } };
+    ghost view = { λ u. record {
+      config = u.config.value;
+      asked = u.loader;
+      name = u.name;
+      absent =
+          u.absent.items;
+    } };
 
     ghost invariant = { λ u. LeadsTo T.told u.config.value u.loader u.name None };
 }

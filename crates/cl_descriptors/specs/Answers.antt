@@ -1,5 +1,5 @@
--- What reading bytes as a descriptor may answer: which of these it is, the bytes say, but for want
--- of memory (JVMS SE 8, 4.3).
+-- What reading bytes as a descriptor may answer: which of these it is, the bytes say, unless
+-- memory runs out (JVMS SE 8, 4.3).
 use Rattle.std.specs.Prelude.{
   ◌≡◌,
   ◌≢◌,
@@ -86,7 +86,7 @@ MethodOf bytes (Err TooManyUnits) =
     SpellsSomeMethod bytes (λ m. IsTrue (are_shallow m) × IsFalse (is_short m))
 MethodOf bytes (Err Memory) = IsMethodDescriptor bytes
 
--- the answer is that of the bytes, and memory is wanting only where they are a descriptor
+-- the answer is that of the bytes, and memory runs out only where they are a descriptor
 abbrev pub GivesReading : {A : Type 0} → Result A DescriptorFault → Result A DescriptorFault
     → Type 0
 GivesReading (Ok x) reading = reading ≡ Ok x

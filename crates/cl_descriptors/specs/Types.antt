@@ -92,7 +92,7 @@ is_shallow t = nat_le t.dims MOST_DIMENSIONS
 abbrev pub are_shallow : MethodType → Bool
 are_shallow m = list_all is_shallow (types_of m)
 
--- the units of the parameters, without one for `this` (JVMS SE 8, 4.3.3)
+-- the units of the parameters, without one for `this` (JVMS SE 8, 4.3.3; own choice for `this`)
 abbrev pub units_of_method : MethodType → ℕ
 units_of_method m = units_of_types m.params
 

@@ -35,7 +35,7 @@ use Rattle.cl_members.specs.declared.fault.LookupFault.{LookupFault}
 use Rattle.cl_members.specs.declared.fault.LookupFault.TheVariants as faults
 use Rattle.cl_findings.specs.Bases.{AreLineages}
 use Rattle.cl_findings.specs.Findings.{Based, NeedIsPlaced, Resolves, Rests, VerdictRests, loader_of, grounded_answer}
-use Rattle.cl_findings.specs.References.{AreAsked, EndsAtClass, EndsAtOnce, GoesTo, IsAtClass, IsAtOnce, IsLookupError, IsOfFound, asked_basis, class_basis, config_of, entry_basis, fault_verdict, index_of, member_basis, sprung_needs}
+use Rattle.cl_findings.specs.References.{AreAsked, EndsAtClass, EndsAtOnce, GoesTo, IsAtClass, IsAtOnce, IsLookupError, IsOfFound, asked_basis, class_basis, origin_config, entry_basis, fault_verdict, resolved_index, member_basis, sprung_needs}
 use Rattle.cl_findings.proofs.Files.{kept_lineage}
 use Rattle.cl_findings.proofs.Plain.{linkage_apart, reference_apart}
 
@@ -63,7 +63,7 @@ entry_ends : (config : Configured) (content : Content) (r : request.Request) (d 
     → recorded_definer s.records (loader_of r) d.class.name ≡ Some d.class.loader → EndsHere (world_of config content) s (request_of r) v
 entry_ends config content r d v s at spelt closed rec =
     let w = world_of config content in
-    let i = index_of r in
+    let i = resolved_index r in
     let k = kept_lineage config content s (loader_of r) d.class d.file closed rec spelt in
     let found : reference k.kin.file i ≡ reference (file_of d.file) i = ap (λ (f : File). reference f i) k.file_is in
     goes_to_end w s r d.class i (ended_with v) closed at.of rec (goes_at_once w s d.class k.kin i (reference (file_of d.file) i) v k.of found at.ends) tt
@@ -72,7 +72,7 @@ pub entry_rests : (told : Option Content) (config : Configured) (r : request.Req
     → Rests told (grounded_answer r v (entry_basis config r d.class))
 entry_rests None config r d v at spelt = tt
 entry_rests (Some content) config r d v at spelt = record {
-  apart = reference_apart r d.class (index_of r) v at.of;
+  apart = reference_apart r d.class (resolved_index r) v at.of;
   concludes = λ s closed grounds. entry_ends config content r d (verdict_of v) s at spelt closed grounds.needs.0;
 }
 
@@ -104,7 +104,7 @@ class_ends : (config : Configured) (content : Content) (r : request.Request) (d 
     → EndsHere (world_of config content) s (request_of r) v
 class_ends config content r d c v s at spelt other closed rec below =
     let w = world_of config content in
-    let i = index_of r in
+    let i = resolved_index r in
     let k = kept_lineage config content s (loader_of r) d.class d.file closed rec spelt in
     let l = kept_lineage config content s d.class.loader c.class c.file closed below other in
     let reachable : class_accessible l.kin.file.flags l.kin.class k.kin.class ≡ class_accessible (file_of c.file).flags c.class d.class =
@@ -120,7 +120,7 @@ pub class_entry_rests : (told : Option Content) (config : Configured) (r : reque
     → Rests told (grounded_answer r v (class_basis config r d.class c.class))
 class_entry_rests None config r d c v at spelt other = tt
 class_entry_rests (Some content) config r d c v at spelt other = record {
-  apart = reference_apart r d.class (index_of r) v at.of;
+  apart = reference_apart r d.class (resolved_index r) v at.of;
   concludes = λ s closed grounds. class_ends config content r d c (verdict_of v) s at spelt other closed grounds.needs.0 grounds.needs.1.0;
 }
 
@@ -185,22 +185,22 @@ fault_fails d c cited faults.NoSuchMethod v h e = failed (resolve_in d cited c) 
 fault_fails d c cited faults.WrongKind v h e = failed (resolve_in d cited c) (IncompatibleClassChange c.class) _ v h refl e
 fault_fails d c cited (faults.Inaccessible owner) v h e = failed (resolve_in d cited c) (IllegalAccess owner) _ v h refl e
 
-fault_ends : (content : Content) (r : request.Request) (d c : Lined) (v : verdict.Verdict) (s : State) → GoesTo r d c (index_of r) → IsLineageOf (Some content) d → IsLineageOf (Some content) c
-    → IsLookupError d c (index_of r) v → IsClosed (world_of d.config content) s → recorded_definer s.records (loader_of r) d.own.class.name ≡ Some d.own.class.loader
+fault_ends : (content : Content) (r : request.Request) (d c : Lined) (v : verdict.Verdict) (s : State) → GoesTo r d c (resolved_index r) → IsLineageOf (Some content) d → IsLineageOf (Some content) c
+    → IsLookupError d c (resolved_index r) v → IsClosed (world_of d.config content) s → recorded_definer s.records (loader_of r) d.own.class.name ≡ Some d.own.class.loader
     → recorded_definer s.records d.own.class.loader c.own.class.name ≡ Some c.own.class.loader → EndsHere (world_of d.config content) s (request_of r) (verdict_of v)
 fault_ends content r d c v s to lin other error closed rec below =
     let w = world_of d.config content in
     let cites = error.cites in
     let fails = fault_fails (kin_of d) (kin_of c) cites.cited error.fault v (error.lookup.found cites.cited cites.found) error.error in
-    let goes = member_goes content r d c (index_of r) cites.cited fails.made s to lin other cites.found cites.names fails.is closed below in
+    let goes = member_goes content r d c (resolved_index r) cites.cited fails.made s to lin other cites.found cites.names fails.is closed below in
     subst (λ (u : Verdict). EndsHere w s (request_of r) u) fails.ends
-    (goes_to_end w s r d.own.class (index_of r) fails.made closed to.of rec goes (subst (λ (ns : List Need). AllMet s ns) (sym fails.needs) tt))
+    (goes_to_end w s r d.own.class (resolved_index r) fails.made closed to.of rec goes (subst (λ (ns : List Need). AllMet s ns) (sym fails.needs) tt))
 
-pub fault_rests : (told : Option Content) (r : request.Request) (d c : Lined) (v : verdict.Verdict) → GoesTo r d c (index_of r) → IsLineageOf told d → IsLineageOf told c → IsLookupError d c (index_of r) v
+pub fault_rests : (told : Option Content) (r : request.Request) (d c : Lined) (v : verdict.Verdict) → GoesTo r d c (resolved_index r) → IsLineageOf told d → IsLineageOf told c → IsLookupError d c (resolved_index r) v
     → Rests told (grounded_answer r v (class_basis d.config r d.own.class c.own.class))
 fault_rests None r d c v to lin other error = tt
 fault_rests (Some content) r d c v to lin other error = record {
-  apart = reference_apart r d.own.class (index_of r) v to.of;
+  apart = reference_apart r d.own.class (resolved_index r) v to.of;
   concludes = λ s closed grounds. fault_ends content r d c v s to lin other error closed grounds.needs.0 grounds.needs.1.0;
 }
 
@@ -216,7 +216,7 @@ placed_reference w s r d i n is = subst (λ (q : request.Request). NeedIsPlaced 
 
 asked_rests_at : (content : Content) (r : request.Request) (from : Sprung) (needs : List Need) (k : ℕ) (need : rust.Need) → AreAsked r from → AreLineages (Some content) from → AreOf from needs
     → slice_get needs k ≡ Some (need_of need)
-    → VerdictRests (world_of (config_of from) content) r (verdicts.Linkage need) (record { config = config_of from; needs = sprung_needs r from ++ take k needs; prepared = []; refused = Some (need_of need) })
+    → VerdictRests (world_of (origin_config from) content) r (verdicts.Linkage need) (record { config = origin_config from; needs = sprung_needs r from ++ take k needs; prepared = []; refused = Some (need_of need) })
 asked_rests_at content r (OfPreparation at given) needs k need asked lin of is = absurd asked
 asked_rests_at content r (OfReference d c i) needs k need to lin of is = record {
   apart = linkage_apart r need;
@@ -236,7 +236,7 @@ asked_rests (Some content) r e k need asked lin of is = asked_rests_at content r
 
 -- what equalities of an entry rest on, so many of which are met
 abbrev pub asked_by : request.Request → Sprung → List Need → Option Need → Based
-asked_by r from met refused = record { config = config_of from; needs = sprung_needs r from ++ met; prepared = []; refused = refused }
+asked_by r from met refused = record { config = origin_config from; needs = sprung_needs r from ++ met; prepared = []; refused = refused }
 
 pub whole_taken : (ns : List Need) (n : ℕ) → n ≡ length ns → take n ns ≡ ns
 whole_taken [] zero e = refl

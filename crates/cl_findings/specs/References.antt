@@ -50,10 +50,10 @@ use Rattle.cl_members.specs.declared.fault.LookupFault.TheVariants as faults
 use Rattle.cl_findings.specs.Findings.{Based, Resolves, loader_of}
 
 -- the index of the entry that a request resolves; of another request it tells nothing (5.4.3)
-abbrev pub index_of : request.Request → ℕ
-index_of (requests.Load loader name) = 0
-index_of (requests.Resolve loader name i) = i
-index_of (requests.Link loader name) = 0
+abbrev pub resolved_index : request.Request → ℕ
+resolved_index (requests.Load loader name) = 0
+resolved_index (requests.Resolve loader name i) = i
+resolved_index (requests.Link loader name) = 0
 
 -- the record of the request's class (5.3)
 abbrev pub class_need : request.Request → Class → Need
@@ -74,8 +74,8 @@ EndsAtOnce (Some cited) v = (class_named cited ≡ None) × (v ≡ nameless cite
 
 -- the request's entry of the class of a row names no class, and so it ends (5.4.3)
 pub record IsAtOnce (r : request.Request) (d : Rowed) (v : Verdict) : Type 0 where
-  pub of : Resolves r d.class.name (index_of r)
-  pub ends : EndsAtOnce (reference (file_of d.file) (index_of r)) v
+  pub of : Resolves r d.class.name (resolved_index r)
+  pub ends : EndsAtOnce (reference (file_of d.file) (resolved_index r)) v
 
 -- what an accessible class that an entry names makes of it, where it is no member (5.4.3.1, 5.3.3)
 abbrev pub IsClassItself : Reference → Class → Verdict → Type 0
@@ -93,8 +93,8 @@ EndsAtClass true cited c v = IsClassItself cited c v
 -- the request's entry of the class d names the class c, and so it ends without a look at members
 -- (5.4.3.1, 5.4.4)
 pub record IsAtClass (r : request.Request) (d c : Rowed) (v : Verdict) : Type 0 where
-  pub of : Resolves r d.class.name (index_of r)
-  pub cites : CitesClass (file_of d.file) (index_of r) c.class.name
+  pub of : Resolves r d.class.name (resolved_index r)
+  pub cites : CitesClass (file_of d.file) (resolved_index r) c.class.name
   pub ends : EndsAtClass (row_accessible c d.class) cites.cited c.class v
 
 -- what an end of an entry rests on: the request's class is recorded (5.3)
@@ -157,9 +157,9 @@ AreAsked r (OfReference d c index) = GoesTo r d c index
 AreAsked r (OfPreparation at given) = ⊥
 
 -- the configuration of what a list of equalities was made from
-abbrev pub config_of : Sprung → Configured
-config_of (OfReference d c index) = d.config
-config_of (OfPreparation at given) = at.config
+abbrev pub origin_config : Sprung → Configured
+origin_config (OfReference d c index) = d.config
+origin_config (OfPreparation at given) = at.config
 
 -- the records of the classes that a list of equalities was made from (5.3, 5.4.3.1)
 abbrev pub sprung_needs : request.Request → Sprung → List Need
@@ -171,7 +171,7 @@ sprung_needs r (OfPreparation at given) = class_need r at.own.class ∷ []
 -- (5.3.4, 5.4.3)
 abbrev pub asked_basis : request.Request → Listed → ℕ → Option Need → Based
 asked_basis r e k refused = record {
-  config = config_of e.origin;
+  config = origin_config e.origin;
   needs = sprung_needs r e.origin ++ take k (imposed.needs_of e.needs);
   prepared = [];
   refused = refused;

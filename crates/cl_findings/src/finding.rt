@@ -36,9 +36,19 @@ impl<T: Told> Model for Finding<T> {
 
     ghost Value = { Answered };
 
-    ghost view = { λ f. record { request = f.request; answer = f.answer; basis = option_map (basis_of f.request) f.basis } };
+    ghost view = { λ f. record {
+      request = f.request;
+      answer = f.answer;
+      basis = option_map
+          (basis_of f.request) f.basis;
+    } };
 
-    ghost invariant = { λ f. Rests T.told (record { request = f.request; answer = f.answer; basis = option_map (basis_of f.request) f.basis }) };
+    ghost invariant = { λ f. Rests T.told (record {
+      request = f.request;
+      answer = f.answer;
+      basis =
+          option_map (basis_of f.request) f.basis;
+    }) };
 }
 
 impl<T: Told> Finding<T> {

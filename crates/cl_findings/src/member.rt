@@ -4,7 +4,7 @@ ghost use Rattle.std.specs.Prelude.{◌≡◌};
 ghost use Rattle.cl_model.specs.Views.{verdict_of};
 ghost use Rattle.cl_hierarchy.specs.Imposed.{OfReference};
 ghost use Rattle.cl_findings.specs.Findings.{grounded_answer};
-ghost use Rattle.cl_findings.specs.References.{GoesTo, IsOfFound, IsLookupError, class_basis, index_of, member_basis};
+ghost use Rattle.cl_findings.specs.References.{GoesTo, IsOfFound, IsLookupError, class_basis, resolved_index, member_basis};
 
 use crate::basis::Basis;
 use crate::finding::Finding;
@@ -45,8 +45,8 @@ impl<T: Told> Finding<T> {
         c: Lineage<T>,
         verdict: Verdict,
     ) -> Finding<T>
-        requires reference { GoesTo request d c (index_of request) }
-        requires lookup { IsLookupError d c (index_of request) verdict }
+        requires reference { GoesTo request d c (resolved_index request) }
+        requires lookup { IsLookupError d c (resolved_index request) verdict }
         ensures { result ≡ grounded_answer request verdict
             (class_basis d.config request d.own.class c.own.class) }
     {

@@ -78,7 +78,7 @@ pub record IsMadeOf (config : Configured) (rows : List Rowed) (c : Class) (l : L
   pub rows_are : AllByRecursion (IsRowIn rows) (rows_in l)
 
 -- the lineage of a class from these rows; a class without a row is unknown, and no other, and
--- memory is wanting for no such class (5.3.5)
+-- memory runs out for no such class (5.3.5)
 abbrev pub Makes : Configured → List Rowed → Class → Result Lined LineageFault → Type 0
 Makes config rows c (Ok l) = IsMadeOf config rows c l
 Makes config rows c (Err Unknown) = row_of rows c ≡ None

@@ -56,7 +56,12 @@ impl<T: Told> Model for Draft<T> {
 
     ghost view = { λ d. record { class = d.class; file = d.file.value; home = d.home.value } };
 
-    ghost invariant = { λ d. IsDraft T.told (record { class = d.class; file = d.file.value; home = d.home.value }) };
+    ghost invariant = { λ d. IsDraft T.told (record {
+      class = d.class;
+      file = d.file.value;
+      home =
+          d.home.value;
+    }) };
 }
 
 /// A home whose bytes are not its class.

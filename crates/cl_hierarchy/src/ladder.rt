@@ -42,9 +42,18 @@ impl<T: Told> Model for Ladder<T> {
 
     ghost Value = { Laddered };
 
-    ghost view = { λ x. record { config = x.config.value; rows = map (λ r. r.value) x.rows.items; marks = x.marks.items } };
+    ghost view = { λ x. record {
+      config = x.config.value;
+      rows = map (λ r. r.value) x.rows.items;
+      marks = x.marks.items;
+    } };
 
-    ghost invariant = { λ x. IsLadder T.told (record { config = x.config.value; rows = map (λ r. r.value) x.rows.items; marks = x.marks.items }) };
+    ghost invariant = { λ x. IsLadder T.told (record {
+      config = x.config.value;
+      rows = map (λ r.
+          r.value) x.rows.items;
+      marks = x.marks.items;
+    }) };
 }
 
 impl<T: Told> Ladder<T> {

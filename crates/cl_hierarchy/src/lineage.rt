@@ -60,7 +60,12 @@ impl<T: Told> Model for Lineage<T> {
 
     ghost Value = { Lined };
 
-    ghost view = { λ l. record { config = l.ladder.value.config; above = take l.place l.ladder.value.rows; own = l.own.value } };
+    ghost view = { λ l. record {
+      config = l.ladder.value.config;
+      above = take l.place
+          l.ladder.value.rows;
+      own = l.own.value;
+    } };
 
     ghost invariant = { λ l. IsOnLadder T.told l.ladder.value l.place l.own.value };
 }

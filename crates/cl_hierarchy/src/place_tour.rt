@@ -103,7 +103,13 @@ impl Model for PlaceTour {
 
     ghost Value = { Placed };
 
-    ghost view = { λ t. record { told = t.told.items; is_told = t.is_told.items; is_left = t.is_left.items; stack = t.stack.items } };
+    ghost view = { λ t. record {
+      told = t.told.items;
+      is_told = t.is_told.items;
+      is_left =
+          t.is_left.items;
+      stack = t.stack.items;
+    } };
 }
 
 /// Whether a place is marked; behind the last, true.

@@ -47,7 +47,8 @@ impl<T: Told> Model for ClassRow<T> {
 
     ghost view = { λ r. record { class = r.class; file = r.file.value; places = r.places.items } };
 
-    ghost invariant = { λ r. IsSpelt T.told r.class r.file.value × (length r.places.items ≡ length (supers (file_of r.file.value))) };
+    ghost invariant = { λ r. IsSpelt T.told r.class r.file.value × (length r.places.items ≡ length
+        (supers (file_of r.file.value))) };
 }
 
 impl<T: Told> ClassRow<T> {
@@ -66,7 +67,7 @@ impl<T: Told> ClassRow<T> {
           places = places.items;
         }) }
     {
-        // brings that the class is spelt by its file
+        // brings that the class is spelled by its file
         let _ = draft.home();
         let class = draft.class().try_clone(alloc)?;
         let file = Arc::try_clone(draft.file())?;

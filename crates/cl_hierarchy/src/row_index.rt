@@ -44,7 +44,8 @@ impl<'a, T: Told> Model for RowIndex<'a, T> {
 
     ghost view = { λ x. map (λ r. r.value) x.above.now ++ x.own.now.value ∷ [] };
 
-    ghost invariant = { λ x. IsRowIndexOf (λ r. r.value) x.table.entries (map (λ r. r.value) x.above.now ++ x.own.now.value ∷ []) };
+    ghost invariant = { λ x. IsRowIndexOf (λ r. r.value) x.table.entries (map (λ r. r.value)
+        x.above.now ++ x.own.now.value ∷ []) };
 }
 
 /// Puts a row in front of those that stand there.

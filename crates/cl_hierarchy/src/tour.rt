@@ -282,7 +282,8 @@ impl<T: Told> Tour<T> {
         wanted: bool,
     ) -> Result<(), AllocError>
         ensures { OnOk result (plain_tour self.new ≡ opening_unless_left order (F.rows table.now)
-            (after_telling (tells_before order wanted) (plain_tour self.old) row.now.value) row.now.value) }
+            (after_telling (tells_before order wanted) (plain_tour self.old) row.now.value)
+            row.now.value) }
     {
         self.tell_if(alloc, order.tells_before(wanted), row)?;
         if self.left.contains(row.class()) {

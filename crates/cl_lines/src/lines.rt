@@ -188,7 +188,7 @@ fn is_remark(word: &[u8]) -> bool
 
 /// What stands before the first such character, and what behind it: all and nothing where there is none.
 fn cut(text: &str, at: char) -> (&str, &str)
-    requires { at < 128 }
+    requires { at < 0x80 }
     ensures before { result.0.now ≡ before_first (λ b. b == at) text.now }
     ensures after { result.1.now ≡ after_first (λ b. b == at) text.now }
 {

@@ -45,6 +45,7 @@ pub fn field_symbol<'a, T: Told>(d: &'a Lineage<T>, c: &Lineage<T>, index: u16) 
     ensures { (t : FieldType) (key : Key) → reference (kin_of d.now).file index
         ≡ Some (ToField t key) → field_key (plain_symbol result) ≡ Some key }
 {
+    // the contract alone speaks of it
     let _ = c;
     match field_of(d.own().file().reference(index)) {
         Some(symbol) => symbol,
@@ -58,6 +59,7 @@ pub fn method_symbol<'a, T: Told>(d: &'a Lineage<T>, c: &Lineage<T>, index: u16)
     ensures { (t : FieldType) (key : Key) → reference (kin_of d.now).file index
         ≡ Some (ToMethod t key) → method_key (plain_symbol result) ≡ Some key }
 {
+    // the contract alone speaks of it
     let _ = c;
     match method_of(d.own().file().reference(index)) {
         Some(symbol) => symbol,
@@ -75,6 +77,7 @@ pub fn interface_method_symbol<'a, T: Told>(
     ensures { (t : FieldType) (key : Key) → reference (kin_of d.now).file index
         ≡ Some (ToInterfaceMethod t key) → method_key (plain_symbol result) ≡ Some key }
 {
+    // the contract alone speaks of it
     let _ = c;
     match interface_method_of(d.own().file().reference(index)) {
         Some(symbol) => symbol,

@@ -45,9 +45,25 @@ impl<T: Told> Model for Found<T> {
 
     ghost Value = { LocatedMember };
 
-    ghost view = { λ f. record { d = f.d; c = f.c; index = f.index; owner = f.owner.value; key = f.key; flags = f.flags } };
+    ghost view = { λ f. record {
+      d = f.d;
+      c = f.c;
+      index = f.index;
+      owner = f.owner.value;
+      key =
+          f.key;
+      flags = f.flags;
+    } };
 
-    ghost invariant = { λ f. IsLocated (record { d = f.d; c = f.c; index = f.index; owner = f.owner.value; key = f.key; flags = f.flags }) };
+    ghost invariant = { λ f. IsLocated (record {
+      d = f.d;
+      c = f.c;
+      index = f.index;
+      owner =
+          f.owner.value;
+      key = f.key;
+      flags = f.flags;
+    }) };
 }
 
 impl<T: Told> Found<T> {

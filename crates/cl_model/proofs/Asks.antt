@@ -12,7 +12,7 @@ use Rattle.cl_model.specs.Lineages.{Forest, Bare, Kin, alone, classes, postorder
 use Rattle.cl_model.specs.Preparation.{class_names, constraints_of, equals_of}
 use Rattle.cl_model.specs.Ancestors.{EachClassOnce}
 use Rattle.cl_model.specs.States.{Need, Entry, Equal, Verdict, IsField, IsMethod, IsLinked, Wrong}
-use Rattle.cl_model.specs.Works.{Work, Made, Ask, done, need, ask, or_fail, unless_wrong, of_result, after_made, go_on, ◌>>=◌}
+use Rattle.cl_model.specs.Works.{Work, Made, Ask, end_with, need, ask, or_fail, unless_wrong, of_result, after_made, go_on, ◌>>=◌}
 use Rattle.cl_model.specs.Plans.{initiating_needs, load_by, loads_above, derive_new, derive, load, class_named, inaccessible, resolve_found, resolve_field, resolve_method, resolve_in, through, resolve_named, flags_of, Request, Load, Resolve, Link, loaded_by, go_on_with, Plan, plan_after, plan_from, plan_needs, same_ask, distinct}
 use Rattle.cl_model.specs.Machine.{HasLineage, IsPlan}
 use Rattle.cl_model.proofs.Bind.{some_same, ok_same, step_is}
@@ -95,7 +95,7 @@ load_covers w d ih before absent loader name =
     let two = one ++ y.asked in
     covers_then two (d (class name place)) (loaded w loader name place) (ih two (class name place)) (λ k z hz ez.
     let three = two ++ z.asked in
-    covers_then three (need (initiating_needs loader name place)) (λ (b : Unit {0}). done k)
+    covers_then three (need (initiating_needs loader name place)) (λ (b : Unit {0}). end_with k)
     (need_covers three (initiating_needs loader name place) (initiating_asked three loader place name (loader == place)
     (subst (λ (l : List Ask). In a (((before ++ l) ++ y.asked) ++ z.asked)) (ap (λ (v : Made (Unit {0})). v.asked) (some_same _ x hx)) (asked_there before y.asked z.asked a))))
     (λ b v hv ev. none_covers (three ++ v.asked) _ refl))))
@@ -116,7 +116,7 @@ new_covers w d ih before c own =
     let two = one ++ u.asked in
     covers_then two (loads_above w d c (superinterfaces_of f)) (finished c f sup) (above_covers w d ih two c (superinterfaces_of f)) (λ ints v hv ev.
     let three = two ++ v.asked in
-    covers_then three (need (Entry c.loader c.name c.loader ∷ [])) (λ (b : Unit {0}). done (record { class = c; file = f; superclass = sup; interfaces = ints }))
+    covers_then three (need (Entry c.loader c.name c.loader ∷ [])) (λ (b : Unit {0}). end_with (record { class = c; file = f; superclass = sup; interfaces = ints }))
     (need_covers three (Entry c.loader c.name c.loader ∷ []) (in_left a two v.asked (in_left a one u.asked (in_left a before x.asked own)), tt))
     (λ b y hy ey. none_covers (three ++ y.asked) _ refl))))
 
@@ -144,7 +144,7 @@ equality_asked asks (Equal name a b ∷ ns) h = (tt, equality_asked asks ns h.1)
 found_covers : (before : List Ask) (d c owner : Kin) (member : Option Member) (key : Key) (v : Verdict) → Covers before (resolve_found d c owner member key v)
 found_covers before d c owner member key v =
     covers_then before (unless_wrong (if member_accessible d owner (flags_of member) c then None else Some (IllegalAccess owner.class))) (imposed_for d owner key v) (unless_covers before _) (λ a x hx ex.
-    covers_then (before ++ x.asked) (need (equals_of key owner.class.loader d.class.loader)) (λ (b : Unit {0}). done v)
+    covers_then (before ++ x.asked) (need (equals_of key owner.class.loader d.class.loader)) (λ (b : Unit {0}). end_with v)
     (need_covers (before ++ x.asked) (equals_of key owner.class.loader d.class.loader) (equality_asked (before ++ x.asked) _ (equals_are (class_names key.descriptor) owner.class.loader d.class.loader)))
     (λ b y hy ey. none_covers _ _ refl))
 
@@ -176,7 +176,7 @@ on_covers : (w : World) (n : ℕ) (before : List Ask) (q : Request) (k : Kin) �
 on_covers w n before (Load loader name) k = none_covers before _ refl
 on_covers w n before (Resolve loader name i) k = resolved_covers w n before k (reference k.file i)
 on_covers w n before (Link loader name) k =
-    covers_then before (need (flat_map constraints_of (lineage k))) (λ (a : Unit {0}). done (IsLinked k.class))
+    covers_then before (need (flat_map constraints_of (lineage k))) (λ (a : Unit {0}). end_with (IsLinked k.class))
     (need_covers before (flat_map constraints_of (lineage k)) (equality_asked before _ (flat_are constraints_of constraints_are (lineage k))))
     (λ a x hx ex. none_covers _ _ refl)
 

@@ -3,7 +3,7 @@ use Rattle.std.proofs.Common.{◌≡◌, ◌⊎◌, inl, inr, List, [], ◌++◌
 use Rattle.std.specs.Prelude.{option_map}
 use Rattle.cl_model.specs.Classes.{Error}
 use Rattle.cl_model.specs.States.{Need}
-use Rattle.cl_model.specs.Works.{Work, Made, Ask, or_fail, unless_wrong, of_result, done, after_made, go_on, ◌>>=◌}
+use Rattle.cl_model.specs.Works.{Work, Made, Ask, or_fail, unless_wrong, of_result, end_with, after_made, go_on, ◌>>=◌}
 
 pub some_same : {A : Type 0} (x y : A) → Some x ≡ Some y → x ≡ y
 some_same x y h = cc
@@ -107,11 +107,11 @@ result_ok r m x h k = (sym (step_is _ m h).1 ∙ k, (step_is _ m h).0)
 pub result_err : {A : Type 0} (r : Result A Error) (m : Made A) (e : Error) → of_result r ≡ Some m → m.ends ≡ Err e → r ≡ Err e
 result_err r m e h k = sym (step_is _ m h).1 ∙ k
 
-pub done_is : {A : Type 0} (x y : A) (m : Made A) → done x ≡ Some m → m.ends ≡ Ok y → (x ≡ y) × (m.needs ≡ [])
+pub done_is : {A : Type 0} (x y : A) (m : Made A) → end_with x ≡ Some m → m.ends ≡ Ok y → (x ≡ y) × (m.needs ≡ [])
 done_is x y m h k = (ok_same x y m.ends (step_is _ m h).1 k, (step_is _ m h).0)
 
 -- what ends well of itself, followed by its answer, does not end ill
-pub then_done_not : {B : Type 0} (ns : List Need) (asked : List Ask) (b : B) (m : Made B) (e : Error) → (Some (record { needs = ns; asked = asked; ends = Ok tt }) >>= (λ (x : Unit {0}). done b)) ≡ Some m → m.ends ≡ Err e → ⊥
+pub then_done_not : {B : Type 0} (ns : List Need) (asked : List Ask) (b : B) (m : Made B) (e : Error) → (Some (record { needs = ns; asked = asked; ends = Ok tt }) >>= (λ (x : Unit {0}). end_with b)) ≡ Some m → m.ends ≡ Err e → ⊥
 then_done_not ns asked b m e h k = ok_not_err b e m.ends (step_is _ m h).1 k
 
 -- ---- what pieces make

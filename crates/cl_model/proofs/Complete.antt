@@ -8,7 +8,7 @@ use Rattle.cl_model.specs.declared.class.Class.{Class}
 use Rattle.cl_model.specs.Classes.{class, same_class, Error, Above, is_among, NoClassDef, ClassCircularity, read_class, misfit, superclass_of, superinterfaces_of, HasFile, Fitting, FitsAt, Good}
 use Rattle.cl_model.specs.Lineages.{Bare, Tree, Kin}
 use Rattle.cl_model.specs.States.{Entry}
-use Rattle.cl_model.specs.Works.{Work, Made, done, need, ask, or_fail, unless_wrong, of_result, ◌>>=◌}
+use Rattle.cl_model.specs.Works.{Work, Made, end_with, need, ask, or_fail, unless_wrong, of_result, ◌>>=◌}
 use Rattle.cl_model.specs.Plans.{initiating_needs, load_by, loads_above, derive_new, derive}
 use Rattle.cl_model.proofs.Bind.{Ends, then_ends, ill_ends, at_once, or_fail_ends, unless_ends, some_same, ok_same}
 use Rattle.cl_model.proofs.Heights.{Reaches, derive_reaches, loaded, found, sought, grown, others_after, checked, finished, interfaces_next, superclass_next, circle_or}
@@ -62,7 +62,7 @@ load_either w n m path d ih absent loader name place f g =
     then_either w n path (ask loader name) (sought w d absent loader name) tt (at_once _)
     (then_either w n path (or_fail (absent (class name loader)) (home w loader name)) (found w d loader name) place (or_fail_ends (absent (class name loader)) (home w loader name) place f)
     (either_then w n path (d (class name place)) (loaded w loader name place) (ih (class name place) g) (λ k e.
-    inl (k, then_ends (need (initiating_needs loader name place)) (λ (b : Unit {0}). done k) tt (Ok k) (at_once _) (at_once _)))))
+    inl (k, then_ends (need (initiating_needs loader name place)) (λ (b : Unit {0}). end_with k) tt (Ok k) (at_once _) (at_once _)))))
 
 pub fits_still : (w : World) (c : Class) (a : Above) (s : Class) (k : Kin) → Fitting w c a.role None s → k.class ≡ s → HasFile w s k.file → misfit c a.role k.class k.file ≡ None
 fits_still w c a s k fit e h =
@@ -84,7 +84,7 @@ new_either w n m path d ih tells c g =
     (either_then w n path (loads_above w d c (superclass_of g.0)) (interfaces_next w d c g.0) (above_either w n m path d ih tells c (superclass_of g.0) (all_left (FitsAt w c (Good w m)) (superclass_of g.0) (superinterfaces_of g.0) g.2)) (λ sup e.
     either_then w n path (loads_above w d c (superinterfaces_of g.0)) (finished c g.0 sup) (above_either w n m path d ih tells c (superinterfaces_of g.0) (all_right (FitsAt w c (Good w m)) (superclass_of g.0) (superinterfaces_of g.0) g.2)) (λ ints e2.
     let k : Kin = record { class = c; file = g.0; superclass = sup; interfaces = ints } in
-    inl (k, then_ends (need (Entry c.loader c.name c.loader ∷ [])) (λ (b : Unit {0}). done k) tt (Ok k) (at_once _) (at_once _)))))
+    inl (k, then_ends (need (Entry c.loader c.name c.loader ∷ [])) (λ (b : Unit {0}). end_with k) tt (Ok k) (at_once _) (at_once _)))))
 
 upto_pred : (n m : ℕ) → Upto (suc n) m → Upto n m
 upto_pred n zero h = absurd (let e : suc n ≡ zero = h in cc)

@@ -7,7 +7,7 @@ use Rattle.cl_model.specs.declared.class.Class.{Class}
 use Rattle.cl_model.specs.Classes.{class, Error, Above, is_among, NoClassDef, ClassCircularity, read_class, misfit, superclass_of, superinterfaces_of, HasFile, FitsAt, Good}
 use Rattle.cl_model.specs.Lineages.{Forest, Tree, Kin}
 use Rattle.cl_model.specs.States.{Need, Entry}
-use Rattle.cl_model.specs.Works.{Work, Made, done, need, ask, or_fail, unless_wrong, of_result}
+use Rattle.cl_model.specs.Works.{Work, Made, end_with, need, ask, or_fail, unless_wrong, of_result}
 use Rattle.cl_model.specs.Plans.{initiating_needs, load_by, loads_above, derive_new, derive}
 use Rattle.cl_model.proofs.Bind.{ok_same, bind_ok, ok_not_err, step_is, or_fail_ok, unless_ok, result_ok, done_is, needs_two}
 use Rattle.cl_model.proofs.Heights.{loaded, found, sought, grown, others_after, checked, finished, interfaces_next, superclass_next, circle_or}
@@ -41,7 +41,7 @@ load_ok w d absent loader name m k h e =
     let asked = bind_ok (ask loader name) (sought w d absent loader name) m k h e in
     let at = bind_ok (or_fail (absent (class name loader)) (home w loader name)) (found w d loader name) asked.second k asked.next asked.ends in
     let derived = bind_ok (d (class name at.value)) (loaded w loader name at.value) at.second k at.next at.ends in
-    let recorded_at = bind_ok (need (initiating_needs loader name at.value)) (λ (b : Unit {0}). done derived.value) derived.second k derived.next derived.ends in
+    let recorded_at = bind_ok (need (initiating_needs loader name at.value)) (λ (b : Unit {0}). end_with derived.value) derived.second k derived.next derived.ends in
     let same = done_is derived.value k recorded_at.second recorded_at.next recorded_at.ends in
     let place = or_fail_ok (absent (class name loader)) (home w loader name) at.first at.value at.made at.ended in
     let last : derived.second.needs ≡ initiating_needs loader name at.value ++ [] = needs_two derived.second.needs recorded_at.first.needs recorded_at.second.needs (initiating_needs loader name at.value) [] recorded_at.needs (step_is _ recorded_at.first recorded_at.made).0 same.1 in
@@ -107,7 +107,7 @@ new_ok w d c m k h e =
     let file = result_ok (read_class w c) read.first read.value read.made read.ended in
     let up = bind_ok (loads_above w d c (superclass_of read.value)) (interfaces_next w d c read.value) read.second k read.next read.ends in
     let over = bind_ok (loads_above w d c (superinterfaces_of read.value)) (finished c read.value up.value) up.second k up.next up.ends in
-    let last = bind_ok (need (Entry c.loader c.name c.loader ∷ [])) (λ (b : Unit {0}). done (record { class = c; file = read.value; superclass = up.value; interfaces = over.value })) over.second k over.next over.ends in
+    let last = bind_ok (need (Entry c.loader c.name c.loader ∷ [])) (λ (b : Unit {0}). end_with (record { class = c; file = read.value; superclass = up.value; interfaces = over.value })) over.second k over.next over.ends in
     let same = done_is (record { class = c; file = read.value; superclass = up.value; interfaces = over.value }) k last.second last.next last.ends in
     let tail : over.second.needs ≡ Entry c.loader c.name c.loader ∷ [] = needs_two over.second.needs last.first.needs last.second.needs (Entry c.loader c.name c.loader ∷ []) [] last.needs (step_is _ last.first last.made).0 same.1 in
     record {

@@ -10,7 +10,7 @@ use Rattle.cl_model.specs.declared.class.Class.{Class}
 use Rattle.cl_model.specs.Classes.{class, Error, Above, is_among, ClassNotFound, NoClassDef, ClassCircularity, read_class, misfit, superclass_of, superinterfaces_of, supers, HasFile, AtHome, Fitting, FitsAt, Good, IsGood, FirstWrong, Next}
 use Rattle.cl_model.specs.Lineages.{Bare, Kin}
 use Rattle.cl_model.specs.States.{State, Need, Entry, Verdict, Wrong, Met, Keeps, AllMet, IsNext, IsRecorded}
-use Rattle.cl_model.specs.Works.{Work, Made, Ask, ask, need, done, or_fail, unless_wrong, of_result, ◌>>=◌}
+use Rattle.cl_model.specs.Works.{Work, Made, Ask, ask, need, end_with, or_fail, unless_wrong, of_result, ◌>>=◌}
 use Rattle.cl_model.specs.Plans.{initiating_needs, load_by, loads_above, derive_new, derive, load, Request, loaded_by, go_on_with, Plan, plan_after, plan_from, plan_needs, class_named, through, resolve_named, resolve, Resolve, ending_verdict}
 use Rattle.cl_model.specs.Machine.{Setting, IsPlan, AnswersPlan, IsClosed}
 use Rattle.cl_model.specs.Service.{IsNextNeed}
@@ -85,7 +85,7 @@ load_well w s d absent loader name place P at met h =
     then_well s (or_fail (absent (class name loader)) (home w loader name)) (found w d loader name) (λ y. y ≡ place) P (or_fail_well s (absent (class name loader)) (home w loader name) place at) (λ y e.
     subst (λ (z : ℕ). Every (found w d loader name z) (Well s P)) (sym e)
     (then_well s (d (class name place)) (loaded w loader name place) P P h (λ k p.
-    then_well s (need (initiating_needs loader name place)) (λ (b : Unit {0}). done k) Any P (well_once s Any _ tt refl (initiating_well s loader place name (loader == place) met) tt) (λ b v.
+    then_well s (need (initiating_needs loader name place)) (λ (b : Unit {0}). end_with k) Any P (well_once s Any _ tt refl (initiating_well s loader place name (loader == place) met) tt) (λ b v.
     well_once s P _ k refl tt p)))))
 
 derive_hits : (w : World) (s : State) (g : Aim) (n : ℕ) (path : List Class) (c : Class) → is_among path c ≡ false → ((j : ℕ) → Every (derive_new w (derive w j (c ∷ path)) c) (Hits s g)) → Every (derive w n path c) (Hits s g)
@@ -142,7 +142,7 @@ complete_hits w s d c f hf all =
     subst (λ (z : File). Every (superclass_next w d c z) (Hits s g)) (sym e)
     (then_hits s g (loads_above w d c (superclass_of f)) (interfaces_next w d c f) Any (above_well w s d c (superclass_of f) (all_left (Passes w s d c) (superclass_of f) (superinterfaces_of f) all)) (λ sup u.
     then_hits s g (loads_above w d c (superinterfaces_of f)) (finished c f sup) Any (above_well w s d c (superinterfaces_of f) (all_right (Passes w s d c) (superclass_of f) (superinterfaces_of f) all)) (λ ints v.
-    first_hits s g (need (n ∷ [])) (λ (b : Unit {0}). done (record { class = c; file = f; superclass = sup; interfaces = ints })) (need_next s n)))))
+    first_hits s g (need (n ∷ [])) (λ (b : Unit {0}). end_with (record { class = c; file = f; superclass = sup; interfaces = ints })) (need_next s n)))))
 
 -- ---- what was accepted passes
 
@@ -386,7 +386,7 @@ defined_is_next w s r absent xs al place an closed u at rec other =
     next_at w s (Entry al an place) r absent xs al an closed u (λ n here.
     load_hits w s g (derive w n path) (absent_under absent xs) al an place at
     (then_hits s g (derive w n path t) (loaded w al an place) (OfClass w t) (derive_well w s n path t closed rec (here place at)) (λ k o.
-    first_hits s g (need (initiating_needs al an place)) (λ (b : Unit {0}). done k)
+    first_hits s g (need (initiating_needs al an place)) (λ (b : Unit {0}). end_with k)
     (subst (λ (b : Bool). Every (need (if b then [] else Entry al an place ∷ [])) (Hits s g)) (sym (differ al place other (al == place) refl)) (need_next s (Entry al an place))))))
 
 -- ---- where it ends

@@ -7,7 +7,7 @@ use Rattle.cl_model.specs.declared.class.Class.{Class}
 use Rattle.cl_model.specs.Classes.{class, Error, Above, is_among, NoClassDef, ClassCircularity, read_class, misfit, superclass_of, superinterfaces_of}
 use Rattle.cl_model.specs.Lineages.{Forest, Tree, Kin}
 use Rattle.cl_model.specs.States.{Need, Entry}
-use Rattle.cl_model.specs.Works.{Work, Made, Ask, done, fail, need, ask, or_fail, unless_wrong, of_result, after_made, go_on, ◌>>=◌}
+use Rattle.cl_model.specs.Works.{Work, Made, Ask, end_with, fail, need, ask, or_fail, unless_wrong, of_result, after_made, go_on, ◌>>=◌}
 use Rattle.cl_model.specs.Plans.{initiating_needs, load_by, loads_above, derive_new, derive}
 
 -- what the first reaches, the second reaches
@@ -36,7 +36,7 @@ first_reaches a b f r = bind_reaches a b f f r (λ x m h. h)
 
 -- what follows a derivation in a load
 abbrev pub loaded : World → ℕ → Name → ℕ → Kin → Work Kin
-loaded w loader name place k = need (initiating_needs loader name place) >>= λ b. done k
+loaded w loader name place k = need (initiating_needs loader name place) >>= λ b. end_with k
 
 abbrev pub found : World → (Class → Work Kin) → ℕ → Name → ℕ → Work Kin
 found w d loader name place = d (class name place) >>= loaded w loader name place
@@ -52,7 +52,7 @@ load_reaches w d e r absent loader name =
 
 -- what follows the load of a supertype
 abbrev pub grown : Kin → Forest → Work Forest
-grown k ks = done (Tree k.class k.file k.superclass k.interfaces ks)
+grown k ks = end_with (Tree k.class k.file k.superclass k.interfaces ks)
 
 abbrev pub others_after : World → (Class → Work Kin) → Class → List Above → Kin → Unit {0} → Work Forest
 others_after w d c others k b = loads_above w d c others >>= grown k
@@ -68,7 +68,7 @@ above_reaches w d e r c (a ∷ others) =
     first_reaches (loads_above w d c others) (loads_above w e c others) (grown k) (above_reaches w d e r c others)))
 
 abbrev pub finished : Class → File → Forest → Forest → Work Kin
-finished c f sup ints = need (Entry c.loader c.name c.loader ∷ []) >>= λ b. done (record { class = c; file = f; superclass = sup; interfaces = ints })
+finished c f sup ints = need (Entry c.loader c.name c.loader ∷ []) >>= λ b. end_with (record { class = c; file = f; superclass = sup; interfaces = ints })
 
 abbrev pub interfaces_next : World → (Class → Work Kin) → Class → File → Forest → Work Kin
 interfaces_next w d c f sup = loads_above w d c (superinterfaces_of f) >>= finished c f sup

@@ -8,7 +8,7 @@ use Rattle.cl_model.specs.Classes.{Error, ClassNotFound, NoClassDef, NoSuchField
 use Rattle.cl_model.specs.Lineages.{Kin, field_of, method_of, lookup_field, lookup_method, lookup_interface_method, member_accessible}
 use Rattle.cl_model.specs.Preparation.{equals_of}
 use Rattle.cl_model.specs.States.{Verdict, BadEntry, Wrong, IsField, IsMethod}
-use Rattle.cl_model.specs.Works.{Work, Made, done, need, or_fail, unless_wrong, ◌>>=◌}
+use Rattle.cl_model.specs.Works.{Work, Made, end_with, need, or_fail, unless_wrong, ◌>>=◌}
 use Rattle.cl_model.specs.Plans.{derive, flags_of, load, class_named, inaccessible, resolve_found, resolve_field, resolve_method, resolve_in, through, resolve_named, resolve_reference, resolve, Request, Load, Resolve, Link, loaded_by, go_on_with, Plan, plan_after, plan_from, plan}
 use Rattle.cl_model.specs.Machine.{HasLineage, IsPlan, IsResolution}
 use Rattle.cl_model.proofs.Bind.{some_same}
@@ -34,7 +34,7 @@ one_value f g n h x y p q = elim (upto_total n h) [
 
 abbrev pub resolved : World → ℕ → Kin → Option Reference → Work Verdict
 resolved w n d o = elim o [
-  | None ↦ done BadEntry
+  | None ↦ end_with BadEntry
   | Some r ↦ resolve_reference w n d r
 ]
 
@@ -103,7 +103,7 @@ enough_done w absent loader name = load_done w (derive w (enough w) []) (derive_
 
 -- what follows in the resolution of a member
 abbrev pub imposed : Kin → Kin → Key → Verdict → Unit {0} → Work Verdict
-imposed d owner key v a = need (equals_of key owner.class.loader d.class.loader) >>= λ b. done v
+imposed d owner key v a = need (equals_of key owner.class.loader d.class.loader) >>= λ b. end_with v
 
 found_done : (d c owner : Kin) (found : Option Member) (key : Key) (v : Verdict) → Done (resolve_found d c owner found key v)
 found_done d c owner found key v = done_then (unless_wrong (if member_accessible d owner (flags_of found) c then None else Some (IllegalAccess owner.class))) (imposed d owner key v) (unless_done _) (λ a x. now _)

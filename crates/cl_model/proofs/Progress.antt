@@ -12,7 +12,7 @@ use Rattle.cl_model.specs.Classes.{class, Error, Above, is_among, ClassNotFound,
 use Rattle.cl_model.specs.Lineages.{Forest, Bare, Tree, Kin, StandsFor, IsLineage, alone, postorder, once_after, lineage, field_of, method_of, lookup_field, member_accessible, superinterfaces}
 use Rattle.cl_model.specs.Preparation.{equal_between, equals_of, equals_with, class_names, takes_part, overridden_superclasses, for_declared, for_inherited, inherited_from, with_inherited, constraints_of}
 use Rattle.cl_model.specs.States.{State, Need, Entry, Equal, Verdict, IsField, IsMethod, Met, AllMet, Wrong, IsNext, MayAdd, recorded_definer, IsRecorded, with_need}
-use Rattle.cl_model.specs.Works.{Work, Made, done, need, ask, or_fail, unless_wrong, of_result, ◌>>=◌}
+use Rattle.cl_model.specs.Works.{Work, Made, end_with, need, ask, or_fail, unless_wrong, of_result, ◌>>=◌}
 use Rattle.cl_model.specs.Plans.{initiating_needs, load_by, loads_above, derive_new, derive, load, class_named, inaccessible, resolve_found, resolve_field, resolve_method, resolve_in, through, resolve_named, resolve, flags_of, Request, Load, Resolve, Link, loaded_by, go_on_with, Plan, plan_after, plan_from, plan_needs}
 use Rattle.cl_model.specs.Machine.{Setting, Define, Initiate, May, IsClosed, HasLineage, IsPlan, step_for, after}
 use Rattle.cl_model.proofs.Bind.{pieces, some_same, or_fail_ok, result_ok, value_same}
@@ -109,7 +109,7 @@ load_makes g s P d r ih absent loader name =
     makes_then g s P (ask loader name) (sought g.world d absent loader name) (none_next g s P _ refl) (λ a x hx ex mx.
     makes_then g s P (or_fail (absent (class name loader)) (home g.world loader name)) (found g.world d loader name) (or_fail_makes g s P (absent (class name loader)) (home g.world loader name)) (λ place y hy ey my.
     makes_then g s P (d (class name place)) (loaded g.world loader name place) (ih (class name place)) (λ k z hz ez mz.
-    makes_then g s P (need (initiating_needs loader name place)) (λ (b : Unit {0}). done k)
+    makes_then g s P (need (initiating_needs loader name place)) (λ (b : Unit {0}). end_with k)
     (λ m h n p next may. initiate_may g s loader place name (loader == place) refl (or_fail_ok (absent (class name loader)) (home g.world loader name) y place hy ey).0 (r (class name place) z k hz ez mz) n (subst (λ (q : List Need). IsNext s q n) (ap (λ (q : Made (Unit {0})). q.needs) (sym (some_same _ m h))) next) may)
     (λ b u hu eu mu. none_next g s P _ refl))))
 
@@ -141,7 +141,7 @@ new_makes g s P n d r ih y c =
     makes_then g s P (of_result (read_class w c)) (superclass_next w d c) (none_next g s P _ refl) (λ f x hx ex mx.
     makes_then g s P (loads_above w d c (superclass_of f)) (interfaces_next w d c f) (above_makes g s P d r ih c (superclass_of f)) (λ sup u hu eu mu.
     makes_then g s P (loads_above w d c (superinterfaces_of f)) (finished c f sup) (above_makes g s P d r ih c (superinterfaces_of f)) (λ ints v hv ev mv.
-    makes_then g s P (need (Entry c.loader c.name c.loader ∷ [])) (λ (b : Unit {0}). done (record { class = c; file = f; superclass = sup; interfaces = ints }))
+    makes_then g s P (need (Entry c.loader c.name c.loader ∷ [])) (λ (b : Unit {0}). end_with (record { class = c; file = f; superclass = sup; interfaces = ints }))
     (λ m h t p next may. last f x hx ex sup u hu eu mu ints v hv ev mv m h t next may)
     (λ b z hz ez mz. none_next g s P _ refl))))
   where
@@ -210,7 +210,7 @@ equals_are (n ∷ names) a b = (equal_is n a b (nat_le a b), equals_are names a 
 found_makes : (g : Setting) (s : State) (d c owner : Kin) (member : Option Member) (key : Key) (v : Verdict) → Makes g s IsEntry (resolve_found d c owner member key v)
 found_makes g s d c owner member key v =
     makes_then g s IsEntry (unless_wrong (if member_accessible d owner (flags_of member) c then None else Some (IllegalAccess owner.class))) (imposed d owner key v) (unless_makes g s IsEntry _) (λ a x hx ex mx.
-    makes_then g s IsEntry (need (equals_of key owner.class.loader d.class.loader)) (λ (b : Unit {0}). done v)
+    makes_then g s IsEntry (need (equals_of key owner.class.loader d.class.loader)) (λ (b : Unit {0}). end_with v)
     (λ m h n p next may. absurd (never_both n p (next_is s IsEquality (equals_of key owner.class.loader d.class.loader) n (equals_are (class_names key.descriptor) owner.class.loader d.class.loader) (subst (λ (q : List Need). IsNext s q n) (ap (λ (q : Made (Unit {0})). q.needs) (sym (some_same _ m h))) next))))
     (λ b y hy ey my. none_next g s IsEntry _ refl))
 

@@ -6,7 +6,7 @@ use Rattle.cl_model.specs.Homes.{World, home}
 use Rattle.cl_model.specs.declared.class.Class.{Class}
 use Rattle.cl_model.specs.Classes.{class, Above, superclass_of, superinterfaces_of, read_class, HasFile, Fitting, FitsAt, Good}
 use Rattle.cl_model.specs.Lineages.{Forest, Bare, Tree, Kin, StandsFor, IsLineage}
-use Rattle.cl_model.specs.Works.{Work, Made, done}
+use Rattle.cl_model.specs.Works.{Work, Made, end_with}
 use Rattle.cl_model.specs.Plans.{loads_above, derive}
 use Rattle.cl_model.specs.Machine.{HasLineage}
 use Rattle.cl_model.proofs.Bind.{step_is, ok_same, value_same}
@@ -21,7 +21,7 @@ use Rattle.cl_model.proofs.Planned.{lineage_exists}
 abbrev Gives : World → (Class → Work Kin) → Type 0
 Gives w d = (s : Class) (m : Made Kin) (k : Kin) → d s ≡ Some m → m.ends ≡ Ok k → (k.class ≡ s) × IsLineage w k
 
-forest_is : (x y : Forest) (m : Made Forest) → done x ≡ Some m → m.ends ≡ Ok y → x ≡ y
+forest_is : (x y : Forest) (m : Made Forest) → end_with x ≡ Some m → m.ends ≡ Ok y → x ≡ y
 forest_is x y m h k = ok_same x y m.ends (step_is _ m h).1 k
 
 above_stands : (w : World) (d : Class → Work Kin) → Gives w d → (c : Class) (others : List Above) (m : Made Forest) (fs : Forest) → loads_above w d c others ≡ Some m → m.ends ≡ Ok fs → StandsFor w c fs others

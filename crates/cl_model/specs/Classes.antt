@@ -82,7 +82,8 @@ superclass_of f = map (λ n. record { name = n; role = AsSuperclass }) (option_t
 abbrev pub superinterfaces_of : File → List Above
 superinterfaces_of f = map (λ n. record { name = n; role = AsSuperinterface }) f.interfaces
 
--- the direct supertypes in the order in which they are loaded (5.3.5, steps 3 and 4)
+-- the direct supertypes in the order in which they are loaded
+-- (5.3.5, steps 3 and 4; own choice that the superclass of an interface is one like any other)
 abbrev pub supers : File → List Above
 supers f = superclass_of f ++ superinterfaces_of f
 
@@ -177,7 +178,7 @@ IsWalk w path c [] x = (is_among path c ≡ true) × (c ≡ x)
 IsWalk w path c (s ∷ steps) x = (is_among path c ≡ false) × Next w c s × IsWalk w (c ∷ path) s steps x
 
 -- a walk from c along first supertypes that are not good, after the classes of a path, meets x again:
--- x is the subject of the ClassCircularityError (5.3.5, steps 3 and 4)
+-- x is the subject of the ClassCircularityError (5.3.5, steps 3 and 4; own choice of the subject)
 pub record Returns (w : World) (path : List Class) (c x : Class) : Type 0 where
   pub steps : List Class
   pub along : IsWalk w path c steps x

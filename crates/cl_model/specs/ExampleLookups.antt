@@ -93,8 +93,8 @@ inherited = world_with_files (
     ∷ [])
 
 -- what this reference of p/U is resolved to in that world (5.4.3)
-abbrev pub from_u : ℕ → Option Verdict
-from_u i = ends_at inherited (resolve_of app "p/U" i)
+abbrev pub lookup : ℕ → Option Verdict
+lookup i = ends_at inherited (resolve_of app "p/U" i)
 
 -- p/P has m protected, s protected and static, k of package access and v private; p/Q and q/D are under it, q/E under
 -- q/D; p/R has m and s, both protected; q/D and p/R name these (5.4.4)

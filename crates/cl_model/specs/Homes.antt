@@ -53,7 +53,7 @@ abbrev pub first_home : (ℕ → Option ℕ) → List ℕ → Option ℕ
 first_home earlier [] = None
 first_home earlier (p ∷ ps) = option_or (earlier p) (first_home earlier ps)
 
--- only absence leads on: bytes of any kind are the answer (5.3.2)
+-- only absence leads on: bytes of any kind are the answer (own choice of delegation, 5.3.2)
 abbrev pub in_order : Order → Option ℕ → Option ℕ → Option ℕ
 in_order ParentFirst above own = option_or above own
 in_order ChildFirst above own = option_or own above

@@ -77,7 +77,7 @@ once ks = once_after [] ks
 abbrev pub superinterfaces : Kin → List Kin
 superinterfaces k = once (preorder k.interfaces true ++ preorder k.superclass false)
 
--- the classes of the list, each after its superclass's and its superinterfaces' lineages (5.4)
+-- the classes of the list, each after its superclass's and its superinterfaces' lineages (own choice of order, 5.4)
 abbrev pub postorder : Forest → List Kin
 postorder Bare = []
 postorder (Tree c f sup ints others) =
@@ -117,7 +117,7 @@ member_accessible d owner flags c =
 
 -- ---- lookup: the class that declares
 
--- in the class, its superinterfaces in file order, its superclass; and on through the list (5.4.3.2)
+-- in the class, its superinterfaces in file order, its superclass; and on through the list (own choice of file order, 5.4.3.2)
 abbrev pub field_among : Key → Forest → Option Kin
 field_among key Bare = None
 field_among key (Tree c f sup ints others) =
@@ -158,7 +158,7 @@ is_offered key k = offers (method_of k key)
 abbrev pub offering_superinterfaces : Kin → Key → List Kin
 offering_superinterfaces k key = filter (is_offered key) (superinterfaces k)
 
--- no other of them is a subinterface of this one (5.4.3.3)
+-- no other of them is a subinterface of this one (5.4.3.3; own choice that all that are offered are 'other' ones)
 abbrev pub is_maximal : List Kin → Kin → Bool
 is_maximal ks k = not (list_any (λ other. is_among (classes (superinterfaces other)) k.class) ks)
 

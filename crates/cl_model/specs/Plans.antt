@@ -9,28 +9,29 @@ use Rattle.cl_model.specs.Classes.{class, is_among, Error, ClassNotFound, NoClas
 use Rattle.cl_model.specs.Lineages.{Forest, Bare, Tree, Kin, first, lineage, field_of, method_of, member_accessible, lookup_field, lookup_method, lookup_interface_method}
 use Rattle.cl_model.specs.Preparation.{equals_of, constraints_of}
 use Rattle.cl_model.specs.States.{Need, Entry, Equal, entry_for, Verdict, IsClass, IsArrayOf, IsArrayOfBase, IsField, IsMethod, IsLinked, BadEntry, ArrayMember, Wrong}
-use Rattle.cl_model.specs.Works.{Work, Made, Ask, done, fail, need, ask, or_fail, unless_wrong, of_result, ◌>>=◌}
+use Rattle.cl_model.specs.Works.{Work, Made, Ask, end_with, fail, need, ask, or_fail, unless_wrong, of_result, ◌>>=◌}
 
 -- the record of a loader that is not the definer (5.3.1, 5.3.2)
 abbrev pub initiating_needs : ℕ → Name → ℕ → List Need
 initiating_needs loader name place = if loader == place then [] else Entry loader name place ∷ []
 
--- a load through a loader: its home, what deriving there needs, and the initiating record (5.3.2)
+-- a load through a loader: its home, what deriving there needs, and the initiating record
+-- (5.3.2; own choice that loaders which the search passed through get no record)
 abbrev pub load_by : World → (Class → Work Kin) → (Class → Error) → ℕ → Name → Work Kin
 load_by w derived absent loader name =
     ask loader name >>= λ a. or_fail (absent (class name loader)) (home w loader name)
     >>= λ place. derived (class name place)
     >>= λ k. need (initiating_needs loader name place)
-    >>= λ b. done k
+    >>= λ b. end_with k
 
 -- the loads of direct supertypes, each followed by the check that it fits (5.3.5, steps 3 and 4)
 abbrev pub loads_above : World → (Class → Work Kin) → Class → List Above → Work Forest
-loads_above w derived c [] = done Bare
+loads_above w derived c [] = end_with Bare
 loads_above w derived c (a ∷ others) =
     load_by w derived NoClassDef c.loader a.name
     >>= λ k. unless_wrong (misfit c a.role k.class k.file)
     >>= λ b. loads_above w derived c others
-    >>= λ ks. done (Tree k.class k.file k.superclass k.interfaces ks)
+    >>= λ ks. end_with (Tree k.class k.file k.superclass k.interfaces ks)
 
 -- the derivation of a class from its bytes, of the file, what stands above, and its record (5.3.5)
 abbrev pub derive_new : World → (Class → Work Kin) → Class → Work Kin
@@ -39,7 +40,7 @@ derive_new w derived c =
     >>= λ f. loads_above w derived c (superclass_of f)
     >>= λ sup. loads_above w derived c (superinterfaces_of f)
     >>= λ ints. need (entry_for c.loader c ∷ [])
-    >>= λ b. done (record { class = c; file = f; superclass = sup; interfaces = ints })
+    >>= λ b. end_with (record { class = c; file = f; superclass = sup; interfaces = ints })
 
 -- the derivation of a class within a height, while those of the list are being derived:
 -- one of them that is met again is its own supertype (5.3.5, step 3)
@@ -96,7 +97,7 @@ abbrev pub resolve_found : Kin → Kin → Kin → Option Member → Key → Ver
 resolve_found d c owner found key verdict =
     unless_wrong (if member_accessible d owner (flags_of found) c then None else Some (IllegalAccess owner.class))
     >>= λ a. need (equals_of key owner.class.loader d.class.loader)
-    >>= λ b. done verdict
+    >>= λ b. end_with verdict
 
 -- a field of c: lookup, then access and equality (5.4.3.2)
 abbrev pub resolve_field : Kin → Key → Kin → Work Verdict
@@ -114,7 +115,7 @@ resolve_method interface d key c =
 
 -- what d's reference is resolved to where the class that it names is c, and is accessible (5.4.3.1 to 5.4.3.4)
 abbrev pub resolve_in : Kin → Reference → Kin → Work Verdict
-resolve_in d (ToClass t) c = done (class_verdict t.dims c.class)
+resolve_in d (ToClass t) c = end_with (class_verdict t.dims c.class)
 resolve_in d (ToField t key) c = resolve_field d key c
 resolve_in d (ToMethod t key) c = resolve_method false d key c
 resolve_in d (ToInterfaceMethod t key) c = resolve_method true d key c
@@ -132,7 +133,7 @@ nameless (ToInterfaceMethod t key) = ArrayMember
 
 -- what a reference of d is resolved to, by the class that it names, if it names one (5.4.3.1 to 5.4.3.4)
 abbrev pub resolve_named : World → ℕ → Kin → Reference → Option Name → Work Verdict
-resolve_named w n d r None = done (nameless r)
+resolve_named w n d r None = end_with (nameless r)
 resolve_named w n d r (Some name) = load w n NoClassDef d.class.loader name >>= λ c. through d r c
 
 -- what a reference of d is resolved to (5.4.3.1 to 5.4.3.4)
@@ -142,7 +143,7 @@ resolve_reference w n d r = resolve_named w n d r (class_named r)
 -- the resolution of an entry of d's constant pool (5.4.3)
 abbrev pub resolve : World → ℕ → Kin → ℕ → Work Verdict
 resolve w n d i = elim (reference d.file i) [
-  | None ↦ done BadEntry
+  | None ↦ end_with BadEntry
   | Some r ↦ resolve_reference w n d r
 ]
 
@@ -162,9 +163,9 @@ loaded_by (Link loader name) = record { loader = loader; name = name }
 
 -- what follows once the class is loaded (5.4, 5.4.3)
 abbrev pub go_on_with : World → ℕ → Request → Kin → Work Verdict
-go_on_with w n (Load loader name) k = done (IsClass k.class)
+go_on_with w n (Load loader name) k = end_with (IsClass k.class)
 go_on_with w n (Resolve loader name i) k = resolve w n k i
-go_on_with w n (Link loader name) k = need (flat_map constraints_of (lineage k)) >>= λ a. done (IsLinked k.class)
+go_on_with w n (Link loader name) k = need (flat_map constraints_of (lineage k)) >>= λ a. end_with (IsLinked k.class)
 
 -- a request's needs: those of its own load, and those that follow; the class that it reaches, and its end (5.3 to 5.4.3)
 pub record Plan : Type 0 where

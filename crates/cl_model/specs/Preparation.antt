@@ -70,7 +70,8 @@ equals_of key a b = map (λ n. equal_between n a b) (class_names key.descriptor)
 abbrev pub equals_with : Key → ℕ → List Kin → List Need
 equals_with key loader ks = flat_map (λ k. equals_of key loader k.class.loader) ks
 
--- first half: for a method of c, what it overrides: superclasses, then superinterfaces (5.4.2)
+-- first half: for a method of c, what it overrides: superclasses, then superinterfaces
+-- (5.4.2; own choice for superinterfaces, and for the methods of an interface)
 abbrev pub for_declared : Kin → Member → List Need
 for_declared c m =
     if takes_part m.key c
@@ -78,7 +79,7 @@ for_declared c m =
     ++ equals_with m.key c.class.loader (filter (takes_part m.key) (superinterfaces c))
     else []
 
--- the nearest superclass that declares a method that is neither private nor static (5.4.2, 5.4.5)
+-- the nearest superclass that declares a method that is neither private nor static (5.4.2, 5.4.5; own choice)
 abbrev pub inherited_from : Kin → Key → Option Kin
 inherited_from c key = find (is_offered key) (superclasses c)
 
@@ -87,7 +88,8 @@ abbrev pub with_inherited : Key → Kin → Option Kin → List Need
 with_inherited key j None = []
 with_inherited key j (Some a) = equals_of key a.class.loader j.class.loader
 
--- second half: for a method of a superinterface j that the class c does not declare (5.4.2)
+-- second half: for a method of a superinterface j that the class c does not declare
+-- (5.4.2; own choice that a private or static method counts as declared)
 abbrev pub for_inherited : Kin → Kin → Member → List Need
 for_inherited c j m =
     if takes_part m.key j && not (is_some (method_of c m.key))

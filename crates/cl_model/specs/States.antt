@@ -23,7 +23,7 @@ pub data Verdict : Type 0 where
   Wrong : (error : Error) → Verdict
   Linkage : (refused : Need) → Verdict
 
--- what is posted: a verdict, or that memory or the source failed (own choice)
+-- what is posted: a verdict, or that memory or the source failed
 pub data Answer : Type 0 where
   Said : (verdict : Verdict) → Answer
   OutOfMemory : Answer
@@ -65,7 +65,7 @@ pub record State : Type 0 where
 abbrev pub start : State
 start = record { records = []; equalities = []; settled = []; prepared = []; answers = []; round = 0 }
 
--- of an answer with a verdict P holds of that; memory and the source are answers of their request alone (own choice)
+-- of an answer with a verdict P holds of that; memory and the source are answers of their request alone
 abbrev pub IfSaid : (Verdict → Type 0) → Answer → Type 0
 IfSaid P (Said v) = P v
 IfSaid P OutOfMemory = Unit {0}
@@ -104,7 +104,7 @@ abbrev pub IsPathBetween : List Equality → Name → ℕ → List ℕ → ℕ �
 IsPathBetween ks name a [] b = a ≡ b
 IsPathBetween ks name a (c ∷ cs) b = Linked ks name a c × IsPathBetween ks name c cs b
 
--- equalities join two loaders for a name; each is joined with itself (5.3.4)
+-- equalities join two loaders for a name; each is joined with itself (5.3.4; own choice for a loader with itself)
 pub record Joined (ks : List Equality) (name : Name) (a b : ℕ) : Type 0 where
   pub path : List ℕ
   pub along : IsPathBetween ks name a path b

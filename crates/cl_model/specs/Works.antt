@@ -20,8 +20,8 @@ abbrev pub Work : Type 0 → Type 0
 Work A = Option (Made A)
 
 -- an end, without a need
-abbrev pub done : {A : Type 0} → A → Work A
-done a = Some (record { needs = []; asked = []; ends = Ok a })
+abbrev pub end_with : {A : Type 0} → A → Work A
+end_with a = Some (record { needs = []; asked = []; ends = Ok a })
 
 -- an error, without a need (5.3.5, 5.4.3)
 abbrev pub fail : {A : Type 0} → Error → Work A
@@ -38,11 +38,11 @@ ask loader name = Some (record { needs = []; asked = record { loader = loader; n
 -- the end, or this error
 abbrev pub or_fail : {A : Type 0} → Error → Option A → Work A
 or_fail e None = fail e
-or_fail e (Some a) = done a
+or_fail e (Some a) = end_with a
 
 -- the error, if there is one
 abbrev pub unless_wrong : Option Error → Work (Unit {0})
-unless_wrong None = done tt
+unless_wrong None = end_with tt
 unless_wrong (Some e) = fail e
 
 -- a value, or its error

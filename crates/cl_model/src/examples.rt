@@ -9,7 +9,7 @@ ghost use Rattle.cl_model.specs.Lines.{line};
 ghost use Rattle.cl_model.specs.Examples.{boot, app, plug, kid, fifth, object, names, the_root, in_boot, in_app, in_plug, in_kid, in_fifth, taking_none, taking_t, an_int, an_array, int_letter, long_letter, load_of, resolve_of, link_of, entry, own, root_record, root_for, through_app, equal, same_t, same_v, same_both, ends_at, all_needs, HasBytes, Loads, LoadFails, LoadNeeds, ResolvesTo, ResolveNeeds, Links, LinkNeeds, Costs};
 ghost use Rattle.cl_model.specs.ExampleLoads.{copies, twice, bad, circle, missing, importing, imports, misfits, two_parents};
 ghost use Rattle.cl_model.specs.Lineages.{lineage, superclasses, superinterfaces};
-ghost use Rattle.cl_model.specs.ExampleLookups.{chosen_method, from_u, from_d, from_r, Orders};
+ghost use Rattle.cl_model.specs.ExampleLookups.{chosen_method, lookup, from_d, from_r, Orders};
 ghost use Rattle.cl_model.specs.ExampleReferences.{service, three_users, hidden, arrays, from_u, NeedsPast};
 ghost use Rattle.cl_model.specs.ExampleOverriding.{overriding, declared, through_kid, whole_lineage, three_loaders, packages};
 ghost use Rattle.cl_model.specs.ExampleRuns.{over, standing_after, AnswerIs, of_use, t_refused, kid_refused, both_defined, both_stand, constrained, across, in_rounds, two_rounds, serving, loading, resolving, linking, of_svc, unsettled, unprepared, unconstrained, end_state, resolved_in_kid, overridden_alone, below_hidden, joined_with_kid};
@@ -18,14 +18,18 @@ ghost use Rattle.cl_model.specs.ExampleTexts.{spaced, Prints, IsCalled, PrintsAn
 /// A search goes to the parent first, or to the own content first; a `java/` name is searched in
 /// the first loader alone; what an import takes hides the own content.
 pub fn probe_order()
+    // By the order of a loader; the platform's names.
     ensures parent_first { home copies kid (codes "p/T") ≡ Some app }
     ensures child_first { home copies plug (codes "p/T") ≡ Some plug }
     ensures platform { home copies plug object ≡ Some boot }
+    // Where nothing is found.
     ensures absent { home copies kid (codes "p/X") ≡ None }
     ensures no_loader { home copies fifth object ≡ None }
+    // By imports.
     ensures imported { home importing fifth (codes "q/X") ≡ Some boot }
     ensures hidden { home importing fifth (codes "q/Y") ≡ None }
     ensures not_imported { home importing fifth (codes "p/T") ≡ Some fifth }
+    // With two parents.
     ensures first_parent { home two_parents fifth (codes "p/T") ≡ Some app }
     ensures second_parent { home two_parents fifth (codes "p/V") ≡ Some plug }
     ensures platform_prefix { home two_parents app (codes "javax/T") ≡ Some app }
@@ -131,45 +135,51 @@ pub fn orders_of_ancestors()
 /// A method of a class is looked up in the superclasses and then in the superinterfaces, those of
 /// superclasses too, of which the most specific counts; private and static ones are not offered.
 pub fn methods_of_classes()
-    ensures of_superclass_interface { from_u 1 ≡ Some (IsMethod (in_app "p/J") (taking_none "m")) }
-    ensures of_superclass { from_u 2 ≡ Some (IsMethod (in_app "p/S") (taking_none "a")) }
-    ensures first_offered { from_u 4 ≡ Some (IsMethod (in_app "p/M") (taking_none "n")) }
-    ensures first_of_superclass { from_u 17 ≡ Some (IsMethod (in_app "p/M") (taking_none "n")) }
-    ensures private_method { from_u 5 ≡ Some (Wrong (NoSuchMethod (in_app "p/C"))) }
-    ensures static_method { from_u 6 ≡ Some (Wrong (NoSuchMethod (in_app "p/C"))) }
-    ensures absent { from_u 12 ≡ Some (Wrong (NoSuchMethod (in_app "p/C"))) }
-    ensures most_specific { from_u 14 ≡ Some (IsMethod (in_app "p/J") (taking_none "m")) }
+    // Where a method is found.
+    ensures of_superclass_interface { lookup 1 ≡ Some (IsMethod (in_app "p/J") (taking_none "m")) }
+    ensures of_superclass { lookup 2 ≡ Some (IsMethod (in_app "p/S") (taking_none "a")) }
+    ensures first_offered { lookup 4 ≡ Some (IsMethod (in_app "p/M") (taking_none "n")) }
+    ensures first_of_superclass { lookup 17 ≡ Some (IsMethod (in_app "p/M") (taking_none "n")) }
+    // Where none is.
+    ensures private_method { lookup 5 ≡ Some (Wrong (NoSuchMethod (in_app "p/C"))) }
+    ensures static_method { lookup 6 ≡ Some (Wrong (NoSuchMethod (in_app "p/C"))) }
+    ensures absent { lookup 12 ≡ Some (Wrong (NoSuchMethod (in_app "p/C"))) }
+    // The most specific of several.
+    ensures most_specific { lookup 14 ≡ Some (IsMethod (in_app "p/J") (taking_none "m")) }
 {}
 
 /// A field is looked up in the superclass too.
 pub fn fields_of_classes()
-    ensures of_superclass { from_u 3 ≡ Some (IsField (in_app "p/S") (an_int "y")) }
-    ensures absent { from_u 13 ≡ Some (Wrong (NoSuchField (in_app "p/C"))) }
+    ensures of_superclass { lookup 3 ≡ Some (IsField (in_app "p/S") (an_int "y")) }
+    ensures absent { lookup 13 ≡ Some (Wrong (NoSuchField (in_app "p/C"))) }
 {}
 
 /// An interface's method is looked up in it, among the public ones of the root, and in its
 /// superinterfaces; a class's method is asked of no interface.
 pub fn methods_of_interfaces()
-    ensures of_superinterface { from_u 7 ≡ Some (IsMethod (in_app "p/J") (taking_none "m")) }
-    ensures of_root { from_u 8 ≡ Some (IsMethod the_root (taking_none "h")) }
-    ensures own { from_u 9 ≡ Some (IsMethod (in_app "p/I") (taking_none "f")) }
-    ensures not_protected_of_root { from_u 10 ≡ Some (IsMethod (in_app "p/I") (taking_none "f")) }
-    ensures not_static_of_root { from_u 15 ≡ Some (Wrong (NoSuchMethod (in_app "p/K"))) }
-    ensures root_before_superinterfaces { from_u 16 ≡ Some (IsMethod the_root (taking_none "e")) }
-    ensures as_class { from_u 11 ≡ Some (Wrong (IncompatibleClassChange (in_app "p/K"))) }
+    ensures of_superinterface { lookup 7 ≡ Some (IsMethod (in_app "p/J") (taking_none "m")) }
+    ensures of_root { lookup 8 ≡ Some (IsMethod the_root (taking_none "h")) }
+    ensures own { lookup 9 ≡ Some (IsMethod (in_app "p/I") (taking_none "f")) }
+    ensures not_protected_of_root { lookup 10 ≡ Some (IsMethod (in_app "p/I") (taking_none "f")) }
+    ensures not_static_of_root { lookup 15 ≡ Some (Wrong (NoSuchMethod (in_app "p/K"))) }
+    ensures root_before_superinterfaces { lookup 16 ≡ Some (IsMethod the_root (taking_none "e")) }
+    ensures as_class { lookup 11 ≡ Some (Wrong (IncompatibleClassChange (in_app "p/K"))) }
 {}
 
 /// A protected member is open to subclasses, through classes of their own line; a static one
 /// through any; one of package access to its package, a private one to its class.
 pub fn access_from_another_package()
+    // Protected members of a superclass.
     ensures of_superclass { from_d 1 ≡ Some (IsMethod (in_app "p/P") (taking_none "m")) }
     ensures own { from_d 2 ≡ Some (IsMethod (in_app "p/P") (taking_none "m")) }
     ensures of_subclass { from_d 3 ≡ Some (IsMethod (in_app "p/P") (taking_none "m")) }
     ensures of_other_line { from_d 4 ≡ Some (Wrong (IllegalAccess (in_app "p/P"))) }
     ensures static_of_other_line { from_d 5 ≡ Some (IsMethod (in_app "p/P") (taking_none "s")) }
+    // Members of package access, and private ones.
     ensures of_package { from_d 6 ≡ Some (Wrong (IllegalAccess (in_app "p/P"))) }
     ensures private_method { from_d 7 ≡ Some (Wrong (IllegalAccess (in_app "p/P"))) }
     ensures own_private { from_d 8 ≡ Some (IsMethod (in_app "q/D") (taking_none "w")) }
+    // Protected members of a class that is no superclass.
     ensures of_stranger { from_d 9 ≡ Some (Wrong (IllegalAccess (in_app "p/R"))) }
     ensures static_of_stranger { from_d 10 ≡ Some (Wrong (IllegalAccess (in_app "p/R"))) }
 {}
@@ -317,29 +327,37 @@ pub fn constraint_across_three()
 /// The line of each kind of step; a settled reference, a post and a round have none.
 #[tactic(auto, unfolding(cl_names::specs::Escape::escaped_text, cl_names::specs::Escape::units_of))]
 pub fn printed_steps()
+    // Those that have a line.
     ensures define { PrintsStep (Define the_root) "define java/lang/Object@boot" }
     ensures initiate { PrintsStep (Initiate (codes "p/T") app plug) "initiate p/T app by plug" }
     ensures constrain { PrintsStep (Constrain (codes "p/T") app plug) "constrain p/T app plug" }
     ensures prepare { PrintsStep (Prepare (in_app "p/A")) "prepare p/A@app" }
+    // Those that have none.
     ensures settle { line names (Settle (in_app "p/A") 1 BadEntry) ≡ None }
     ensures posted { line names (Post 0 OutOfMemory) ≡ None }
     ensures next_round { line names NextRound ≡ None }
     ensures stray { line names Stray ≡ None }
+    // A name that is escaped.
     ensures escaped_name { PrintsStep (Define (in_kid "p/A B")) "define p/A\\u0020B@kid" }
 {}
 
 /// The text of each kind of verdict that is no error.
 #[tactic(auto, unfolding(cl_names::specs::Escape::escaped_text, cl_names::specs::Escape::units_of))]
 pub fn printed_verdicts()
+    // Classes and arrays.
     ensures of_class { Prints (IsClass (in_plug "p/T")) "class p/T@plug" }
     ensures array { Prints (IsArrayOf 2 (in_app "p/T")) "array 2 p/T@app" }
     ensures base_array { Prints (IsArrayOfBase 1 int_letter) "array 1 I" }
+    // Members.
     ensures field { Prints (IsField (in_app "p/F") (an_array "x")) "field p/F@app x [Lp/T;" }
     ensures method { Prints of_svc "method p/Svc@app m (Lp/T;)V" }
     ensures escaped { Prints (IsField (in_app "F") spaced) "field F@app x\\u0020y Lp/A\\u0020B;" }
+    // A link.
     ensures linked { Prints (IsLinked (in_plug "q/A")) "linked q/A@plug" }
+    // What no reference is resolved to.
     ensures bad_entry { Prints BadEntry "BadEntry" }
     ensures array_member { Prints ArrayMember "ArrayMember" }
+    // Refused needs.
     ensures record { Prints (Linkage (entry plug "p/T" app)) "LinkageError record p/T@plug" }
     ensures equality { Prints (Linkage (same_t app plug)) "LinkageError equal p/T app plug" }
 {}
@@ -347,7 +365,9 @@ pub fn printed_verdicts()
 /// The text of each error: its name, and the class that it is about.
 #[tactic(auto, unfolding(cl_names::specs::Escape::escaped_text, cl_names::specs::Escape::units_of))]
 pub fn printed_errors()
+    // A whole text.
     ensures whole { Prints (Wrong (ClassNotFound (in_kid "p/T"))) "ClassNotFoundException p/T@kid" }
+    // The names.
     ensures not_found { IsCalled ClassNotFound "ClassNotFoundException" }
     ensures no_definition { IsCalled NoClassDef "NoClassDefFoundError" }
     ensures format { IsCalled ClassFormat "ClassFormatError" }
@@ -372,11 +392,14 @@ pub fn printed_answers()
 /// A request is answered in its round, once; the next round begins when all of this one are
 /// answered, if there is one, also where no request is of it.
 pub fn round_discipline()
+    // What may not be done at first.
     ensures early { MayPost in_rounds start 1 OutOfMemory → ⊥ }
     ensures no_request { MayPost in_rounds start 9 OutOfMemory → ⊥ }
     ensures unanswered { MayGoOn in_rounds start → ⊥ }
+    // A post, and a second one.
     ensures posted { MayPost in_rounds start 0 OutOfMemory }
     ensures again { MayPost in_rounds (after start (Post 0 OutOfMemory)) 0 OutOfMemory → ⊥ }
+    // The next round.
     ensures next { MayGoOn in_rounds (after start (Post 0 OutOfMemory)) }
     ensures empty_next { MayGoOn in_rounds (standing_after two_rounds) }
     ensures no_next { MayGoOn in_rounds (standing_after (two_rounds ++ NextRound ∷ [])) → ⊥ }
@@ -409,12 +432,15 @@ pub fn needs_in_order()
 /// No step is taken before what it rests on: supertypes, records, constraints, and for an answer
 /// the settled reference or the prepared class.
 pub fn steps_too_early()
+    // Records and equalities.
     ensures define { MayDefine serving start (in_app "p/Svc") → ⊥ }
     ensures initiate { MayInitiate serving start object boot app → ⊥ }
     ensures constrain { MayConstrain serving start (codes "p/T") app plug → ⊥ }
+    // A settled reference, and the answer that it gives.
     ensures settle { MaySettle serving (standing_after loading) (in_plug "p/Use") 1 of_svc → ⊥ }
     ensures settle_unrecorded { MaySettle serving start (in_plug "p/Use") 1 of_svc → ⊥ }
     ensures resolve { MayPost serving unsettled 0 (Said of_svc) → ⊥ }
+    // A prepared class, and the answer that it gives.
     ensures prepare_unrecorded { MayPrepare serving start the_root → ⊥ }
     ensures prepare_below { MayPrepare serving unsettled (in_plug "p/Use") → ⊥ }
     ensures prepare_unconstrained { MayPrepare serving unconstrained (in_plug "p/Use") → ⊥ }

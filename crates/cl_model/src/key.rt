@@ -31,9 +31,11 @@ impl Model for MemberKey {
 impl PartialEq for MemberKey {
     ghost use Rattle.std.specs.Cmp.{and_equiv, on_equiv, partial_equiv_from_equiv};
 
-    ghost eq = { eq_of_both (on (λ k. k.name) (pointwise nat_eq)) (on (λ k. spelling_of k.descriptor) (pointwise nat_eq)) };
+    ghost eq = { eq_of_both (on (λ k. k.name) (pointwise nat_eq)) (on (λ k. spelling_of
+        k.descriptor) (pointwise nat_eq)) };
 
-    ghost laws = { partial_equiv_from_equiv (and_equiv (on_equiv (λ k. k.name) nat_list_eq_equiv) (on_equiv (λ k. spelling_of k.descriptor) nat_list_eq_equiv)) };
+    ghost laws = { partial_equiv_from_equiv (and_equiv (on_equiv (λ k. k.name) nat_list_eq_equiv)
+        (on_equiv (λ k. spelling_of k.descriptor) nat_list_eq_equiv)) };
 
     #[tactic(auto, using(crate::proofs::Keys::spelled_again))]
     fn eq(&self, other: &MemberKey) -> bool {
@@ -44,7 +46,8 @@ impl PartialEq for MemberKey {
 impl Eq for MemberKey {
     ghost use Rattle.std.specs.Cmp.{and_equiv, on_equiv};
 
-    ghost laws = { and_equiv (on_equiv (λ k. k.name) nat_list_eq_equiv) (on_equiv (λ k. spelling_of k.descriptor) nat_list_eq_equiv) };
+    ghost laws = { and_equiv (on_equiv (λ k. k.name) nat_list_eq_equiv) (on_equiv (λ k. spelling_of
+        k.descriptor) nat_list_eq_equiv) };
 }
 
 impl MemberKey {

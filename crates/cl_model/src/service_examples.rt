@@ -22,9 +22,11 @@ pub fn rounds_between_services()
     ensures last { BothServed (
         NextRound ∷ failed_post 0 ∷ NextRound ∷ NextRound ∷ failed_post 1 ∷ []) → ⊥ }
     ensures past_last { BothServed (
-        NextRound ∷ failed_post 0 ∷ NextRound ∷ NextRound ∷ failed_post 1 ∷ NextRound ∷ NextRound ∷ []) → ⊥ }
+        NextRound ∷ failed_post 0 ∷ NextRound ∷ NextRound ∷ failed_post 1 ∷ NextRound ∷ NextRound
+        ∷ []) → ⊥ }
     ensures out_of_turn { BothServed (
-        NextRound ∷ failed_post 1 ∷ failed_post 0 ∷ NextRound ∷ NextRound ∷ failed_post 1 ∷ NextRound ∷ []) → ⊥ }
+        NextRound ∷ failed_post 1 ∷ failed_post 0 ∷ NextRound ∷ NextRound ∷ failed_post 1
+        ∷ NextRound ∷ []) → ⊥ }
 {}
 
 /// A reference is resolved in the first round, and in the second its class linked, and an entry

@@ -1,4 +1,4 @@
--- What stands for a long name in the hash of a table: own choice, no answer depends on it.
+-- What stands for a long name in the hash of a table: no answer depends on it.
 use Rattle.std.specs.Prelude.{◌≡◌, ◌≤◌, ℕ, ◌+◌, Bool, nat_lt, if◌then◌else◌, List, ◌∷◌, ◌++◌, length, take}
 use Rattle.std.specs.Hash as fed
 use Rattle.std.specs.Hash.DefaultHasher as sip

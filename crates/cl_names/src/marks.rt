@@ -60,8 +60,8 @@ fn marks_at(byte: u8) -> u8
     ensures single { lacks 0 result ≡ is_single byte }
     ensures plain { lacks 1 result ≡ not (is_angle byte) }
     ensures allowed { lacks 2 result ≡ is_allowed byte }
-    ensures slash { lacks 3 result ≡ not (byte == 47) }
-    ensures parted { lacks 4 result ≡ is_allowed byte || byte == 47 }
+    ensures slash { lacks 3 result ≡ not (byte == 0x2f) }
+    ensures parted { lacks 4 result ≡ is_allowed byte || byte == 0x2f }
 {
     MARKS[byte as usize]
 }

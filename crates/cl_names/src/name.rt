@@ -52,7 +52,9 @@ impl Model for Name {
 
     ghost view = { λ n. part_of n.start n.len (arc_slice_items n.bytes) };
 
-    ghost invariant = { λ n. IsModifiedUtf8 (part_of n.start n.len (arc_slice_items n.bytes)) × (n.start + n.len ≤ length (arc_slice_items n.bytes)) × (MOST_SHARED_BYTES < n.len → KeepsLong n.start n.len n.front (arc_slice_items n.bytes)) };
+    ghost invariant = { λ n. IsModifiedUtf8 (part_of n.start n.len (arc_slice_items n.bytes)) ×
+        (n.start + n.len ≤ length (arc_slice_items n.bytes)) × (MOST_SHARED_BYTES < n.len →
+        KeepsLong n.start n.len n.front (arc_slice_items n.bytes)) };
 }
 
 impl PartialEq for Name {
@@ -269,7 +271,7 @@ impl Name {
     /// The package of a class's name: what stands before the last `/`, nothing where there is none
     /// (JVMS SE 8, 5.3).
     pub fn package(&self) -> &[u8]
-        ensures before { (front last : List ℕ) → self.now ≡ front ++ 47 ∷ last → HasNoSlash last
+        ensures before { (front last : List ℕ) → self.now ≡ front ++ 0x2f ∷ last → HasNoSlash last
             → result.now ≡ front }
         ensures none { HasNoSlash self.now → result.now ≡ [] }
         ensures value { result.now ≡ package_of self.now }

@@ -10,7 +10,7 @@ use Rattle.atomic_table.proofs.Lists.{at_set, at_snoc, set_again}
 use Rattle.cl_pool.specs.declared.hand.Hand.{Hand}
 use Rattle.cl_pool.specs.declared.hand.Bounds.{Bounds}
 use Rattle.cl_schedule.specs.Serving.{HasEachBelow, once_below, times}
-use Rattle.cl_pool.specs.Numbers.{past, AllBelow, new_hand, one_split_less, with_number, both, spent, IsFair, IsShared, DrawsNumber, LooksAt, Drawn, PlaysDraw, PlaysLook}
+use Rattle.cl_pool.specs.Numbers.{past, AllBelow, new_hand, one_split_less, after_draw, both, spent, IsFair, IsShared, DrawsNumber, LooksAt, Drawn, PlaysDraw, PlaysLook}
 use Rattle.cl_pool.specs.declared.limits.TheConstants.{MOST_WORKERS}
 
 -- a total after one view has changed
@@ -92,16 +92,16 @@ all_here k id n v views whole at h x =
     sym (total_here (λ u. times x u.drawn) (λ u. u.parts + u.splits) views id v at (h.whole ∙ sym whole)
     (λ i u e none. ap (times x) ((h.each i u e).empty (omega arith)))) ∙ h.once x
 
-number_more : (v : Hand) (n : ℕ) → HasEachBelow n v.drawn → HasEachBelow (n + 1) (with_number v n).drawn
+number_more : (v : Hand) (n : ℕ) → HasEachBelow n v.drawn → HasEachBelow (n + 1) (after_draw v n).drawn
 number_more v n each x =
-    let t : times x (with_number v n).drawn ≡ times x v.drawn + cond (n == x) 1 0 = sum_by_push (λ y. cond (y == x) 1 0) v.drawn n in
+    let t : times x (after_draw v n).drawn ≡ times x v.drawn + cond (n == x) 1 0 = sum_by_push (λ y. cond (y == x) 1 0) v.drawn n in
     let o = once_more x n in
     let e = each x in
     omega arith
 
-draws_shared : (k : Bounds) (id n : ℕ) (v : Hand) (views : List Hand) → past k.requests v.drawn < v.parts → get_elem? views id ≡ some v → IsShared k n views → IsShared k (n + 1) (set views id (with_number v n))
+draws_shared : (k : Bounds) (id n : ℕ) (v : Hand) (views : List Hand) → past k.requests v.drawn < v.parts → get_elem? views id ≡ some v → IsShared k n views → IsShared k (n + 1) (set views id (after_draw v n))
 draws_shared k id n v views may at h =
-    let w = with_number v n in
+    let w = after_draw v n in
     let more : past k.requests w.drawn ≡ past k.requests v.drawn + cond (nat_le k.requests n) 1 0 = sum_by_push (λ y. cond (nat_le k.requests y) 1 0) v.drawn n in
     let one : cond (nat_le k.requests n) 1 0 ≤ 1 = grind (arith, nat_tests) in
     let step : n + 1 - k.requests ≡ n - k.requests + cond (nat_le k.requests n) 1 0 = grind (arith, nat_tests) in
@@ -159,9 +159,9 @@ joins_shared k id n v other w views at apart there h =
 -- a seat that drew a number of the script may draw again
 pub may_again : (v w : Hand) (n requests : ℕ) → DrawsNumber v w n → v.of.requests ≡ requests → n < requests → past v.of.requests v.drawn < v.parts → past w.of.requests w.drawn < w.parts
 may_again v w n requests drew is below may =
-    let more : past v.of.requests (with_number v n).drawn ≡ past v.of.requests v.drawn + cond (nat_le v.of.requests n) 1 0 = sum_by_push (λ y. cond (nat_le v.of.requests y) 1 0) v.drawn n in
+    let more : past v.of.requests (after_draw v n).drawn ≡ past v.of.requests v.drawn + cond (nat_le v.of.requests n) 1 0 = sum_by_push (λ y. cond (nat_le v.of.requests y) 1 0) v.drawn n in
     let less : n < v.of.requests = omega arith in
-    let same : past v.of.requests (with_number v n).drawn ≡ past v.of.requests v.drawn = more ∙ ap (λ (k : ℕ). past v.of.requests v.drawn + k) (not_past v.of.requests n less) ∙ none_more _ in
+    let same : past v.of.requests (after_draw v n).drawn ≡ past v.of.requests v.drawn = more ∙ ap (λ (k : ℕ). past v.of.requests v.drawn + k) (not_past v.of.requests n less) ∙ none_more _ in
     subst (λ (h : Hand). past h.of.requests h.drawn < h.parts) (sym drew.hand) (subst (λ (k : ℕ). k < v.parts) (sym same) may)
   where
     not_past : (r n : ℕ) → n < r → cond {A = ℕ} (nat_le r n) 1 0 ≡ 0
@@ -177,7 +177,7 @@ module _ {S : Type 0} where
   draws k slots id me st small few of may s h len at fits =
       let v = me.0 in
       let n : ℕ = h.0 in
-      let w = with_number v n in
+      let w = after_draw v n in
       let bound : n ≤ k.requests + k.workers = word_le k n s.views h.2 in
       let next : (n + 1) % 2 ^ 64 ≡ n + 1 = mod-eq_of_lt (omega arith) in
       let told : DrawsNumber v w n = record {

@@ -30,8 +30,8 @@ abbrev pub one_split_less : Hand → Hand
 one_split_less v = record { of = v.of; drawn = v.drawn; parts = v.parts; splits = v.splits - 1 }
 
 -- what a seat knows once it has drawn this number
-abbrev pub with_number : Hand → ℕ → Hand
-with_number v n = record { of = v.of; drawn = v.drawn ++ n ∷ []; parts = v.parts; splits = v.splits }
+abbrev pub after_draw : Hand → ℕ → Hand
+after_draw v n = record { of = v.of; drawn = v.drawn ++ n ∷ []; parts = v.parts; splits = v.splits }
 
 -- what a seat knows once it took another in
 abbrev pub both : Hand → Hand → Hand
@@ -64,7 +64,7 @@ pub record IsShared (k : Bounds) (n : ℕ) (views : List Hand) : Type 0 where
 -- what a seat is told that drew a number: it had lower ones alone, the number is below the requests and workers, and a seat
 -- that stands for all has each number up to it once
 pub record DrawsNumber (v w : Hand) (n : ℕ) : Type 0 where
-  pub hand : w ≡ with_number v n
+  pub hand : w ≡ after_draw v n
   pub later : AllBelow n v.drawn
   pub most : n < v.of.requests + v.of.workers
   pub all : StandsForAllSeats v → HasEachBelow (n + 1) w.drawn

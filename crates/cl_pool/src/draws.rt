@@ -48,7 +48,8 @@ impl Model for Seat {
 
     ghost view = { λ s. record { word = s.token.table_id; hand = s.token.me.0 } };
 
-    ghost invariant = { λ s. (s.token.me.1 ≡ []) × (s.token.me.0.splits ≡ s.splits) × (s.splits ≤ MOST_WORKERS) };
+    ghost invariant = { λ s. (s.token.me.1 ≡ []) × (s.token.me.0.splits ≡ s.splits) × (s.splits ≤
+        MOST_WORKERS) };
 }
 
 /// The numbers below the count of requests, each for one seat, whatever threads the seats are in. No call waits.
@@ -75,7 +76,8 @@ impl Model for Draws {
 
     ghost view = { λ d. record { word = d.table.shared.table_id; of = d.bounds } };
 
-    ghost invariant = { λ d. (d.table.shared.table_id.words ≡ 1) × (d.table.shared.key ≡ d.bounds) × (d.bounds.workers ≤ MOST_WORKERS) × (d.bounds.requests < 2 ^ 32) };
+    ghost invariant = { λ d. (d.table.shared.table_id.words ≡ 1) × (d.table.shared.key ≡ d.bounds) ×
+        (d.bounds.workers ≤ MOST_WORKERS) × (d.bounds.requests < 2 ^ 32) };
 }
 
 impl Draws {

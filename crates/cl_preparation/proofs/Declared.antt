@@ -13,7 +13,7 @@ use Rattle.cl_classfile.specs.Lookups.{method_named}
 use Rattle.cl_model.specs.Lineages.{if_declared, is_virtual}
 use Rattle.std.proofs.lemmas.List.{take_more}
 use Rattle.std.proofs.lemmas.List.Elements.{All-from_recursion, All-get_or, filter_map-append}
-use Rattle.cl_preparation.specs.Methods.{IsTyped, is_wide}
+use Rattle.cl_preparation.specs.Methods.{IsTyped, is_public_or_protected}
 
 typed_by : (pool : List Entry) (b : Bool) (m : MemberInfo) → KeepsMethod pool b m → IsTyped pool m
 typed_by pool b m k = record {
@@ -44,17 +44,17 @@ flags_hide (Some m) r e b none some = some m.flags e
 
 -- whether a method is open, if it is declared and takes part
 pub flags_opened : (o : Option files.Member) (special : Bool) (f : Option ℕ) (r : Option Bool) → f ≡ option_map (λ m. m.flags) o → (f ≡ None → r ≡ None)
-    → ((x : ℕ) → f ≡ Some x → r ≡ (if not special && is_virtual x then Some (is_wide x) else None)) → r ≡ (if not special && if_declared o is_virtual then Some (if_declared o is_wide) else None)
+    → ((x : ℕ) → f ≡ Some x → r ≡ (if not special && is_virtual x then Some (is_public_or_protected x) else None)) → r ≡ (if not special && if_declared o is_virtual then Some (if_declared o is_public_or_protected) else None)
 flags_opened None true f r e none some = none e
 flags_opened None false f r e none some = none e
 flags_opened (Some m) special f r e none some = some m.flags e
 
 -- whether a method is open, if it is declared and offered
 pub flags_offered : (o : Option files.Member) (special : Bool) (f : Option ℕ) (r : Option Bool) → f ≡ option_map (λ m. m.flags) o → (f ≡ None → r ≡ None)
-    → ((x : ℕ) → f ≡ Some x → r ≡ (if is_virtual x then Some (not special && is_wide x) else None))
-    → r ≡ (if if_declared o is_virtual then Some ((not special && if_declared o is_virtual) && if_declared o is_wide) else None)
+    → ((x : ℕ) → f ≡ Some x → r ≡ (if is_virtual x then Some (not special && is_public_or_protected x) else None))
+    → r ≡ (if if_declared o is_virtual then Some ((not special && if_declared o is_virtual) && if_declared o is_public_or_protected) else None)
 flags_offered None special f r e none some = none e
-flags_offered (Some m) special f r e none some = some m.flags e ∙ by (is_virtual m.flags) special (is_wide m.flags)
+flags_offered (Some m) special f r e none some = some m.flags e ∙ by (is_virtual m.flags) special (is_public_or_protected m.flags)
   where
     by : (v s w : Bool) → (if v then Some (not s && w) else None) ≡ (if v then Some ((not s && v) && w) else None)
     by true true w = refl

@@ -18,7 +18,7 @@ use Rattle.std.proofs.lemmas.List.{take-map}
 use mathlib.Core.List.{map-map}
 use Rattle.std.proofs.lemmas.List.Folds.{list_any_at}
 use Rattle.std.proofs.lemmas.Option.{slice_get-get_or, slice_get-map, same_Some}
-use Rattle.cl_preparation.specs.Methods.{is_wide}
+use Rattle.cl_preparation.specs.Methods.{is_public_or_protected}
 use Rattle.cl_preparation.specs.Named.{told_by_rows}
 use Rattle.cl_preparation.specs.Relatives.{asked_of_key, bare}
 use Rattle.cl_preparation.specs.Walks.{is_open, opens_to}
@@ -73,12 +73,12 @@ part_named r name descriptor found e = ap (λ (o : Option ℕ). flags_pass o (λ
 
 -- whether it is public or protected
 pub open_named : (r : Rowed) (name descriptor : Name) (found : Option ℕ) → found ≡ option_map (λ m. m.flags) (method_named (bare r).file name descriptor)
-    → flags_pass found is_wide ≡ asked_of_key (method_of name descriptor) (λ key. is_open key (bare r))
-open_named r name descriptor found e = ap (λ (o : Option ℕ). flags_pass o is_wide) e ∙ by_key (method_of name descriptor)
+    → flags_pass found is_public_or_protected ≡ asked_of_key (method_of name descriptor) (λ key. is_open key (bare r))
+open_named r name descriptor found e = ap (λ (o : Option ℕ). flags_pass o is_public_or_protected) e ∙ by_key (method_of name descriptor)
   where
-    by_key : (o : Option Key) → flags_pass (option_map (λ m. m.flags) (option_and_then (member (bare r).file.methods) o)) is_wide ≡ asked_of_key o (λ key. is_open key (bare r))
+    by_key : (o : Option Key) → flags_pass (option_map (λ m. m.flags) (option_and_then (member (bare r).file.methods) o)) is_public_or_protected ≡ asked_of_key o (λ key. is_open key (bare r))
     by_key None = refl
-    by_key (Some key) = if_flags (member (bare r).file.methods key) is_wide
+    by_key (Some key) = if_flags (member (bare r).file.methods key) is_public_or_protected
 
 -- ---- what is asked of a key
 

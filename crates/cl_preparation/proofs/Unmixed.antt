@@ -33,7 +33,7 @@ use Rattle.cl_hierarchy.specs.Trees.{interface_places, interfaces_in}
 use Rattle.cl_preparation.specs.declared.declarers.Declarers.{Declarers}
 use Rattle.cl_preparation.specs.declared.declarers.Declarers.TheVariants as declarers
 use Rattle.cl_preparation.specs.declared.declarers.MethodTexts.{MethodTexts}
-use Rattle.cl_preparation.specs.Declarers.{AddsDeclarer, Has, IsNoted, IsRowNoted, NotedPass, KeepsNoted, NamesAre, is_known, is_mix, is_noted, is_uniform, is_single, same_texts}
+use Rattle.cl_preparation.specs.Declarers.{AddsDeclarer, Has, IsNoted, IsRowNoted, NotedPass, KeepsNoted, NamesAre, is_known, is_mix, is_noted, is_uniform, has_one_loader, same_texts}
 use Rattle.cl_model.proofs.Derivations.{all_map}
 use Rattle.cl_preparation.specs.declared.survey.Survey.{Survey}
 use Rattle.cl_preparation.specs.Relatives.{bare}
@@ -146,14 +146,14 @@ row_found names declared rows x key noted there on =
     (All-contains (IsRowNoted names declared) rows x (All-from_recursion (IsRowNoted names declared) rows noted) there) on
 
 -- where one loader defined all that declare a method
-single_one : (o : Option Declarers) (n m : Bool) (a b : ℕ) → option_map_or is_single o true ≡ true → is_known o n a ≡ true → is_known o m b ≡ true → a ≡ b
+single_one : (o : Option Declarers) (n m : Bool) (a b : ℕ) → option_map_or has_one_loader o true ≡ true → is_known o n a ≡ true → is_known o m b ≡ true → a ≡ b
 single_one None n m a b is h k = absurd cc
 single_one (Some (declarers.One l)) n m a b is h k = sym (eqb-true l a (and_parts (not n) (l == a) h).1) ∙ eqb-true l b (and_parts (not m) (l == b) k).1
 single_one (Some declarers.Several) n m a b is h k = absurd cc
 single_one (Some (declarers.Bound l)) n m a b is h k = sym (eqb-true l a h) ∙ eqb-true l b k
 single_one (Some declarers.Mixed) n m a b is h k = absurd cc
 
-pub all_alone : (rows : List Rowed) (s : Survey) (key : Key) → IsSurvey rows s → NotedPass s.declared key is_single → IsAlone rows key
+pub all_alone : (rows : List Rowed) (s : Survey) (key : Key) → IsSurvey rows s → NotedPass s.declared key has_one_loader → IsAlone rows key
 all_alone rows s key is told = λ a b a_in b_in a_on b_on.
     let mine : IsFound s.declared (contains same_name s.names a.class.name) a.class.loader key = row_found s.names s.declared rows a key is.noted a_in a_on in
     let other : IsFound s.declared (contains same_name s.names b.class.name) b.class.loader key = row_found s.names s.declared rows b key is.noted b_in b_on in

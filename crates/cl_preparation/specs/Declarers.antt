@@ -23,11 +23,11 @@ admits (declarers.Bound a) named l = a == l
 admits declarers.Mixed named l = true
 
 -- one loader defined them all
-abbrev pub is_single : Declarers → Bool
-is_single (declarers.One a) = true
-is_single declarers.Several = false
-is_single (declarers.Bound a) = true
-is_single declarers.Mixed = false
+abbrev pub has_one_loader : Declarers → Bool
+has_one_loader (declarers.One a) = true
+has_one_loader declarers.Several = false
+has_one_loader (declarers.Bound a) = true
+has_one_loader declarers.Mixed = false
 
 -- more than one did, and one of the classes is named as a superinterface
 abbrev pub is_mix : Declarers → Bool

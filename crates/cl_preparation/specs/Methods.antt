@@ -25,5 +25,5 @@ pub record IsTyped (pool : List Entry) (m : structure.MemberInfo) : Type 0 where
   pub typed : IsSome (whole_method descriptor)
 
 -- public or protected (5.4.5)
-abbrev pub is_wide : ℕ → Bool
-is_wide flags = is_public flags || is_protected flags
+abbrev pub is_public_or_protected : ℕ → Bool
+is_public_or_protected flags = is_public flags || is_protected flags

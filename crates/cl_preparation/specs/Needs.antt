@@ -4,6 +4,6 @@ use Rattle.cl_preparation.specs.declared.needs.Collected.TheVariants as variants
 use Rattle.cl_preparation.specs.Listings.{Listing, all_listed}
 
 -- the list, and whether each is listed once
-abbrev pub listing_of : Collected → Listing
-listing_of (variants.All es) = all_listed es.items
-listing_of (variants.Once l) = l
+abbrev pub listing_of_needs : Collected → Listing
+listing_of_needs (variants.All es) = all_listed es.items
+listing_of_needs (variants.Once l) = l

@@ -6,12 +6,12 @@ use Rattle.cl_model.specs.declared.class.Class.{Class}
 use Rattle.cl_model.specs.Classes.{same_package}
 use Rattle.cl_model.specs.Lineages.{Kin, method_of, if_declared, is_offered}
 use Rattle.cl_model.specs.Preparation.{takes_part}
-use Rattle.cl_preparation.specs.Methods.{is_wide}
+use Rattle.cl_preparation.specs.Methods.{is_public_or_protected}
 
 -- a class declares a method with this key for other packages too: a public or a protected one
 -- (5.4.5)
 abbrev pub is_open : Key → Kin → Bool
-is_open key k = if_declared (method_of k key) is_wide
+is_open key k = if_declared (method_of k key) is_public_or_protected
 
 -- the class declares such a method, which takes part in overriding (5.4.5)
 abbrev pub opens : Key → Kin → Bool

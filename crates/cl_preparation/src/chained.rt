@@ -70,7 +70,8 @@ impl<'a, 'b, 'c, 'd, T: Told> Model for Chained<'a, 'b, 'c, 'd, T> {
 
     ghost view = { λ x. x.lineage.now };
 
-    ghost invariant = { λ x. IsChained x.lineage.now x.own x.survey.now x.above.now x.over x.whole.now x.place };
+    ghost invariant = { λ x. IsChained x.lineage.now x.own x.survey.now x.above.now x.over
+        x.whole.now x.place };
 }
 
 impl<'a, 'b, 'c, 'd, T: Told> Chained<'a, 'b, 'c, 'd, T> {

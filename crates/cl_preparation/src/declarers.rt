@@ -4,7 +4,7 @@ ghost use Rattle.std.specs.Prelude.{◌≡◌, ℕ, Some, false, true, IfOk, OnO
 ghost use Rattle.std.specs.List.{AllByRecursion};
 ghost use Rattle.cl_classfile.specs.Files.{method_of};
 ghost use Rattle.indexmap.specs.IndexMap.{get};
-ghost use Rattle.cl_preparation.specs.Declarers.{AddsDeclarer, IsNoted, NotedPass, KeepsNoted, admits, is_mix, is_noted, is_uniform, is_single, same_texts};
+ghost use Rattle.cl_preparation.specs.Declarers.{AddsDeclarer, IsNoted, NotedPass, KeepsNoted, admits, is_mix, is_noted, is_uniform, has_one_loader, same_texts};
 
 use crate::key::MethodKey;
 use crate::method::is_virtual;
@@ -132,8 +132,8 @@ impl Declarers {
     }
 
     /// Whether one loader defined them all.
-    fn is_single(&self) -> bool
-        ensures { result ≡ is_single self.now }
+    fn has_one_loader(&self) -> bool
+        ensures { result ≡ has_one_loader self.now }
     {
         match self {
             Declarers::One(_) => true,
@@ -162,11 +162,11 @@ pub(crate) fn is_of_one(
     declared: &Declared,
     key: &MethodKey,
 ) -> Result<bool, AllocError>
-    ensures { IfOk result (λ b. b ≡ true → NotedPass declared.now key.now is_single) }
+    ensures { IfOk result (λ b. b ≡ true → NotedPass declared.now key.now has_one_loader) }
 {
     let texts = MethodTexts::of(alloc, key)?;
     match declared.get(&texts) {
-        Some(declarers) => Ok(declarers.is_single()),
+        Some(declarers) => Ok(declarers.has_one_loader()),
         None => Ok(true),
     }
 }

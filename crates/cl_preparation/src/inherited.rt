@@ -37,7 +37,8 @@ impl<'a, T: Told> Model for Inheritance<'a, T> {
 
     ghost view = { λ x. record { own = x.own.now; above = x.above.now; few = is_some x.away } };
 
-    ghost invariant = { λ x. IfSome x.away (λ rs. rs.now ≡ away_from x.own.now.class.loader x.above.now) };
+    ghost invariant = { λ x. IfSome x.away (λ rs. rs.now ≡ away_from x.own.now.class.loader
+        x.above.now) };
 }
 
 /// A loader, if it is another than this.

@@ -3,7 +3,7 @@
 ghost use Rattle.std.specs.Prelude.{◌≡◌, Some, IfOk};
 ghost use Rattle.cl_classfile.specs.Files.{declared_by, file_of, method_of};
 ghost use Rattle.cl_model.specs.Lineages.{is_virtual};
-ghost use Rattle.cl_preparation.specs.Methods.{IsTyped, is_wide};
+ghost use Rattle.cl_preparation.specs.Methods.{IsTyped, is_public_or_protected};
 
 use crate::key::MethodKey;
 use cl_classfile::{
@@ -20,8 +20,8 @@ pub(crate) fn is_virtual(flags: u16) -> bool
 }
 
 /// Whether a method of these flags is public or protected (JVMS SE 8, 5.4.5).
-pub(crate) fn is_wide(flags: u16) -> bool
-    ensures { result ≡ is_wide flags }
+pub(crate) fn is_public_or_protected(flags: u16) -> bool
+    ensures { result ≡ is_public_or_protected flags }
 {
     has_flag(flags, PUBLIC) || has_flag(flags, PROTECTED)
 }

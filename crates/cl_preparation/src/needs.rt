@@ -6,7 +6,7 @@ ghost use Rattle.cl_model.specs.Preparation.{equals_of};
 ghost use Rattle.cl_model.specs.States.{Need};
 ghost use Rattle.cl_hierarchy.specs.Imposed.{equal_need, needs_of};
 ghost use Rattle.cl_preparation.specs.Listings.{AreAmong, NeedsGrow, IsPassed, all_listed, with_all, with_one, once_of};
-ghost use Rattle.cl_preparation.specs.Needs.{listing_of};
+ghost use Rattle.cl_preparation.specs.Needs.{listing_of_needs};
 
 use crate::described::{Described, push_equals};
 use crate::key::{Between, MethodKey};
@@ -82,8 +82,8 @@ impl Collected {
         a: LoaderId,
         b: LoaderId,
     ) -> Result<(), AllocError>
-        ensures { OnOk result (listing_of self.new
-            ≡ with_all (listing_of self.old) (equals_of method.now a b)) }
+        ensures { OnOk result (listing_of_needs self.new
+            ≡ with_all (listing_of_needs self.old) (equals_of method.now a b)) }
     {
         match self {
             Collected::All(all) => push_equals(alloc, all, method, a, b),
@@ -93,7 +93,7 @@ impl Collected {
 
     /// The equalities, in order.
     fn into_vec(self, alloc: Global) -> Result<Vec<Equality>, AllocError>
-        ensures { IfOk result (λ v. needs_of v.items ≡ (listing_of self).needs) }
+        ensures { IfOk result (λ v. needs_of v.items ≡ (listing_of_needs self).needs) }
     {
         match self {
             Collected::All(all) => Ok(all),
@@ -110,11 +110,11 @@ pub(crate) struct Needs {
 
 impl Model for Needs {
     ghost use Rattle.cl_preparation.specs.Listings.{Listing};
-    ghost use Rattle.cl_preparation.specs.Needs.{listing_of};
+    ghost use Rattle.cl_preparation.specs.Needs.{listing_of_needs};
 
     ghost Value = { Listing };
 
-    ghost view = { λ n. listing_of n.listed };
+    ghost view = { λ n. listing_of_needs n.listed };
 }
 
 /// Lists an equality, if it is not listed.

@@ -12,7 +12,7 @@ ghost use Rattle.cl_preparation.specs.Named.{told_by_rows};
 ghost use Rattle.cl_preparation.specs.Walks.{is_open, opens_to};
 
 use crate::key::is_special;
-use crate::method::{is_virtual, is_wide};
+use crate::method::{is_public_or_protected, is_virtual};
 use cl_hierarchy::{ClassRow, Lineage, same_package};
 use cl_model::Told;
 use cl_names::Name;
@@ -49,7 +49,7 @@ fn is_open<T: Told>(row: &ClassRow<T>, name: &Name, descriptor: &Name) -> bool
         (λ key. is_open key (bare row.now)) }
 {
     match flags(row, name, descriptor) {
-        Some(flags) => is_wide(flags),
+        Some(flags) => is_public_or_protected(flags),
         None => false,
     }
 }

@@ -45,7 +45,8 @@ impl<T: Told> Model for Preparations<T> {
 
     ghost view = { λ p. p.lineages };
 
-    ghost invariant = { λ p. IfSome p.survey (IsSurvey (rows_in p.lineages)) × IfSome p.kept (ChainIsKept p.lineages) };
+    ghost invariant = { λ p. IfSome p.survey (IsSurvey (rows_in p.lineages)) × IfSome p.kept
+        (ChainIsKept p.lineages) };
 }
 
 /// So many looks take longer than a survey of classes whose methods are no more.

@@ -4,13 +4,13 @@ ghost use Rattle.std.specs.Prelude.{◌≡◌, ◌&&◌, not, if◌then◌else�
 ghost use Rattle.cl_classfile.specs.Files.{file_of, is_interface};
 ghost use Rattle.cl_model.specs.Lineages.{is_offered, is_virtual, method_of};
 ghost use Rattle.cl_model.specs.Preparation.{takes_part};
-ghost use Rattle.cl_preparation.specs.Methods.{is_wide};
+ghost use Rattle.cl_preparation.specs.Methods.{is_public_or_protected};
 ghost use Rattle.cl_preparation.specs.Relatives.{AreNames, bare, names_interfaces};
 ghost use Rattle.cl_preparation.specs.Walks.{hides, is_closed, declared_open, opens};
 
 use crate::filter::NameFilter;
 use crate::key::MethodKey;
-use crate::method::{Method, is_virtual, is_wide, methods_of};
+use crate::method::{Method, is_public_or_protected, is_virtual, methods_of};
 use crate::overriding::flags;
 use cl_classfile::ClassFile;
 use cl_hierarchy::ClassRow;
@@ -67,25 +67,25 @@ pub(crate) fn names_of(alloc: Global, file: &ClassFile) -> Result<Option<NameFil
 
 /// Whether a method of these flags is public or protected, where it takes part in overriding (JVMS SE 8, 5.4.5).
 fn open_if_taking_part(is_special: bool, flags: u16) -> Option<bool>
-    ensures { result ≡ (if not is_special && is_virtual flags then Some (is_wide flags) else
-        None) }
+    ensures { result ≡ (if not is_special && is_virtual flags
+        then Some (is_public_or_protected flags) else None) }
 {
     if is_special || !is_virtual(flags) {
         return None;
     }
-    Some(is_wide(flags))
+    Some(is_public_or_protected(flags))
 }
 
 /// Of a method of these flags that is neither private nor static: whether it takes part in overriding and is public or protected
 /// (JVMS SE 8, 5.4.5).
 fn open_if_virtual(is_special: bool, flags: u16) -> Option<bool>
-    ensures { result ≡ (if is_virtual flags then Some (not is_special && is_wide flags) else
-        None) }
+    ensures { result ≡ (if is_virtual flags
+        then Some (not is_special && is_public_or_protected flags) else None) }
 {
     if !is_virtual(flags) {
         return None;
     }
-    Some(!is_special && is_wide(flags))
+    Some(!is_special && is_public_or_protected(flags))
 }
 
 /// The flags of the method with this key, if a class declares one. A filter, where there is one, is of its methods' names.
@@ -115,7 +115,7 @@ pub(crate) fn is_open<T: Told>(
     ensures { result ≡ opens key.now (bare row.now) }
 {
     match flags_with(row, names, key) {
-        Some(flags) => !key.is_special() && is_virtual(flags) && is_wide(flags),
+        Some(flags) => !key.is_special() && is_virtual(flags) && is_public_or_protected(flags),
         None => false,
     }
 }

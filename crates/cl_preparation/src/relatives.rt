@@ -52,7 +52,8 @@ impl<T: Told> Model for Relatives<T> {
 
     ghost view = { λ r. r.lineage };
 
-    ghost invariant = { λ r. AreRelatives r.lineage r.own r.superclasses.items r.superinterfaces.items };
+    ghost invariant = { λ r. AreRelatives r.lineage r.own r.superclasses.items
+        r.superinterfaces.items };
 }
 
 /// The classes of these rows.

@@ -63,8 +63,8 @@ fn push_overridden<T: Told>(
     superclasses: &[Relative<T>],
 ) -> Result<(), AllocError>
     ensures { OnOk result (needs_of needs.new.items ≡ needs_of needs.old.items
-        ++ equals_with method.now own.now.class.loader (walked_superclasses method.now (own.now.class ∷ [])
-        (map bare superclasses.now))) }
+        ++ equals_with method.now own.now.class.loader
+        (walked_superclasses method.now (own.now.class ∷ []) (map bare superclasses.now))) }
 {
     let mut opened = IndexSet::with_hasher(alloc, seed);
     open(&mut opened, Package::of(alloc, own.class())?)?;

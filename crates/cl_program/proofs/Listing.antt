@@ -8,7 +8,8 @@ use Rattle.cl_program.specs.Faults.{print_fault}
 use Rattle.cl_source.specs.Seen.{GivesAtMost}
 use Rattle.cl_program.specs.Files.{Giving, IsUnread}
 use Rattle.cl_program.specs.Readings.{AreLinesOf, FailsToRead, IsReading, IsFileFault, ReadingOf}
-use Rattle.cl_program.specs.Outputs.{Outputs, Stream, TellsFault, WritesPart}
+use Rattle.cl_program.specs.Outputs.{Outputs, TellsFault}
+use Rattle.cl_streams.specs.Writing.{Stream, WritesPart}
 use Rattle.cl_program.proofs.Running.{still}
 use Rattle.cl_program.specs.declared.fault.Fault.{Fault}
 use Rattle.cl_program.specs.declared.fault.Fault.TheVariants.{Write, TooLarge, Path, File, Memory}

@@ -10,7 +10,8 @@ use Rattle.cl_bundle.specs.Faults.{UnlessMemory}
 use Rattle.cl_bundle.specs.declared.fault.BundleFault.{BundleFault}
 use Rattle.cl_program.specs.Files.{AreNoText}
 use Rattle.cl_program.specs.Faults.{IsInputFault, print_fault}
-use Rattle.cl_program.specs.Outputs.{Outputs, Stream, TellsFault, WritesPart, fault_line}
+use Rattle.cl_program.specs.Outputs.{Outputs, TellsFault, fault_line}
+use Rattle.cl_streams.specs.Writing.{Stream, WritesPart}
 use Rattle.cl_program.specs.Runs.{AreLinesFor, EndsBy, IsInput, IsNoBundleIn, IsRun, IsServedBy, RunOf}
 use Rattle.cl_program.specs.Serving.{IsUnserved}
 use Rattle.cl_program.specs.declared.asked.Options.{Options}

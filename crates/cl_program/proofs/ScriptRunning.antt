@@ -9,7 +9,8 @@ use Rattle.cl_streams.proofs.Written.{appends_nothing}
 use Rattle.cl_program.specs.Asking.{Wanted}
 use Rattle.cl_program.specs.Faults.{print_fault}
 use Rattle.cl_program.specs.Files.{Giving}
-use Rattle.cl_program.specs.Outputs.{Outputs, Stream, TellsFault, WritesPart}
+use Rattle.cl_program.specs.Outputs.{Outputs, TellsFault}
+use Rattle.cl_streams.specs.Writing.{Stream, WritesPart}
 use Rattle.cl_program.proofs.Running.{still}
 use Rattle.cl_program.specs.ScriptRuns.{AreLinesFrom, EndsFrom, IsConfigAt, IsRunOf, IsScriptAt, IsScriptRun, IsSeedless, IsServedOver, IsUnservedOver, LacksConfig, LacksScript, ScriptRunOf}
 use Rattle.cl_program.specs.declared.fault.Fault.{Fault}

@@ -18,7 +18,7 @@ use Rattle.cl_streams.specs.declared.input.InputFault.TheVariants as input
 use Rattle.cl_streams.specs.declared.output.PrintFault.{PrintFault}
 use Rattle.cl_streams.specs.declared.output.PrintFault.TheVariants as print
 
--- a read failed, the bytes are too many, or memory was wanting
+-- a read failed, the bytes are too many, or memory ran out
 abbrev pub IsReadFault : Fault → Type 0
 IsReadFault Input = ⊤
 IsReadFault TooLarge = ⊤

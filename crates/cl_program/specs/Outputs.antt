@@ -1,35 +1,17 @@
 -- What a run leaves on standard output and standard error, and its exit status.
 use Rattle.std.specs.Prelude.{◌≡◌, ℕ, List, [], ◌∷◌, ◌++◌, codes, Option, Result, Ok, Err}
-use Rattle.std.specs.Io.KnownBytes.{Appends}
-use Rattle.cl_streams.specs.Writing.{AppendsPart}
+use Rattle.cl_streams.specs.Writing.{Stream, WritesBytes, WritesPart, stream}
 use Rattle.cl_program.specs.Faults.{fault_text}
 use Rattle.cl_program.specs.declared.fault.Fault.{Fault}
-
--- what a stream holds before and after, where that is known
-pub record Stream : Type 0 where
-  pub old : Option (List ℕ)
-  pub new : Option (List ℕ)
 
 -- standard output and standard error
 pub record Outputs : Type 0 where
   pub out : Stream
   pub err : Stream
 
--- what a writer holds before and after
-abbrev pub stream : {W : Type 0} → (W → Option (List ℕ)) → W → W → Stream
-stream contents old new = record { old = contents old; new = contents new }
-
 -- what two writers hold before and after
 abbrev pub outputs : {W E : Type 0} → (W → Option (List ℕ)) → W → W → (E → Option (List ℕ)) → E → E → Outputs
 outputs on_out old_out new_out on_err old_err new_err = record { out = stream on_out old_out new_out; err = stream on_err old_err new_err }
-
--- these bytes are written
-abbrev pub WritesBytes : Stream → List ℕ → Type 0
-WritesBytes s bytes = Appends s.old s.new bytes
-
--- a first part of these bytes is written, and no more
-abbrev pub WritesPart : Stream → List ℕ → Type 0
-WritesPart s bytes = AppendsPart s.old s.new bytes
 
 -- such lines are written
 pub record PrintsLines (AreLines : List ℕ → Type 0) (out : Stream) : Type 0 where

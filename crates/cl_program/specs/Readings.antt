@@ -7,12 +7,13 @@ use Rattle.cl_classfile.specs.Reading.{read_of}
 use Rattle.cl_writer.specs.Listings.{listing_of}
 use Rattle.cl_source.specs.Seen.{GivesAtMost}
 use Rattle.cl_program.specs.Files.{Giving, IsUnread}
-use Rattle.cl_program.specs.Outputs.{BreaksOff, Ended, OutcomeOf, Outputs, Stream, WritesNothing}
+use Rattle.cl_program.specs.Outputs.{BreaksOff, Ended, OutcomeOf, Outputs, WritesNothing}
+use Rattle.cl_streams.specs.Writing.{Stream}
 use Rattle.cl_program.specs.declared.fault.Fault.{Fault}
 use Rattle.cl_program.specs.declared.fault.Fault.TheVariants.{Write, TooLarge, Path, File, Memory}
 use Rattle.cl_source.specs.declared.size.TheConstants.{MOST_CLASS_BYTES}
 
--- the lines of the class file that bytes spell (JVMS SE 8, 4; the lines are an own choice)
+-- the lines of the class file that bytes spell (JVMS SE 8, 4)
 pub record IsListing (bytes lines : List ℕ) : Type 0 where
   pub file : Structure
   pub read : read_of bytes ≡ Ok file

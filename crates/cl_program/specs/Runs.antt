@@ -9,7 +9,8 @@ use Rattle.cl_bundle.specs.Faults.{UnlessMemory}
 use Rattle.cl_bundle.specs.declared.fault.BundleFault.{BundleFault}
 use Rattle.cl_schedule.specs.Headline.{IsServed}
 use Rattle.cl_program.specs.Files.{AreNoText}
-use Rattle.cl_program.specs.Outputs.{BreaksOff, Ended, OutcomeOf, Outputs, Stream, WritesNothing}
+use Rattle.cl_program.specs.Outputs.{BreaksOff, Ended, OutcomeOf, Outputs, WritesNothing}
+use Rattle.cl_streams.specs.Writing.{Stream}
 use Rattle.cl_program.specs.Serving.{AreLinesBy, ByWorkers, IsServedAlone, IsUnserved}
 use Rattle.cl_program.specs.declared.asked.Options.{Options}
 use Rattle.cl_program.specs.declared.fault.Fault.{Fault}
@@ -54,7 +55,8 @@ IsNoBundleIn input wrong = (text : List ℕ) × IsInput input text × IsNoBundle
 abbrev pub IsUnservedFor : Option (List ℕ) → Options → Fault → Type 0
 IsUnservedFor input o f = IsOfBundle input (λ config content script. IsUnserved o.workers f)
 
--- when a run ends by a fault, and what is on its output; that a read or a write was refused, or that memory was wanting, is taken at its word
+-- when a run ends by a fault, and what is on its output; that a read or a write was refused, or that memory ran out, is taken
+-- at its word
 abbrev pub EndsBy : Option (List ℕ) → Options → Stream → Fault → Type 0
 EndsBy input o out Input = WritesNothing out ⊤
 EndsBy input o out TooLarge = WritesNothing out (GivesOver input MOST_INPUT_BYTES)

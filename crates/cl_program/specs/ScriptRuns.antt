@@ -10,7 +10,8 @@ use Rattle.cl_schedule.specs.Headline.{IsServed, IsServedInOrder}
 use Rattle.cl_source.specs.Seen.{IsTooLarge}
 use Rattle.cl_program.specs.Asking.{Wanted}
 use Rattle.cl_program.specs.Files.{Giving, GivesText, IsNoText, IsUnreadable, LacksText}
-use Rattle.cl_program.specs.Outputs.{BreaksOff, Ended, OutcomeOf, Outputs, Stream, WritesNothing}
+use Rattle.cl_program.specs.Outputs.{BreaksOff, Ended, OutcomeOf, Outputs, WritesNothing}
+use Rattle.cl_streams.specs.Writing.{Stream}
 use Rattle.cl_program.specs.Serving.{AreLinesBy, ByWorkers, IsUnserved}
 use Rattle.cl_program.specs.declared.fault.Fault.{Fault}
 use Rattle.cl_program.specs.declared.fault.Fault.TheVariants.{Write, TooLarge, NotUtf8, Config, Script, Serve, Threads, Path, Memory}
@@ -81,7 +82,7 @@ IsUnreadPath gives w path = ((path ≡ w.config) × IsUnreadable (gives w.config
 abbrev pub IsUnservedUnder : (List ℕ → Giving) → Wanted → Fault → Type 0
 IsUnservedUnder gives w f = IsUnderBoth gives w (λ config script. IsUnserved w.options.workers f)
 
--- when a run ends by a fault, and what is on its output; that a write was refused, or that memory was wanting,
+-- when a run ends by a fault, and what is on its output; that a write was refused, or that memory ran out,
 -- is taken at its word
 abbrev pub EndsFrom : (List ℕ → Giving) → Wanted → Stream → Fault → Type 0
 EndsFrom gives w out (Path p) = WritesNothing out (IsUnreadPath gives w (string_bytes p))
@@ -114,7 +115,7 @@ IsScriptRun gives w = Ended (IsRunOf gives w)
 
 -- ---- its steps
 
--- why a script was not served: memory was wanting for the directories, or its workers tell why
+-- why a script was not served: memory ran out for the directories, or its workers tell why
 abbrev pub IsUnservedOver : ℕ → Fault → Type 0
 IsUnservedOver workers Memory = ⊤
 IsUnservedOver workers fault = IsUnserved workers fault

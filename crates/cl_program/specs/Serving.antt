@@ -30,7 +30,7 @@ abbrev pub FailsBy : ℕ → ThreadFault → Type 0
 FailsBy workers Workers = ¬ (WorkersMayServe workers)
 FailsBy workers _ = WorkersMayServe workers
 
--- why a script was not served: one worker tells that memory was wanting, several tell a fault of theirs
+-- why a script was not served: one worker tells that memory ran out, several tell a fault of theirs
 abbrev pub IsUnserved : ℕ → Fault → Type 0
 IsUnserved workers (Serve wrong) = (workers ≡ 1) × (wrong ≡ serve.Memory)
 IsUnserved workers (Threads wrong) = ¬ (workers ≡ 1) × FailsBy workers wrong

@@ -4,7 +4,7 @@ ghost use Rattle.std.specs.Prelude.{IfOk, IfErr, Some, length, IsOkUnless};
 ghost use Rattle.cl_config.specs.Scripts.{HasLoaders};
 ghost use Rattle.cl_model.specs.Content.{TellsContent};
 ghost use Rattle.cl_registry.specs.Reports.{IsNamed};
-ghost use Rattle.cl_program.specs.Outputs.{stream};
+ghost use Rattle.cl_streams.specs.Writing.{stream};
 ghost use Rattle.cl_program.specs.Runs.{IsServedBy, RunOf};
 ghost use Rattle.cl_program.specs.Serving.{IsServedAlone, IsUnserved};
 

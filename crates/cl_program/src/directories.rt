@@ -4,7 +4,7 @@ ghost use Rattle.std.specs.Prelude.{None, IfOk, IfErr, length, IsOkUnless};
 ghost use Rattle.cl_config.specs.Scripts.{HasLoaders};
 ghost use Rattle.cl_registry.specs.Reports.{IsNamed};
 ghost use Rattle.cl_program.specs.Asking.{wanted_of};
-ghost use Rattle.cl_program.specs.Outputs.{stream};
+ghost use Rattle.cl_streams.specs.Writing.{stream};
 ghost use Rattle.cl_program.specs.ScriptRuns.{IsConfigAt, IsRunOf, IsScriptAt, IsServedOver, IsUnservedOver, LacksConfig, LacksScript, ScriptRunOf};
 
 use crate::asked::RunWords;

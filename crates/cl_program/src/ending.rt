@@ -1,7 +1,8 @@
 //! How a run ends by a fault.
 
 ghost use Rattle.std.specs.Prelude.{◌≡◌, ◌⊎◌};
-ghost use Rattle.cl_program.specs.Outputs.{TellsFault, stream};
+ghost use Rattle.cl_program.specs.Outputs.{TellsFault};
+ghost use Rattle.cl_streams.specs.Writing.{stream};
 
 use crate::fault::Fault;
 use cl_streams::write_out;
@@ -18,7 +19,7 @@ pub fn refuse_words<E: Write>(alloc: Global, err: &mut E) -> u8
     2
 }
 
-/// Writes the line of a fault, and answers its exit status. Where memory is wanting for it, that is what is told.
+/// Writes the line of a fault, and answers its exit status. Where memory runs out for it, that is what is told.
 pub fn fail<E: Write>(alloc: Global, fault: &Fault, err: &mut E) -> u8
     ensures status { result ≡ 1 }
     ensures told { TellsFault (stream E.contents err.old err.new) fault.now

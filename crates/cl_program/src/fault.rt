@@ -34,7 +34,7 @@ pub enum Fault {
     File(ReadError),
     /// The program's own words are not UTF-8.
     Words,
-    /// Want of memory that no other fault tells of.
+    /// Out of memory, where no other fault tells of it.
     Memory,
 }
 

@@ -2,7 +2,7 @@
 
 ghost use Rattle.std.specs.Prelude.{◌≡◌, Ok, IfOk, IfErr};
 ghost use Rattle.cl_classfile.specs.Reading.{read_of};
-ghost use Rattle.cl_program.specs.Outputs.{stream};
+ghost use Rattle.cl_streams.specs.Writing.{stream};
 ghost use Rattle.cl_program.specs.Readings.{IsFileFault, ReadingOf};
 
 use crate::fault::Fault;

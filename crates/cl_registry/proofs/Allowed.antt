@@ -30,7 +30,7 @@ use Rattle.cl_delegation.specs.Worlds.{world_of, setting_of}
 use Rattle.cl_hierarchy.specs.Drafts.{Drafted, IsDraft}
 use Rattle.cl_hierarchy.specs.Rows.{FitsAs}
 use Rattle.cl_hierarchy.proofs.Placed.{spelt_file}
-use Rattle.cl_registry.specs.Tables.{Shown, steps, state_of, records_of, looked_row, place_in, IsKept}
+use Rattle.cl_registry.specs.Tables.{Shown, steps, state_of, records_of, looked_row, recorded_place, IsKept}
 use Rattle.cl_registry.specs.Allowed.{AllowedIsEntered, EnteredIsAllowed, AllowedIsJoined, JoinedIsAllowed, RoundIsAllowed, OtherConfigIsStray}
 use Rattle.cl_registry.proofs.Running.{may_add, may_be_added}
 use Rattle.cl_registry.proofs.Placed.{HasRow, recorded_row}
@@ -95,9 +95,9 @@ may_by g s c f ts closed at file accepts kept none free =
 
 -- the classes that a loader has recorded for these supertypes
 abbrev recorded_as : Shown → ℕ → List Above → List Class
-recorded_as x l others = map (λ (a : Above). class a.name (place_in (records_of x) l a)) others
+recorded_as x l others = map (λ (a : Above). class a.name (recorded_place (records_of x) l a)) others
 
-pub recorded_at : (x : Shown) (l : ℕ) (a : Above) → IsSome (recorded_definer (records_of x) l a.name) → recorded_definer (records_of x) l a.name ≡ Some (place_in (records_of x) l a)
+pub recorded_at : (x : Shown) (l : ℕ) (a : Above) → IsSome (recorded_definer (records_of x) l a.name) → recorded_definer (records_of x) l a.name ≡ Some (recorded_place (records_of x) l a)
 recorded_at x l a some =
     let p = some_of (recorded_definer (records_of x) l a.name) some in
     p.1 ∙ ap (λ (o : Option ℕ). Some (unwrap_or o 0)) (sym p.1)
@@ -108,7 +108,7 @@ all_accepted : (content : Content) (x : Shown) (c : Class) (others : List Above)
 all_accepted content x c [] kept above fit = (tt, tt)
 all_accepted content x c (a ∷ others) kept above fit =
     let w = world_of x.config content in
-    let p = place_in (records_of x) c.loader a in
+    let p = recorded_place (records_of x) c.loader a in
     let at = recorded_at x c.loader a above.0 in
     let r = recorded_row (Some content) x c.loader p a.name kept at in
     let fits : FitsAs c a r.row = row_of_some (FitsAs c a) (looked_row x c.loader a.name) r.row r.found fit.0 in
@@ -160,7 +160,7 @@ entered_is_allowed content x d kept draft may fresh free =
     let at = draft_at_home x.config content d draft may.config in
     let all = all_accepted content x d.class (supers (file_of d.file)) kept may.above may.fit in
     may_by (setting_of x.config x.script content) (state_of x) d.class (file_of d.file) (recorded_as x d.class.loader (supers (file_of d.file))) (closed_of content x kept) at
-    (spelt_file x.config content d.class d.file at draft.spelt) all.0 all.1 (past_end (λ (a : Above). class a.name (place_in (records_of x) d.class.loader a)) (supers (file_of d.file)))
+    (spelt_file x.config content d.class d.file at draft.spelt) all.0 all.1 (past_end (λ (a : Above). class a.name (recorded_place (records_of x) d.class.loader a)) (supers (file_of d.file)))
     (may_add (state_of x) d.class.loader d.class.loader d.class.name fresh free)
 
 -- ---- initiating loaders

@@ -14,7 +14,7 @@ use Rattle.cl_registry.specs.declared.registry.RegistryFault.{RegistryFault}
 use Rattle.cl_registry.specs.declared.registry.RegistryFault.TheVariants.{Memory, Stray, Violates, AlreadyPosted, NotYet}
 use Rattle.cl_registry.specs.Refusals.{InitiateRefusedFor, MemoryOrStray}
 use Rattle.cl_registry.specs.Parts.{EachHas, place_by, row_by}
-use Rattle.cl_registry.specs.Tables.{Shown, records_of, IsKept, looked_row, row_for, place_in, state_of, LacksRecord, MayEnter, SupertypesFit, MayJoin, Defines, DefinedAs, Initiates, InitiatedAs}
+use Rattle.cl_registry.specs.Tables.{Shown, records_of, IsKept, looked_row, row_for, recorded_place, state_of, LacksRecord, MayEnter, SupertypesFit, MayJoin, Defines, DefinedAs, Initiates, InitiatedAs}
 use Rattle.cl_registry.proofs.Looked.{place_looked, looked_records, looked_lacks}
 
 is_some_map : {A B : Type 0} (f : A → B) (o : Option A) → is_some (option_map f o) ≡ is_some o
@@ -87,11 +87,11 @@ module _ {R : Type 0} (value : R → Rowed) (told : Option Content) (x : Shown) 
   enters_by d true config loader has fit = enters d config loader has fit
   enters_by d false config loader has none = lacks_fit d none
 
-  same_places : (l : ℕ) (xs : List Above) → map (place_by (λ n. option_map (λ r. (value r).class.loader) (at l n))) xs ≡ map (place_in (records_of x) l) xs
+  same_places : (l : ℕ) (xs : List Above) → map (place_by (λ n. option_map (λ r. (value r).class.loader) (at l n))) xs ≡ map (recorded_place (records_of x) l) xs
   same_places l [] = refl
   same_places l (a ∷ xs) =
       ap (λ (o : Option ℕ). unwrap_or o 0 ∷ map (place_by (λ n. option_map (λ r. (value r).class.loader) (at l n))) xs) (place_at l a.name)
-      ∙ ap (λ (ns : List ℕ). place_in (records_of x) l a ∷ ns) (same_places l xs)
+      ∙ ap (λ (ns : List ℕ). recorded_place (records_of x) l a ∷ ns) (same_places l xs)
 
   -- the row that the steps make is the one of the draft
   pub row_made : (d : Drafted) → row_by (λ n. option_map (λ r. (value r).class.loader) (at d.class.loader n)) d ≡ row_for x d

@@ -32,7 +32,7 @@ use Rattle.cl_registry.specs.declared.registry.RegistryFault.TheVariants.{Memory
 use Rattle.cl_registry.specs.Kept.{Fields, IsRegistry}
 use Rattle.cl_registry.specs.Parts.{IsPut}
 use Rattle.cl_registry.specs.Refusals.{AddRefusedFor, BlamesNeed, BlamesIn, DefineRefusedFor, InitiateRefusedFor, MemoryOrStray, RecordRefusedFor}
-use Rattle.cl_registry.specs.Tables.{Shown, state_of, records_of, IsKept, ArePlaced, with_define, with_initiate, looked_row, row_for, place_in, IsNew, LacksRecord, MayEnter, MayJoin, Defines, DefinedAs, Initiates, InitiatedAs}
+use Rattle.cl_registry.specs.Tables.{Shown, state_of, records_of, IsKept, ArePlaced, with_define, with_initiate, looked_row, row_for, recorded_place, IsNew, LacksRecord, MayEnter, MayJoin, Defines, DefinedAs, Initiates, InitiatedAs}
 use Rattle.cl_registry.proofs.Running.{may_record}
 use Rattle.cl_registry.proofs.Looked.{looked_push, looked_some, looked_records, at_self, fresh_row, row_push}
 use Rattle.cl_registry.proofs.Allowed.{closed_of, draft_at_home, entered_is_allowed, joined_is_allowed, recorded_at, row_of_some}
@@ -69,17 +69,17 @@ found_by None x c a p k at = tt
 found_by (Some content) x c a p k at = (closed_of content x k).homes c.loader p a.name at
 
 stand_above : (told : Option Content) (x : Shown) (c : Class) (others : List Above) → IsKept told x → AllByRecursion (λ (a : Above). IsSome (recorded_definer (records_of x) c.loader a.name)) others
-    → AllByRecursion (λ (a : Above). IfSome (looked_row x c.loader a.name) (FitsAs c a)) others → StandAbove told x.config x.rows c others (map (place_in (records_of x) c.loader) others)
+    → AllByRecursion (λ (a : Above). IfSome (looked_row x c.loader a.name) (FitsAs c a)) others → StandAbove told x.config x.rows c others (map (recorded_place (records_of x) c.loader) others)
 stand_above told x c [] k above fit = tt
 stand_above told x c (a ∷ others) k above fit =
-    let p = place_in (records_of x) c.loader a in
+    let p = recorded_place (records_of x) c.loader a in
     let at = recorded_at x c.loader a above.0 in
     let r = looked_some told x c.loader p a.name k at in (
       record { row = r.row; stands = r.found; fits = row_of_some (FitsAs c a) (looked_row x c.loader a.name) r.row r.looked fit.0; found = found_by told x c a p k at },
       stand_above told x c others k above.1 fit.1,
     )
 
-places_for : (x : Shown) (l : ℕ) (others : List Above) → AllByRecursion (λ (a : Above). IsSome (recorded_definer (records_of x) l a.name)) others → ArePlaced (records_of x) l others (map (place_in (records_of x) l) others)
+places_for : (x : Shown) (l : ℕ) (others : List Above) → AllByRecursion (λ (a : Above). IsSome (recorded_definer (records_of x) l a.name)) others → ArePlaced (records_of x) l others (map (recorded_place (records_of x) l) others)
 places_for x l [] above = tt
 places_for x l (a ∷ others) above = (recorded_at x l a above.0, places_for x l others above.1)
 

@@ -10,7 +10,7 @@ use Rattle.cl_model.specs.Classes.{Error, NoSuchField, NoSuchMethod, is_among}
 use Rattle.cl_model.specs.Lineages.{Forest, Bare, Tree, Kin, upward, preorder, once_after, superclasses, superinterfaces, alone, field_among, lookup_field, lookup_method, lookup_interface_method, from_superinterfaces, offering_superinterfaces, maximally_specific, is_default, is_offered, is_maximal, is_public_instance, first, only, field_of, method_of}
 use Rattle.cl_model.specs.Preparation.{Split, splits, shifted_split, overrides, overridden_superclasses, takes_part, class_names, equals_of, equals_with, for_declared, for_inherited, inherited_from, with_inherited, constraints_of}
 use Rattle.cl_model.specs.States.{Need, Entry, Equal, Verdict, IsField, IsMethod}
-use Rattle.cl_model.specs.Works.{Work, Made, done, need, or_fail, unless_wrong, ◌>>=◌}
+use Rattle.cl_model.specs.Works.{Work, Made, end_with, need, or_fail, unless_wrong, ◌>>=◌}
 use Rattle.cl_model.specs.Plans.{class_verdict, resolve_found, resolve_field, resolve_method, resolve_in}
 use Rattle.cl_model.proofs.Bind.{pieces, some_same, ok_same, ok_not_err}
 use Rattle.cl_hierarchy.specs.Imposed.{needs_of}
@@ -173,7 +173,7 @@ module _ (P : ℕ → Type 0) where
     | inr s ↦ subst (AllByRecursion (Names P)) (sym s.2.needs) (first s.2.first s.2.made)
   ]
 
-  of_done : {A : Type 0} (a : A) (m : Made A) → done a ≡ Some m → AllNamed m
+  of_done : {A : Type 0} (a : A) (m : Made A) → end_with a ≡ Some m → AllNamed m
   of_done a m e = subst AllNamed (some_same _ m e) tt
 
   of_unless : (o : Option Error) (m : Made (Unit {0})) → unless_wrong o ≡ Some m → AllNamed m
@@ -198,7 +198,7 @@ module _ (P : ℕ → Type 0) where
   of_found : (d c owner : Kin) (m : Option Member) (key : Key) (v : Verdict) (w : Made Verdict) → P d.class.loader → P owner.class.loader → resolve_found d c owner m key v ≡ Some w → AllNamed w
   of_found d c owner m key v w pd po e =
       bound _ _ w e (λ x h. of_unless _ x h)
-      (λ x a y h k l. bound (need (equals_of key owner.class.loader d.class.loader)) (λ b. done v) y l (λ z i. of_need _ z (equals key owner.class.loader d.class.loader po pd) i) (λ z b u i j n. of_done v u n))
+      (λ x a y h k l. bound (need (equals_of key owner.class.loader d.class.loader)) (λ b. end_with v) y l (λ z i. of_need _ z (equals key owner.class.loader d.class.loader po pd) i) (λ z b u i j n. of_done v u n))
 
   fields : (key : Key) (f : Forest) → AllIn P f → IfSome (field_among key f) (HasAll P)
   fields key Bare h = tt

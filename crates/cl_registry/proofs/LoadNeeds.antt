@@ -8,7 +8,7 @@ use Rattle.cl_model.specs.declared.class.Class.{Class}
 use Rattle.cl_model.specs.Classes.{class, is_among, Error, NoClassDef, Above, superclass_of, superinterfaces_of, read_class, misfit}
 use Rattle.cl_model.specs.Lineages.{Kin}
 use Rattle.cl_model.specs.States.{Need, Entry}
-use Rattle.cl_model.specs.Works.{Work, Made, done, need, ask, or_fail, unless_wrong, of_result, ◌>>=◌}
+use Rattle.cl_model.specs.Works.{Work, Made, end_with, need, ask, or_fail, unless_wrong, of_result, ◌>>=◌}
 use Rattle.cl_model.specs.Plans.{initiating_needs, load_by, loads_above, derive_new, derive, load}
 use Rattle.cl_model.proofs.Bind.{pieces, some_same}
 use Rattle.cl_model.proofs.Heights.{loaded, found, sought, grown, others_after, checked, finished, interfaces_next, superclass_next, circle_or}
@@ -48,7 +48,7 @@ load_only w d ih absent loader name =
     only_then (ask loader name) (sought w d absent loader name) (none_only _ refl) (λ u.
     only_then (or_fail (absent (class name loader)) (home w loader name)) (found w d loader name) (or_fail_only (absent (class name loader)) (home w loader name)) (λ place.
     only_then (d (class name place)) (loaded w loader name place) (ih (class name place)) (λ k.
-    only_then (need (initiating_needs loader name place)) (λ (b : Unit {0}). done k) (need_only (initiating_needs loader name place) (initiating_only loader place name (loader == place))) (λ b. none_only _ refl))))
+    only_then (need (initiating_needs loader name place)) (λ (b : Unit {0}). end_with k) (need_only (initiating_needs loader name place) (initiating_only loader place name (loader == place))) (λ b. none_only _ refl))))
 
 above_only : (w : World) (d : Class → Work Kin) → ((c : Class) → Only (d c)) → (c : Class) (others : List Above) → Only (loads_above w d c others)
 above_only w d ih c [] = none_only _ refl
@@ -62,7 +62,7 @@ new_only w d ih c =
     only_then (of_result (read_class w c)) (superclass_next w d c) (none_only _ refl) (λ f.
     only_then (loads_above w d c (superclass_of f)) (interfaces_next w d c f) (above_only w d ih c (superclass_of f)) (λ sup.
     only_then (loads_above w d c (superinterfaces_of f)) (finished c f sup) (above_only w d ih c (superinterfaces_of f)) (λ ints.
-    only_then (need (Entry c.loader c.name c.loader ∷ [])) (λ (b : Unit {0}). done (record { class = c; file = f; superclass = sup; interfaces = ints })) (need_only (Entry c.loader c.name c.loader ∷ []) (tt, tt)) (λ b. none_only _ refl))))
+    only_then (need (Entry c.loader c.name c.loader ∷ [])) (λ (b : Unit {0}). end_with (record { class = c; file = f; superclass = sup; interfaces = ints })) (need_only (Entry c.loader c.name c.loader ∷ []) (tt, tt)) (λ b. none_only _ refl))))
 
 circle_only : (c : Class) (a : Work Kin) (t : Bool) → Only a → Only (circle_or c a t)
 circle_only c a true h = none_only _ refl

@@ -43,12 +43,12 @@ BlamesIn stands need AlreadyPosted = ⊥
 BlamesIn stands need NotYet = ⊥
 
 -- the fault that a book's refusal of a need is (5.3.4)
-abbrev pub fault_of : BookFault → Need → RegistryFault
-fault_of books.Memory need = Memory
-fault_of books.Violates need = Violates need
+abbrev pub refusal_fault : BookFault → Need → RegistryFault
+refusal_fault books.Memory need = Memory
+refusal_fault books.Violates need = Violates need
 
--- a record that a loader lacks is strayed where it may not be made; it is blamed where it would violate an equality; others are
--- refused where memory ran out alone (5.3, 5.3.4)
+-- a record that a loader lacks is refused as Stray where it may not be made; it is blamed where it would violate an equality;
+-- others are refused where memory ran out alone (5.3, 5.3.4)
 abbrev pub RecordRefusedFor : Shown → (lacks may : Type 0) → states.Need → RegistryFault → Type 0
 RecordRefusedFor x lacks may need Memory = lacks → may
 RecordRefusedFor x lacks may need Stray = lacks × (may → ⊥)
@@ -64,7 +64,7 @@ DefineRefusedFor x d fault = RecordRefusedFor x (IsNew x d) (MayEnter x d) (own_
 abbrev pub InitiateRefusedFor : Shown → Located → RegistryFault → Type 0
 InitiateRefusedFor x h fault = RecordRefusedFor x (LacksRecord x h.asked h.name) (MayJoin x h) (asked_record h) fault
 
--- what is so is refused for memory alone, and what is not is strayed
+-- what is so is refused for memory alone, and what is not is refused as Stray
 abbrev pub MemoryOrStray : Type 0 → RegistryFault → Type 0
 MemoryOrStray holds Memory = holds
 MemoryOrStray holds Stray = holds → ⊥
@@ -72,8 +72,8 @@ MemoryOrStray holds (Violates n) = ⊥
 MemoryOrStray holds AlreadyPosted = ⊥
 MemoryOrStray holds NotYet = ⊥
 
--- an equality is strayed where it may not be imposed; it is blamed where it would violate one; others are refused where memory
--- ran out alone, and one that is met is not (5.3.4, 5.4.2, 5.4.3)
+-- an equality is refused as Stray where it may not be imposed; it is blamed where it would violate one; others are refused where
+-- memory ran out alone, and one that is met is not (5.3.4, 5.4.2, 5.4.3)
 abbrev pub ImposeRefusedFor : Shown → Listed → ℕ → RegistryFault → Type 0
 ImposeRefusedFor x e k Memory = MayImpose x e k × (IsNextOf e k (Met (state_of x)) → ⊥)
 ImposeRefusedFor x e k Stray = MayImpose x e k → ⊥
@@ -89,8 +89,8 @@ pub record ImposeSays (told : Option Content) (old new : Shown) (e : Listed) (k 
   pub unchanged : IfErr result (λ fault. new ≡ old)
   pub kept : IsKept told new
 
--- a class is strayed where it may not be prepared; others are refused where memory ran out alone, and one that is prepared is not
--- (5.4.2)
+-- a class is refused as Stray where it may not be prepared; others are refused where memory ran out alone, and one that is
+-- prepared is not (5.4.2)
 abbrev pub MarkRefusedFor : Shown → Listed → RegistryFault → Type 0
 MarkRefusedFor x e Memory = MayMark x e × (IsPreparedBy x e.origin → ⊥)
 MarkRefusedFor x e Stray = MayMark x e → ⊥
@@ -98,8 +98,8 @@ MarkRefusedFor x e (Violates n) = ⊥
 MarkRefusedFor x e AlreadyPosted = ⊥
 MarkRefusedFor x e NotYet = ⊥
 
--- a finding is strayed where the entry that its request resolves is not settled and it settles none; others are refused where
--- memory ran out alone (5.4.3)
+-- a finding is refused as Stray where the entry that its request resolves is not settled and it settles none; others are refused
+-- where memory ran out alone (5.4.3)
 abbrev pub SettleRefusedFor : Shown → Answered → RegistryFault → Type 0
 SettleRefusedFor x f Memory = settled_by x f.request ≡ None → FindingSettles x f
 SettleRefusedFor x f Stray = (settled_by x f.request ≡ None) × (FindingSettles x f → ⊥)
@@ -107,8 +107,8 @@ SettleRefusedFor x f (Violates n) = ⊥
 SettleRefusedFor x f AlreadyPosted = ⊥
 SettleRefusedFor x f NotYet = ⊥
 
--- an answer is strayed where the request is another, or where what it rests on is not in the tables; between the two it is
--- told that the request is of a later round, or has an answer
+-- an answer is refused as Stray where the request is another, or where what it rests on is not in the tables; between the two it
+-- is told that the request is of a later round, or has an answer
 abbrev pub PostRefusedFor : Shown → ℕ → Answered → RegistryFault → Type 0
 PostRefusedFor x q f Memory = ⊥
 PostRefusedFor x q f Stray = (IsAsked x q f → ⊥) ⊎ (MayPostUnder x q f.request × (IsBacked x f → ⊥))

@@ -64,7 +64,7 @@ AllowedIsSettled =
     → MaySettle (machine x content) (state_of x) s.class s.index (verdict_of s.verdict)
     → (settled_by x f.request ≡ None) × IsToSettle x f s
 
--- a finding that rests on another configuration is strayed by `settle`, where the entry of its request is not settled
+-- a finding that rests on another configuration is refused as Stray by `settle`, where the entry of its request is not settled
 abbrev pub OtherFindingIsStray : Type 0
 OtherFindingIsStray =
     (x : Shown) (f : Answered) (b : Based) → f.basis ≡ Some b → (b.config ≡ x.config → ⊥) → settled_by x f.request ≡ None

@@ -144,20 +144,20 @@ abbrev pub looked_row : Shown → ℕ → List ℕ → Option Rowed
 looked_row x loader name = option_and_then (λ place. row_of x.rows (class name place)) (recorded_definer (records_of x) loader name)
 
 -- which loader defined the class that a loader has recorded for a name (5.3); nothing is asked where none is
-abbrev pub place_in : List Record → ℕ → Above → ℕ
-place_in records loader a = place_by (recorded_definer records loader) a
+abbrev pub recorded_place : List Record → ℕ → Above → ℕ
+recorded_place records loader a = place_by (recorded_definer records loader) a
 
 -- the row that the class of a draft gets: each supertype is the one that its loader has recorded (5.3.5, steps 3 to 5)
 abbrev pub row_for : Shown → Drafted → Rowed
 row_for x d = row_by (recorded_definer (records_of x) d.class.loader) d
 
 -- the row in a table of each loader (5.3)
-abbrev pub row_at : {R S : Type 0} → List (HashMap (List ℕ) R S) → ℕ → List ℕ → Option R
-row_at rows loader name = option_and_then (λ m. get (pointwise nat_eq) m name) (slice_get rows loader)
+abbrev pub table_row : {R S : Type 0} → List (HashMap (List ℕ) R S) → ℕ → List ℕ → Option R
+table_row rows loader name = option_and_then (λ m. get (pointwise nat_eq) m name) (slice_get rows loader)
 
 -- which loader defined the class that a table has for a loader and a name (5.3)
 abbrev pub placed_at : {S : Type 0} → List (HashMap (List ℕ) (Arc Rowed Global) S) → ℕ → List ℕ → Option ℕ
-placed_at rows loader name = option_map (λ r. r.value.class.loader) (row_at rows loader name)
+placed_at rows loader name = option_map (λ r. r.value.class.loader) (table_row rows loader name)
 
 -- the entry in a table of the settled references of each class (5.4.3)
 abbrev pub reference_in : {R S : Type 0} → HashMap Class (HashMap ℕ R S) S → Class → ℕ → Option R

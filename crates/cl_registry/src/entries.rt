@@ -10,8 +10,8 @@ ghost use Rattle.cl_model.specs.declared.event.Event.TheVariants as events;
 ghost use Rattle.cl_registry.specs.Parts.{AddsEvent, EachHas, HasRoom, HasSame, IsPut, is_there, place_by, place_there, row_by, shared_values};
 ghost use Rattle.cl_model.specs.declared.need.Need.TheVariants as needs;
 ghost use Rattle.cl_constraints.specs.Books.{Adds};
-ghost use Rattle.cl_registry.specs.Refusals.{BlamesIn, fault_of};
-ghost use Rattle.cl_registry.specs.Tables.{placed_at, row_at};
+ghost use Rattle.cl_registry.specs.Refusals.{BlamesIn, refusal_fault};
+ghost use Rattle.cl_registry.specs.Tables.{placed_at, table_row};
 ghost use Rattle.cl_findings.specs.Loads.{asked_record, own_record};
 ghost use Rattle.cl_findings.specs.Findings.{Decides};
 
@@ -27,7 +27,7 @@ use std::sync::Arc;
 
 /// Whether the loader of a draft has recorded the direct supertype at a place, if there is one.
 fn is_there<T: Told>(tables: &Rows<T>, draft: &Draft<T>, at: usize) -> bool
-    ensures { result ≡ is_there (λ n. is_some (row_at tables.now.items draft.now.class.loader n))
+    ensures { result ≡ is_there (λ n. is_some (table_row tables.now.items draft.now.class.loader n))
         (slice_get (supers (file_of draft.now.file)) at) }
 {
     match draft.supertype(at) {
@@ -39,7 +39,7 @@ fn is_there<T: Told>(tables: &Rows<T>, draft: &Draft<T>, at: usize) -> bool
 /// Whether the loader of a draft has recorded each direct supertype of its class.
 pub fn has_supers<T: Told>(tables: &Rows<T>, draft: &Draft<T>) -> bool
     ensures { Decides result (EachHas
-        (λ n. is_some (row_at tables.now.items draft.now.class.loader n))
+        (λ n. is_some (table_row tables.now.items draft.now.class.loader n))
         (supers (file_of draft.now.file))) }
 {
     for at in 0..draft.supertypes() {
@@ -108,7 +108,7 @@ fn places_of<T: Told>(
 
 /// The row that a draft's loader has recorded for the name of its class.
 pub fn own_row<'a, T: Told>(tables: &'a Rows<T>, draft: &Draft<T>) -> Option<&'a Arc<ClassRow<T>>>
-    ensures { option_map (λ r. r.now) result ≡ row_at tables.now.items draft.now.class.loader
+    ensures { option_map (λ r. r.now) result ≡ table_row tables.now.items draft.now.class.loader
         draft.now.class.name }
 {
     find(tables, draft.class().loader, &draft.class().name)
@@ -155,7 +155,7 @@ fn parts_of<T: Told>(
 
 /// Why a book did not take the record of a loader.
 fn entry_fault(refusal: Refusal, loader: LoaderId, home: LoaderId) -> RegistryFault
-    ensures { result ≡ fault_of refusal.fault (needs.Entry loader refusal.name home) }
+    ensures { result ≡ refusal_fault refusal.fault (needs.Entry loader refusal.name home) }
 {
     match refusal.fault {
         BookFault::Memory => RegistryFault::Memory,
@@ -179,30 +179,35 @@ pub fn record<T: Told>(
     draft: &Draft<T>,
     name: Name,
 ) -> Result<Arc<ClassRow<T>>, RegistryFault>
+    // What is given.
     requires loader { draft.now.class.loader < length tables.old.items }
     requires room { HasRoom history.old left }
     requires named { name ≡ draft.now.class.name }
     requires fresh { ⟦<GroupedBook as ConstraintBook>⟧.record_of book.old draft.now.class.name
         draft.now.class.loader ≡ None }
+    // What stays in either case.
     ensures width { length tables.new.items ≡ length tables.old.items }
     ensures room { HasRoom history.new left }
+    // What is added.
     ensures row { IfOk result (λ r. r.value
         ≡ row_by (placed_at tables.old.items draft.now.class.loader) draft.now) }
     ensures event { OnOk result (AddsEvent history.old history.new
         (events.Define draft.now.class)) }
-    ensures put { IfOk result (λ r. IsPut (shared_values (λ c. c.value) (row_at tables.old.items))
-        (shared_values (λ c. c.value) (row_at tables.new.items)) draft.now.class.loader
-        draft.now.class.name r.value) }
+    ensures put { IfOk result (λ r. IsPut
+        (shared_values (λ c. c.value) (table_row tables.old.items))
+        (shared_values (λ c. c.value) (table_row tables.new.items))
+        draft.now.class.loader draft.now.class.name r.value) }
     ensures rows { IfOk result (λ r. map (λ c. c.value) rows.new.items ≡ map
         (λ c. c.value) rows.old.items ++ r.value ∷ []) }
     ensures entered { OnOk result (Adds ⟦<GroupedBook as ConstraintBook>⟧.stands_for book.old
         book.new (own_record draft.now)) }
+    // Where it is refused: why, and all is as before.
     ensures blames { IfErr result
         (λ fault. BlamesIn (⟦<GroupedBook as ConstraintBook>⟧.stands_for book.old)
         (own_record draft.now) fault) }
     ensures same_history { OnErr result (VecUnchanged history.old history.new) }
-    ensures same_tables { OnErr result (HasSame (row_at tables.old.items)
-        (row_at tables.new.items)) }
+    ensures same_tables { OnErr result (HasSame (table_row tables.old.items)
+        (table_row tables.new.items)) }
     ensures same_rows { OnErr result (rows.new.items ≡ rows.old.items) }
     ensures same_book { OnErr result (book.new ≡ book.old) }
 {
@@ -222,7 +227,7 @@ pub fn record<T: Told>(
 
 /// The row that the loader that was asked has recorded for a home's name.
 pub fn asked_row<'a, T: Told>(tables: &'a Rows<T>, home: &Home<T>) -> Option<&'a Arc<ClassRow<T>>>
-    ensures { option_map (λ r. r.now) result ≡ row_at tables.now.items home.now.asked
+    ensures { option_map (λ r. r.now) result ≡ table_row tables.now.items home.now.asked
         home.now.name }
 {
     find(tables, home.asked_loader(), home.name())
@@ -230,7 +235,7 @@ pub fn asked_row<'a, T: Told>(tables: &'a Rows<T>, home: &Home<T>) -> Option<&'a
 
 /// The row of the class of a home, where the home has defined it.
 pub fn defined_row<'a, T: Told>(tables: &'a Rows<T>, home: &Home<T>) -> Option<&'a Arc<ClassRow<T>>>
-    ensures row { IfSome result (λ r. row_at tables.now.items home.now.place home.now.name
+    ensures row { IfSome result (λ r. table_row tables.now.items home.now.place home.now.name
         ≡ Some r.now) }
     ensures own { MatchOption result
         (placed_at tables.now.items home.now.place home.now.name ≢ Some home.now.place)
@@ -266,27 +271,31 @@ pub fn join<T: Told>(
     row: Arc<ClassRow<T>>,
     name: Name,
 ) -> Result<Arc<ClassRow<T>>, RegistryFault>
+    // What is given.
     requires loader { home.now.asked < length tables.old.items }
     requires room { HasRoom history.old left }
     requires named { name ≡ home.now.name }
     requires fresh { ⟦<GroupedBook as ConstraintBook>⟧.record_of book.old home.now.name
         home.now.asked ≡ None }
+    // What stays in either case.
     ensures width { length tables.new.items ≡ length tables.old.items }
     ensures room { HasRoom history.new left }
+    // What is added.
     ensures row { IfOk result (λ r. r.value ≡ row.value) }
     ensures event { OnOk result (AddsEvent history.old history.new (events.Initiate
         (home_class home.now) home.now.asked)) }
-    ensures put { OnOk result (IsPut (shared_values (λ c. c.value) (row_at tables.old.items))
-        (shared_values (λ c. c.value) (row_at tables.new.items)) home.now.asked home.now.name
+    ensures put { OnOk result (IsPut (shared_values (λ c. c.value) (table_row tables.old.items))
+        (shared_values (λ c. c.value) (table_row tables.new.items)) home.now.asked home.now.name
         row.value) }
     ensures entered { OnOk result (Adds ⟦<GroupedBook as ConstraintBook>⟧.stands_for book.old
         book.new (asked_record home.now)) }
+    // Where it is refused: why, and all is as before.
     ensures blames { IfErr result
         (λ fault. BlamesIn (⟦<GroupedBook as ConstraintBook>⟧.stands_for book.old)
         (asked_record home.now) fault) }
     ensures same_history { OnErr result (VecUnchanged history.old history.new) }
-    ensures same_tables { OnErr result (HasSame (row_at tables.old.items)
-        (row_at tables.new.items)) }
+    ensures same_tables { OnErr result (HasSame (table_row tables.old.items)
+        (table_row tables.new.items)) }
     ensures same_book { OnErr result (book.new ≡ book.old) }
 {
     let event = event_of(alloc, home)?;

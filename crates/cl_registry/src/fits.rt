@@ -6,7 +6,7 @@ ghost use Rattle.cl_model.specs.Classes.{supers};
 ghost use Rattle.cl_findings.specs.Findings.{Decides};
 ghost use Rattle.cl_hierarchy.specs.Rows.{FitsAs};
 ghost use Rattle.cl_registry.specs.Parts.{shared_values};
-ghost use Rattle.cl_registry.specs.Tables.{SupertypesFit, row_at};
+ghost use Rattle.cl_registry.specs.Tables.{SupertypesFit, table_row};
 
 use crate::tables::{Rows, find};
 use cl_hierarchy::{Draft, misfit};
@@ -16,8 +16,8 @@ use cl_model::Told;
 /// role (JVMS SE 8, 5.3.5, steps 3 and 4).
 fn supertype_fits<T: Told>(tables: &Rows<T>, draft: &Draft<T>, at: usize) -> bool
     ensures { Decides result (IfSome (slice_get (supers (file_of draft.now.file)) at)
-        (λ a. IfSome (shared_values (λ r. r.value) (row_at tables.now.items) draft.now.class.loader a.name)
-        (FitsAs draft.now.class a))) }
+        (λ a. IfSome (shared_values (λ r. r.value) (table_row tables.now.items)
+        draft.now.class.loader a.name) (FitsAs draft.now.class a))) }
 {
     let class = draft.class();
     match draft.supertype(at) {
@@ -32,8 +32,8 @@ fn supertype_fits<T: Told>(tables: &Rows<T>, draft: &Draft<T>, at: usize) -> boo
 /// Whether each direct supertype of a draft that the draft's loader has recorded fits in its role (JVMS SE 8, 5.3.5, steps 3
 /// and 4).
 pub fn supertypes_fit<T: Told>(tables: &Rows<T>, draft: &Draft<T>) -> bool
-    ensures { Decides result (SupertypesFit (shared_values (λ r. r.value) (row_at tables.now.items))
-        draft.now) }
+    ensures { Decides result (SupertypesFit
+        (shared_values (λ r. r.value) (table_row tables.now.items)) draft.now) }
 {
     for at in 0..draft.supertypes() {
         // (one that is named again was looked at)

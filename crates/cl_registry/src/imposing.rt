@@ -15,7 +15,7 @@ ghost use Rattle.cl_model.specs.Texts.{EqualityNames};
 ghost use Rattle.cl_registry.specs.Imposing.{ArePreparedAbove, HoldsFor, IsPreparedAbove, IsPreparedBy, IsReached, IsReady, IsStanding, IsUnmetIn, Marks, MayConstrainAs, MayImpose, MayMark, MayPrepareAs, OriginStands, with_constrain, with_prepare};
 ghost use Rattle.cl_registry.specs.Parts.{AddsEvent, HasRoom};
 ghost use Rattle.cl_registry.specs.declared.registry.RegistryFault.TheVariants.{Memory};
-ghost use Rattle.cl_registry.specs.Refusals.{AddRefusedFor, BlamesIn, ImposeSays, MarkRefusedFor, fault_of};
+ghost use Rattle.cl_registry.specs.Refusals.{AddRefusedFor, BlamesIn, ImposeSays, MarkRefusedFor, refusal_fault};
 ghost use Rattle.cl_registry.specs.Tables.{IsKept, state_of};
 
 use crate::met::{are_met, is_met, note};
@@ -33,7 +33,7 @@ use std::alloc::{AllocError, Global};
 
 /// Why a book did not take an equality.
 fn equality_fault(refusal: Refusal, equality: &Equality) -> RegistryFault
-    ensures { result ≡ fault_of refusal.fault (needs.Equal (record {
+    ensures { result ≡ refusal_fault refusal.fault (needs.Equal (record {
       name = refusal.name;
       one = equality.now.one;
       other = equality.now.other;
@@ -58,15 +58,18 @@ fn add_equality(
     equality: &Equality,
     name: Name,
 ) -> Result<(), RegistryFault>
+    // What is given.
     requires room { HasRoom history.old left }
     requires named { name ≡ equality.now.name }
     requires unmet { IsUnmetIn (⟦<GroupedBook as ConstraintBook>⟧.stands_for book.old)
         (equal_need equality.now) }
+    // The room that is left, and what is added.
     ensures room { HasRoom history.new left }
     ensures event { OnOk result (AddsEvent history.old history.new
         (events.Constrain equality.now)) }
     ensures added { OnOk result (Adds ⟦<GroupedBook as ConstraintBook>⟧.stands_for book.old book.new
         (equal_need equality.now)) }
+    // Where it is refused: why, and all is as before.
     ensures blames { IfErr result
         (λ fault. BlamesIn (⟦<GroupedBook as ConstraintBook>⟧.stands_for book.old)
         (equal_need equality.now) fault) }
@@ -345,16 +348,20 @@ impl<T: Told> Registry<T> {
         equality: &Equality,
         name: Name,
     ) -> Result<(), RegistryFault>
+        // What is given.
         requires unmet { Met (state_of self.old) (equal_need equality.now) → ⊥ }
         requires may { MayConstrainAs T.told self.old equality.now }
         requires within { EqualityNames (length self.old.config.loaders) equality.now }
         requires named { name ≡ equality.now.name }
+        // What is imposed.
         ensures constrained { OnOk result (self.new ≡ with_constrain self.old equality.now) }
         ensures free { OnOk result (Refused (state_of self.old) (equal_need equality.now) → ⊥) }
         ensures met { OnOk result (Met (state_of self.new) (equal_need equality.now)) }
+        // Where it is refused: why, and all is as before.
         ensures refused { IfErr result (λ fault. AddRefusedFor self.old (equal_need equality.now)
             fault) }
         ensures unchanged { IfErr result (λ fault. self.new ≡ self.old) }
+        // What the tables keep in either case.
         ensures kept { IsKept T.told self.new }
     {
         if self.book.refuses(&name, equality.one, equality.other) {
@@ -381,13 +388,17 @@ impl<T: Told> Registry<T> {
 
     /// Marks a class that is recorded and not prepared.
     fn prepare(&mut self, alloc: Global, class: &Class) -> Result<(), RegistryFault>
+        // What is given.
         requires recorded { IsRecorded (state_of self.old) class.now }
         requires unprepared { Contains (state_of self.old).prepared class.now → ⊥ }
         requires may { MayPrepareAs T.told self.old class.now }
+        // What is marked.
         ensures prepared { OnOk result (self.new ≡ with_prepare self.old class.now) }
         ensures stands { OnOk result (Contains (state_of self.new).prepared class.now) }
+        // Where memory runs out, all is as before.
         ensures memory { IfErr result (λ fault. fault ≡ Memory) }
         ensures unchanged { IfErr result (λ fault. self.new ≡ self.old) }
+        // What the tables keep in either case.
         ensures kept { IsKept T.told self.new }
     {
         let left = to_come(self.left, self.round, self.script.rounds());

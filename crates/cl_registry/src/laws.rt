@@ -63,7 +63,7 @@ pub fn round_is_allowed()
     ensures { RoundIsAllowed }
 {}
 
-/// A class whose home was found under another configuration, and of which its loader has no record, is strayed.
+/// A class whose home was found under another configuration, and of which its loader has no record, is refused as Stray.
 pub fn other_config_is_stray()
     ensures { OtherConfigIsStray }
 {}

@@ -82,8 +82,10 @@ pub fn bind(
     seed: Seed,
     settled: Settled,
 ) -> Result<Arc<Settled>, AllocError>
+    // The room, before and after.
     requires room { HasRoom history.old left }
     ensures room { HasRoom history.new left }
+    // What is added.
     ensures value { IfOk result (λ s. s.value ≡ settled) }
     ensures event { OnOk result (AddsSettled history.old.items history.new.items settled) }
     ensures used { OnOk result (vec_len history.new ≡ vec_len history.old + 1) }
@@ -91,6 +93,7 @@ pub fn bind(
         (shared_values (λ s. s.value) (reference_in references.old))
         (shared_values (λ s. s.value) (reference_in references.new))
         settled.class settled.index settled) }
+    // Where memory runs out, all is as before.
     ensures same_history { OnErr result (VecUnchanged history.old history.new) }
     ensures same_references { OnErr result (HasSame (reference_in references.old)
         (reference_in references.new)) }

@@ -102,7 +102,7 @@ impl<T: Told> Drop for Registry<T> {
 impl<T: Told> Model for Registry<T> {
     ghost use Rattle.std.specs.Prelude.{length, vec_len, vec_capacity};
     ghost use Rattle.cl_registry.specs.Parts.{shared_values};
-    ghost use Rattle.cl_registry.specs.Tables.{Shown, reference_in, row_at};
+    ghost use Rattle.cl_registry.specs.Tables.{Shown, reference_in, table_row};
     ghost use Rattle.cl_registry.specs.Kept.{IsRegistry};
 
     ghost Value = { Shown };
@@ -111,7 +111,23 @@ impl<T: Told> Model for Registry<T> {
 
     ghost view = { shown_of };
 
-    ghost invariant = { λ r. IsRegistry T.told (shown_of r) (record { table = shared_values (λ c. c.value) (row_at r.tables.items); parts = length r.tables.items; references = shared_values (λ s. s.value) (reference_in r.references); prepared = r.prepared.keys; met = r.met.items; events = vec_len r.history; room_for_events = vec_capacity r.history; left = r.left; unanswered = r.unanswered.items; round = r.round; filled = vec_len r.room; room = vec_capacity r.room }) (⟦<GroupedBook as ConstraintBook>⟧.stands_for r.book) };
+    ghost invariant = { λ r. IsRegistry T.told (shown_of r) (record {
+      table = shared_values (λ c.
+          c.value) (table_row r.tables.items);
+      parts = length r.tables.items;
+      references = shared_values
+          (λ s. s.value) (reference_in r.references);
+      prepared = r.prepared.keys;
+      met = r.met.items;
+      events = vec_len r.history;
+      room_for_events = vec_capacity r.history;
+      left = r.left;
+      unanswered = r.unanswered.items;
+      round = r.round;
+      filled = vec_len r.room;
+      room =
+          vec_capacity r.room;
+    }) (⟦<GroupedBook as ConstraintBook>⟧.stands_for r.book) };
 }
 
 /// A registry could not be made.

@@ -29,7 +29,7 @@ pub fn allowed_is_settled()
     ensures { AllowedIsSettled }
 {}
 
-/// A finding of another configuration is strayed by `settle`, where the entry of its request is not settled.
+/// A finding of another configuration is refused as Stray by `settle`, where the entry of its request is not settled.
 pub fn other_finding_is_stray()
     ensures { OtherFindingIsStray }
 {}

@@ -4,7 +4,7 @@ ghost use Rattle.std.specs.Prelude.{◌≡◌, ℕ, List, ◌<◌, None, Some, I
 ghost use Rattle.std.specs.Option.{option_map};
 ghost use Rattle.cl_findings.specs.Findings.{Decides};
 ghost use Rattle.cl_registry.specs.Parts.{HasSame, HasSpare, IsPut};
-ghost use Rattle.cl_registry.specs.Tables.{placed_at, row_at};
+ghost use Rattle.cl_registry.specs.Tables.{placed_at, table_row};
 
 use cl_hierarchy::ClassRow;
 use cl_model::{Class, LoaderId, Settled, Told};
@@ -22,7 +22,7 @@ pub type References = IndexMap<Class, IndexMap<u16, Arc<Settled>, Seed>, Seed>;
 /// No rows, for this many loaders, in tables that hash with this seed.
 pub fn empty_rows<T: Told>(alloc: Global, seed: Seed, count: usize) -> Result<Rows<T>, AllocError>
     ensures count { IfOk result (λ r. length r.items ≡ count) }
-    ensures empty { IfOk result (λ r. (l : ℕ) (n : List ℕ) → row_at r.items l n ≡ None) }
+    ensures empty { IfOk result (λ r. (l : ℕ) (n : List ℕ) → table_row r.items l n ≡ None) }
 {
     let mut tables = Vec::with_capacity(alloc, count)?;
     for _ in 0..count {
@@ -37,7 +37,7 @@ pub fn find<'a, T: Told>(
     loader: LoaderId,
     name: &Name,
 ) -> Option<&'a Arc<ClassRow<T>>>
-    ensures { option_map (λ r. r.now) result ≡ row_at tables.now.items loader name.now }
+    ensures { option_map (λ r. r.now) result ≡ table_row tables.now.items loader name.now }
 {
     tables.get(loader.0 as usize)?.get(name)
 }
@@ -46,7 +46,7 @@ pub fn find<'a, T: Told>(
 pub fn reserve_row<T: Told>(tables: &mut Rows<T>, loader: LoaderId) -> Result<(), AllocError>
     requires { loader < length tables.old.items }
     ensures width { length tables.new.items ≡ length tables.old.items }
-    ensures same { HasSame (row_at tables.old.items) (row_at tables.new.items) }
+    ensures same { HasSame (table_row tables.old.items) (table_row tables.new.items) }
     ensures room { OnOk result (HasSpare tables.new.items loader) }
 {
     tables[loader.0 as usize].reserve(1)
@@ -62,7 +62,7 @@ pub fn insert_reserved<T: Told>(
     requires within { loader < length tables.old.items }
     requires room { HasSpare tables.old.items loader }
     ensures width { length tables.new.items ≡ length tables.old.items }
-    ensures put { IsPut (row_at tables.old.items) (row_at tables.new.items) loader name row }
+    ensures put { IsPut (table_row tables.old.items) (table_row tables.new.items) loader name row }
 {
     match tables[loader.0 as usize].insert(name, row) {
         Ok(_) => {}

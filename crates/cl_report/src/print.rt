@@ -1,10 +1,9 @@
 ghost use Rattle.std.specs.Prelude.{◌≡◌, ◌++◌, [], ◌∷◌, length, map, string_bytes, All, OnOk, OnErr, if◌then◌else◌};
 ghost use Rattle.std.specs.Fmt.{decimal};
-ghost use Rattle.std.specs.Io.KnownBytes.{Appends};
 ghost use Rattle.cl_model.specs.Lines.{answer_text, ended_line, words};
 ghost use Rattle.cl_model.specs.Texts.{EventNames, AnswerNames};
 ghost use Rattle.cl_model.specs.Views.{answer_of};
-ghost use Rattle.cl_streams.specs.Writing.{AppendsPart, Passes};
+ghost use Rattle.cl_streams.specs.Writing.{PutsBehind, StopsWithin, WritesBytes, WritesPart, paged, stream};
 ghost use Rattle.cl_report.specs.Report.{answer_lines, event_line, history_lines, report_lines};
 
 use cl_model::{Answer, Event};
@@ -24,10 +23,10 @@ pub fn print_report<W: Write>(
 ) -> Result<(), PrintFault>
     requires events { All (EventNames (length loaders.now)) report.now.history }
     requires answers { All (AnswerNames (length loaders.now)) report.now.answers }
-    ensures lines { OnOk result (Appends (W.contents out.old) (W.contents out.new)
+    ensures lines { OnOk result (WritesBytes (stream W.contents out.old out.new)
         (report_lines (map string_bytes loaders.now) answers report.now.history
         report.now.answers)) }
-    ensures part { OnErr result (AppendsPart (W.contents out.old) (W.contents out.new)
+    ensures part { OnErr result (WritesPart (stream W.contents out.old out.new)
         (report_lines (map string_bytes loaders.now) answers report.now.history
         report.now.answers)) }
 {
@@ -57,11 +56,12 @@ fn print_history<W: Write>(
     waiting: &mut String,
 ) -> Result<(), PrintFault>
     requires { All (EventNames (length loaders.now)) events.now }
-    ensures lines { OnOk result (Passes (W.contents out.old) (string_bytes waiting.old)
-        (W.contents out.new) (string_bytes waiting.new) (history_lines
-        (map string_bytes loaders.now) events.now)) }
-    ensures part { OnErr result (AppendsPart (W.contents out.old) (W.contents out.new)
-        (string_bytes waiting.old ++ history_lines (map string_bytes loaders.now) events.now)) }
+    ensures lines { OnOk result (PutsBehind
+        (paged W.contents out.old out.new string_bytes waiting.old waiting.new)
+        (history_lines (map string_bytes loaders.now) events.now)) }
+    ensures part { OnErr result (StopsWithin
+        (paged W.contents out.old out.new string_bytes waiting.old waiting.new)
+        (history_lines (map string_bytes loaders.now) events.now)) }
 {
     for event in events {
         put_event(event, loaders, out, waiting)?;
@@ -77,11 +77,12 @@ fn print_answers<W: Write>(
     waiting: &mut String,
 ) -> Result<(), PrintFault>
     requires { All (AnswerNames (length loaders.now)) answers.now }
-    ensures lines { OnOk result (Passes (W.contents out.old) (string_bytes waiting.old)
-        (W.contents out.new) (string_bytes waiting.new) (answer_lines (map string_bytes loaders.now)
-        answers.now)) }
-    ensures part { OnErr result (AppendsPart (W.contents out.old) (W.contents out.new)
-        (string_bytes waiting.old ++ answer_lines (map string_bytes loaders.now) answers.now)) }
+    ensures lines { OnOk result (PutsBehind
+        (paged W.contents out.old out.new string_bytes waiting.old waiting.new)
+        (answer_lines (map string_bytes loaders.now) answers.now)) }
+    ensures part { OnErr result (StopsWithin
+        (paged W.contents out.old out.new string_bytes waiting.old waiting.new)
+        (answer_lines (map string_bytes loaders.now) answers.now)) }
 {
     for (index, answer) in answers.iter().enumerate() {
         put_answer(index + 1, answer, loaders, out, waiting)?;
@@ -97,11 +98,12 @@ fn put_event<W: Write>(
     waiting: &mut String,
 ) -> Result<(), PrintFault>
     requires { EventNames (length loaders.now) event.now }
-    ensures line { OnOk result (Passes (W.contents out.old) (string_bytes waiting.old)
-        (W.contents out.new) (string_bytes waiting.new) (event_line (map string_bytes loaders.now)
-        event.now)) }
-    ensures part { OnErr result (AppendsPart (W.contents out.old) (W.contents out.new)
-        (string_bytes waiting.old ++ event_line (map string_bytes loaders.now) event.now)) }
+    ensures line { OnOk result (PutsBehind
+        (paged W.contents out.old out.new string_bytes waiting.old waiting.new)
+        (event_line (map string_bytes loaders.now) event.now)) }
+    ensures part { OnErr result (StopsWithin
+        (paged W.contents out.old out.new string_bytes waiting.old waiting.new)
+        (event_line (map string_bytes loaders.now) event.now)) }
 {
     event.put_line(loaders, waiting)?;
     pass_page(out, waiting)
@@ -116,12 +118,14 @@ fn put_answer<W: Write>(
     waiting: &mut String,
 ) -> Result<(), PrintFault>
     requires { AnswerNames (length loaders.now) answer.now }
-    ensures line { OnOk result (Passes (W.contents out.old) (string_bytes waiting.old)
-        (W.contents out.new) (string_bytes waiting.new) (ended_line (words (decimal number ∷ answer_text
-        (map string_bytes loaders.now) (answer_of answer.now) ∷ [])))) }
-    ensures part { OnErr result (AppendsPart (W.contents out.old) (W.contents out.new)
-        (string_bytes waiting.old ++ ended_line (words (decimal number ∷ answer_text
-        (map string_bytes loaders.now) (answer_of answer.now) ∷ [])))) }
+    ensures line { OnOk result (PutsBehind
+        (paged W.contents out.old out.new string_bytes waiting.old waiting.new)
+        (ended_line (words (decimal number ∷ answer_text (map string_bytes loaders.now)
+        (answer_of answer.now) ∷ [])))) }
+    ensures part { OnErr result (StopsWithin
+        (paged W.contents out.old out.new string_bytes waiting.old waiting.new)
+        (ended_line (words (decimal number ∷ answer_text (map string_bytes loaders.now)
+        (answer_of answer.now) ∷ [])))) }
 {
     write!(waiting, "{number} ")?;
     answer.put_text(loaders, waiting)?;

@@ -75,7 +75,7 @@ no_fault (answers.Shared s) n = refl
 no_fault answers.Memory n = refl
 no_fault (answers.SourceFault name loader) n = absurd n
 
--- a refused read is answered as a fault of the source, unless memory was wanting
+-- a refused read is answered as a fault of the source, unless memory ran out
 reading_fault : (A : Type 0) (c : Configured) (w : Waits) (f : SourceFault) → IsReplyTo {A = A} c w (reply.SourceFault f) → fault (fault_answer w f) ≡ told_faults {A = A} (reply.SourceFault f)
 reading_fault A c (Reading l n) sources.Memory is = refl
 reading_fault A c (Reading l n) sources.Device is = refl

@@ -19,7 +19,7 @@ use Rattle.cl_model.specs.Views.{request_of, verdict_of}
 use Rattle.cl_model.specs.Steps.{IsOfService}
 use Rattle.cl_delegation.specs.Searches.{Located}
 use Rattle.cl_findings.specs.Findings.{Answered, loader_of, name_of}
-use Rattle.cl_findings.specs.References.{index_of}
+use Rattle.cl_findings.specs.References.{resolved_index}
 use Rattle.cl_hierarchy.specs.Imposed.{Sprung, OfReference, OfPreparation, equal_need}
 use Rattle.cl_registry.specs.References.{Cited, cited_by}
 use Rattle.cl_registry.specs.Settling.{IsToSettle}
@@ -75,7 +75,7 @@ initiate_for h other = by_test (nat_eq h.asked h.place) (differ h.asked h.place 
     by_test b e = rw e refl
 
 -- the entry that a request resolves is of the class that its loader has recorded
-cited_is : (x : Shown) (r : Request) (d : Class) (e : Cited) → Records (state_of x) (loader_of r) (name_of r) d → cited_by x r ≡ Some e → (d ≡ e.class) × (index_of r ≡ e.index)
+cited_is : (x : Shown) (r : Request) (d : Class) (e : Cited) → Records (state_of x) (loader_of r) (name_of r) d → cited_by x r ≡ Some e → (d ≡ e.class) × (resolved_index r ≡ e.index)
 cited_is x (requests.Load loader name) d e kept cited = absurd cc
 cited_is x (requests.Link loader name) d e kept cited = absurd cc
 cited_is x (requests.Resolve loader name i) d e kept cited =
@@ -87,7 +87,7 @@ settle_next : (g : Setting) (x : Shown) (r : Request) (f : Answered) (e : Step) 
 settle_next g x r f e s n same to is may =
     let at = cited_is x r n.class (record { class = s.class; index = s.index }) n.kept (ap (cited_by x) (sym same) ∙ to.cited) in
     let verdict : n.verdict ≡ s.verdict = said_is n.verdict s.verdict (sym n.said ∙ to.says.said) in
-    let here : Settle n.class (index_of r) (verdict_of n.verdict) ≡ e = step_is n.class s.class (index_of r) s.index n.verdict s.verdict at.0 at.1 verdict ∙ sym is in
+    let here : Settle n.class (resolved_index r) (verdict_of n.verdict) ≡ e = step_is n.class s.class (resolved_index r) s.index n.verdict s.verdict at.0 at.1 verdict ∙ sym is in
     let unsettled = (subst (May g (state_of x)) (sym here) may).may_keep.unsettled in
     subst (IsNextStep g (state_of x) (request_of r)) here (n.step unsettled)
   where

@@ -110,7 +110,7 @@ pub count_first : {B E : Type 0} (r : Result B E) (a b : ℕ) (more : B → ℕ)
 count_first (Ok o) a b more k l m g h = count_then a b (more o) k l m g h
 count_first (Err e) a b more k l m g h = tt
 
--- one that memory was wanting for before it began
+-- one for which memory ran out before it began
 pub count_refused : (old new : Shown) (at q k l : ℕ) (a : Answer) → at ≡ 0 → fault a ≡ 0 → l ≡ k → IsOpen old q → new ≡ with_post old q a → CountGrows (faults old.answers + at) (faults new.answers + 0) k l
 count_refused old new at q k l a none quiet unread opened posted = record {
   number = 0;

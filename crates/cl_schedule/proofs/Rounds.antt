@@ -1,4 +1,4 @@
--- Rounds between requests, and one request after another (own choice).
+-- Rounds between requests, and one request after another.
 use Rattle.std.proofs.Common.{◌≡◌, inl, inr, ◌∙◌, ◌+◌, ◌-◌, ◌<◌, ◌≤◌, ℕ, zero, suc, Bool, true, false, List, [], ◌∷◌, ◌++◌, length, take, Option, Some, None, refl, sym, ap, subst, arith, append_assoc, add-one, is_some}
 use Rattle.std.specs.Prelude.{◌||◌, ◌⊎◌, nat_eq, option_map, slice_get, slice_index_or, slice_set, IsSome, All}
 use Rattle.std.specs.List.{list_any, range_with_len}

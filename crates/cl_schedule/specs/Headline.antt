@@ -19,7 +19,7 @@ use Rattle.cl_schedule.specs.Blames.{EachBlames}
 use Rattle.cl_schedule.specs.Known.{KnownStays}
 use Rattle.cl_schedule.specs.Serving.{HasEachBelow, InOrder, reported_registry}
 
--- each class that is recorded is spelt by its defining loader's bytes, by the grammar (4.1; 5.3.5)
+-- each class that is recorded is spelled by its defining loader's bytes, by the grammar (4.1; 5.3.5)
 abbrev pub EachSpelt : Option Content → Shown → Type 0
 EachSpelt told x = (c : Class) → IsRecorded (state_of x) c → (f : Structure) × IsSpelt told c f
 
@@ -62,9 +62,9 @@ CirclesExact (Some content) x =
 
 -- the report of a script that was served in some order, or by threads, under a configuration. Where a content is told, the history is a run of the
 -- linkage machine over it, in which each request is answered once, in its round, with what its plan yields in the state at that
--- point, or with a failure; each class is spelt by its defining loader's bytes, equal requests and equal references are answered
--- alike, and circles are told exactly. Under any source each request has one post, the last round has begun, the tables can be
--- trusted, no loader records a name twice and no constraint is violated (5.3 to 5.4.3)
+-- point, or with a failure; each class is spelled by its defining loader's bytes, equal requests and equal references are
+-- answered alike, and circles are told exactly. Under any source each request has one post, the last round has begun, the
+-- tables can be trusted, no loader records a name twice and no constraint is violated (5.3 to 5.4.3)
 pub record IsServed (told : Option Content) (config : Configured) (script : Scripted) (r : Report) : Type 0 where
   pub of_script : r.script.value ≡ script
   pub each_once : HasEachBelow (length script.requests) (posts r.history)

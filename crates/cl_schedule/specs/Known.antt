@@ -38,8 +38,8 @@ abbrev pub TellsKnown : {S : Type 0} → Shown → Shown → ℕ → requests.Re
 TellsKnown old new q r source later =
     (v : Verdict) → HasVerdict (state_of old) (request_of r) v → IsToldAtOnce old new q v source later
 
--- where the tables have a request's verdict when another one is posted, the request is answered so after that, or want of
--- memory, under any source (5.3, 5.4.2, 5.4.3)
+-- where the tables have a request's verdict when another one is posted, the request is answered so after that, or that memory
+-- ran out, under any source (5.3, 5.4.2, 5.4.3)
 abbrev pub KnownStays : Shown → Type 0
 KnownStays x =
     (before between behind : List Step) (p q : ℕ) (b a : Answer) (r : Scheduled) (v : Verdict)

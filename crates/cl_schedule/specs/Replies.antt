@@ -40,7 +40,7 @@ IsOfTables (turn.Read l n) = ⊥
 IsOfTables (turn.Post f) = ⊥
 IsOfTables other = Unit {0}
 
--- a look finds nothing only where nothing is recorded, settled or prepared, and memory is wanting only where something is to be
+-- a look finds nothing only where nothing is recorded, settled or prepared, and memory runs out only where something is to be
 -- shared (5.3, 5.4.2, 5.4.3)
 abbrev pub Shows : {A : Type 0} → Shown → Waits → Reply A → Type 0
 Shows x (Looking l n) (reply.Looked None) = LacksRecord x l n

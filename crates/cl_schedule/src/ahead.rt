@@ -18,13 +18,16 @@ fn impose_up_to<T: Told>(
     place: usize,
     end: usize,
 ) -> usize
+    // What is given.
     requires stands { StandsBefore registry.old list.now place }
     requires order { place ≤ end }
     requires end { end ≤ length list.now.needs }
     requires kept { IsKept T.told registry.old }
+    // What is imposed, and up to where.
     ensures imposed { AreImposed registry.old registry.new list.now place result }
     ensures standing { StandsBefore registry.new list.now result }
     ensures end { result ≤ end }
+    // What the tables keep.
     ensures kept { IsKept T.told registry.new }
 {
     let mut next = place;

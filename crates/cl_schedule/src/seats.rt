@@ -67,13 +67,17 @@ pub(crate) fn begin<T: Told, S: Source<T>>(
     request: Request,
 ) -> Result<Seat<T>, Finding<T>>
     requires loader { loader_of request < length config.value.loaders }
+    // What is begun.
     ensures seated { IfOk result (λ s. (x : Shown) → IsKept T.told x → x.config ≡ config.value
         → IsSeated T.told x s.task s.call q request) }
+    // What is answered where memory ran out.
     ensures request { IfErr result (λ f. f.request ≡ request) }
     ensures memory { IfErr result (λ f. f.answer ≡ answers.Memory) }
+    // What the source was asked.
     ensures faults { IfOk result (λ s. CountGrows 0 (owed_fault s.call)
         (S.refused source.old) (S.refused source.new)) }
     ensures unread { OnErr result (source.new ≡ source.old) }
+    // How many calls are left.
     ensures known { IfOk result (λ s. (x : Shown) (v : Verdict)
         → IsNear (state_of x) request v 3 s.task s.call) }
     ensures paid { IfOk result (λ s. (x : Shown) → IsKept T.told x → x.config ≡ config.value

@@ -103,14 +103,17 @@ fn serve_request<T: Told, S: Source<T>>(
     q: u32,
     request: Request,
 )
+    // What is given.
     requires config { registry.old.config ≡ config.value }
     requires loader { loader_of request < length config.value.loaders }
     requires may { MayPostUnder registry.old q request }
     requires kept { IsKept T.told registry.old }
+    // How the request ends, and how the faults of the source count.
     ensures done { IsDone T.told registry.old registry.new q request }
     ensures known { TellsKnown registry.old registry.new q request source.old source.new }
     ensures faults { CountGrows (faults registry.old.answers) (faults registry.new.answers)
         (S.refused source.old) (S.refused source.new) }
+    // What the tables keep.
     ensures kept { IsKept T.told registry.new }
 {
     let mut task = match Task::<T>::new(alloc, config, q, request) {

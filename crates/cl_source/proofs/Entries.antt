@@ -10,7 +10,7 @@ use Rattle.std.proofs.lemmas.Str.{encode_ascii}
 use Rattle.cl_names.specs.Kind.{code_points, IsAllowed, IsUnqualified, IsClass, IsNameOf}
 use Rattle.cl_names.specs.Plain.{is_plain_point, utf8_of, points_of, plain_of}
 use Rattle.cl_names.proofs.Units.{units_all}
-use Rattle.cl_source.specs.Directories.{within, path_of, IsEntryName, StaysWithin}
+use Rattle.cl_source.specs.Directories.{within, file_path, IsEntryName, StaysWithin}
 
 -- ---- characters
 
@@ -143,7 +143,7 @@ text_is None f path e = absurd cc
 points_are : (name : List ℕ) (n : IsNameOf IsClass name) → points_of name ≡ code_points n.text.units
 points_are name n = ap points_of n.text.spelled ∙ ap code_points (units_all n.text.units n.text.each)
 
-pub class_stays : (dir name path : List ℕ) → IsNameOf IsClass name → path_of dir name ≡ Some path → StaysWithin dir path
+pub class_stays : (dir name path : List ℕ) → IsNameOf IsClass name → file_path dir name ≡ Some path → StaysWithin dir path
 class_stays dir name path n e =
     let t = text_is (plain_of name) (λ text. within dir ++ text ++ codes ".class") path e in
     let joined = ap utf8_of (sym (points_are name n ∙ n.kind.joined)) ∙ t.1 in

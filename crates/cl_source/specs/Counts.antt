@@ -7,7 +7,7 @@ use Rattle.cl_source.specs.declared.source.SourceFault.TheVariants.{Memory, Devi
 abbrev pub Rises : ℕ → ℕ → Type 0
 Rises old new = ((old + 1 < 2 ^ 64) × (new ≡ old + 1)) ⊎ ((old + 1 ≡ 2 ^ 64) × (new ≡ old))
 
--- a refused read: the count rises exactly where it was not memory that was wanting
+-- a refused read: the count rises exactly where it was not memory that ran out
 abbrev pub CountsFault : ℕ → ℕ → SourceFault → Type 0
 CountsFault old new Memory = new ≡ old
 CountsFault old new Device = Rises old new

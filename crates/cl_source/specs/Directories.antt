@@ -35,8 +35,8 @@ within [] = []
 within (b ∷ bs) = (b ∷ bs) ++ 0x2f ∷ []
 
 -- DIR/NAME.class, where the name has a text in UTF-8
-abbrev pub path_of : List ℕ → List ℕ → Option (List ℕ)
-path_of dir name = option_map (λ text. within dir ++ text ++ codes ".class") (plain_of name)
+abbrev pub file_path : List ℕ → List ℕ → Option (List ℕ)
+file_path dir name = option_map (λ text. within dir ++ text ++ codes ".class") (plain_of name)
 
 -- the name of what stands in a folder: not the folder itself, nor the one above it
 abbrev pub IsEntryName : List ℕ → Type 0
@@ -77,7 +77,7 @@ AnswerOf gives path (Err Twice) = ⊥
 -- the path of a name where a loader has a directory; a loader without one has nothing
 abbrev pub path_in : Option (List ℕ) → List ℕ → Option (List ℕ)
 path_in None name = None
-path_in (Some dir) name = path_of dir name
+path_in (Some dir) name = file_path dir name
 
 -- what the source answers for it: a probe with these bytes, or the fault
 abbrev pub ReadsAs : (List ℕ → Seen → Type 0) → Option (List ℕ) → Result Probed SourceFault → Type 0

@@ -3,7 +3,7 @@
 ghost use Rattle.std.specs.Prelude.{◌≡◌, ◌<◌, ◌+◌, ◌^◌, ℕ, List, map, slice_get, IfOk, IsOkUnless, IsErrOf, string_bytes};
 ghost use Rattle.std.specs.Option.{option_map};
 ghost use Rattle.cl_source.specs.Counts.{Counts};
-ghost use Rattle.cl_source.specs.Directories.{path_of, path_in, AnswerOf, ReadsAs};
+ghost use Rattle.cl_source.specs.Directories.{file_path, path_in, AnswerOf, ReadsAs};
 ghost use Rattle.cl_source.specs.Seen.{Seen};
 
 use crate::files::ReadFile;
@@ -144,8 +144,8 @@ fn copies(alloc: Global, texts: &[String]) -> Result<Vec<String>, AllocError>
 }
 
 /// The path of a class's file in a directory, if its name has one.
-fn path_of(alloc: Global, dir: &str, name: &Name) -> Result<Option<String>, AllocError>
-    ensures { IfOk result (λ o. option_map string_bytes o ≡ path_of dir.now name.now) }
+fn file_path(alloc: Global, dir: &str, name: &Name) -> Result<Option<String>, AllocError>
+    ensures { IfOk result (λ o. option_map string_bytes o ≡ file_path dir.now name.now) }
 {
     let Some(text) = name.plain(alloc)? else {
         return Ok(None);
@@ -166,9 +166,9 @@ fn look_in<F: ReadFile>(
     dir: &str,
     name: &Name,
 ) -> Result<Outcome, SourceFault>
-    ensures { AnswerOf (F.gives files.now) (path_of dir.now name.now) result }
+    ensures { AnswerOf (F.gives files.now) (file_path dir.now name.now) result }
 {
-    let Some(path) = path_of(alloc, dir, name)? else {
+    let Some(path) = file_path(alloc, dir, name)? else {
         return Ok(Outcome::Absent);
     };
     match files.read_file(alloc, path.as_str(), MOST_CLASS_BYTES) {

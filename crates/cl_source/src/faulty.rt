@@ -35,7 +35,8 @@ impl<T: Told, S: Source<T>> Model for FaultySource<T, S> {
 
     ghost Value = { Faulting S };
 
-    ghost view = { λ f. record { at = f.at; until = f.until; refused = f.refused; inner = f.inner } };
+    ghost view = { λ f.
+        record { at = f.at; until = f.until; refused = f.refused; inner = f.inner } };
 }
 
 impl<T: Told, S: Source<T>> FaultySource<T, S> {
@@ -67,15 +68,18 @@ impl<T: Told, S: Source<T>> Source<T> for FaultySource<T, S> {
         loader: LoaderId,
         name: &Name,
     ) -> Result<Probe<T>, SourceFault>
+        // What each source promises.
         ensures asked { IfOk result (λ p. (p.loader ≡ loader) × (p.name ≡ name.now)) }
         ensures counts { Counts self.old.refused self.new.refused result }
         ensures spent { self.old.refused + 1 ≡ 2 ^ 64 → IsErrOf result SourceFault.Device }
         ensures gives { PassesOn (S.gives self.old.inner loader name.now) self.old result }
+        // Where the inner source is not asked, and where it is.
         ensures refused { self.old.until ≡ 1 → IsErrOf result SourceFault.Device
             × (self.new.inner ≡ self.old.inner) }
         ensures stays { self.old.refused + 1 ≡ 2 ^ 64 → self.new.inner ≡ self.old.inner }
         ensures others { self.old.until ≢ 1 → self.old.refused + 1 < 2 ^ 64
             → Counts (S.refused self.old.inner) (S.refused self.new.inner) result }
+        // How far the read is that is refused.
         ensures nearer { self.new.until ≡ self.old.until - 1 }
         ensures at { self.new.at ≡ self.old.at }
     {

@@ -75,6 +75,7 @@ impl MemorySource {
         name: Name,
         bytes: Vec<u8>,
     ) -> Result<(), PutRefused>
+        // What is put.
         ensures fits { OnOk result (BytesFit bytes.items) }
         ensures absent { OnOk result (content_at self.old loader name ≡ None) }
         ensures one_more { OnOk result (Inserts self.old self.new (record {
@@ -83,6 +84,7 @@ impl MemorySource {
           bytes = bytes.items;
         })) }
         ensures told { OnOk result (TellsMore self.old self.new loader name bytes.items) }
+        // Where it is refused: why, and what is given back.
         ensures refused { IfErr result (λ e. RefusesPut self.old loader name bytes.items e.fault) }
         ensures unchanged { OnErr result (self.new ≡ self.old) }
         ensures name_returned { IfErr result (λ e. e.name ≡ name) }

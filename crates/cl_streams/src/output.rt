@@ -1,8 +1,7 @@
 //! Writing whole.
 
 ghost use Rattle.std.specs.Prelude.{◌≡◌, ◌<◌, ◌≤◌, [], take, length, string_bytes, OnOk, OnErr, IfOk};
-ghost use Rattle.std.specs.Io.KnownBytes.{Appends};
-ghost use Rattle.cl_streams.specs.Writing.{AppendsPart, Passes};
+ghost use Rattle.cl_streams.specs.Writing.{PutsBehind, StopsWithin, WritesBytes, WritesPart, paged, stream};
 
 use std::alloc::AllocError;
 use std::io::{ErrorKind, Write};
@@ -34,10 +33,10 @@ const PAGE: usize = 8192;
 /// Writes what waits, once it is a page or more. So a writer of many lines puts each behind what waits, passes the page
 /// and keeps no more than a page and a line. Where the write is refused, a beginning of what waited is written.
 pub fn pass_page<W: Write>(out: &mut W, waiting: &mut String) -> Result<(), PrintFault>
-    ensures passed { OnOk result (Passes (W.contents out.old) (string_bytes waiting.old)
-        (W.contents out.new) (string_bytes waiting.new) []) }
+    ensures passed { OnOk result (PutsBehind
+        (paged W.contents out.old out.new string_bytes waiting.old waiting.new) []) }
     ensures part { OnErr result
-        (AppendsPart (W.contents out.old) (W.contents out.new) (string_bytes waiting.old)) }
+        (WritesPart (stream W.contents out.old out.new) (string_bytes waiting.old)) }
 {
     if waiting.len() >= PAGE {
         write_out(out, waiting.as_bytes())?;
@@ -49,8 +48,8 @@ pub fn pass_page<W: Write>(out: &mut W, waiting: &mut String) -> Result<(), Prin
 /// Writes all of the bytes. An interrupted write is tried again; where one is refused otherwise, or takes nothing, no
 /// other is tried.
 pub fn write_out<W: Write>(out: &mut W, bytes: &[u8]) -> Result<(), PrintFault>
-    ensures all { OnOk result (Appends (W.contents out.old) (W.contents out.new) bytes.now) }
-    ensures part { OnErr result (AppendsPart (W.contents out.old) (W.contents out.new) bytes.now) }
+    ensures all { OnOk result (WritesBytes (stream W.contents out.old out.new) bytes.now) }
+    ensures part { OnErr result (WritesPart (stream W.contents out.old out.new) bytes.now) }
 {
     let mut sent = 0;
     while sent < bytes.len() {
@@ -62,9 +61,9 @@ pub fn write_out<W: Write>(out: &mut W, bytes: &[u8]) -> Result<(), PrintFault>
 /// Writes a first part of the bytes, and says how many.
 fn write_some<W: Write>(out: &mut W, bytes: &[u8]) -> Result<usize, PrintFault>
     ensures some { IfOk result (λ count. (0 < count) × (count ≤ length bytes.now)) }
-    ensures taken { IfOk result (λ count. Appends (W.contents out.old) (W.contents out.new)
+    ensures taken { IfOk result (λ count. WritesBytes (stream W.contents out.old out.new)
         (take count bytes.now)) }
-    ensures refused { OnErr result (Appends (W.contents out.old) (W.contents out.new) []) }
+    ensures refused { OnErr result (WritesBytes (stream W.contents out.old out.new) []) }
 {
     for _ in 0..u64::MAX {
         match out.write(bytes) {

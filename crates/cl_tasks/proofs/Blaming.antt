@@ -17,7 +17,7 @@ use Rattle.cl_hierarchy.specs.Paths.{IsPath, at_loader, at_name}
 use Rattle.cl_registry.specs.Tables.{Shown}
 use Rattle.cl_tasks.specs.Blames.{AnswerBlames, AsksWhere, BlamesWhere, FaultBlames, IsBlamed}
 use Rattle.cl_tasks.specs.Follows.{NoFault, Posts, PostsNoFault, Refuses, Tells, fault_answer, refusal}
-use Rattle.cl_tasks.specs.Stages.{IsJob, IsSearch, loading_at, next_place, sought_ask}
+use Rattle.cl_tasks.specs.Stages.{IsJob, IsSearch, loading_at, next_loader, sought_ask}
 use Rattle.cl_tasks.specs.Tasks.{Tasked}
 use Rattle.cl_tasks.specs.Waits as waits
 use Rattle.cl_tasks.specs.declared.stage.Job.{Job}
@@ -61,24 +61,24 @@ posts_blames told c holds r a u b h = (of_posts u).1 told c holds r (λ f e. sub
 
 -- ---- a read that is refused
 
-pub fault_blames : {A : Type 0} (told : Option Content) (j : Job A) (s : Searched) (f : SourceFault) (u : Turn A) → IsJob told j.path.config j → IsSearch j s → IsPath told j.path → Posts (fault_answer (waits.Reading (next_place s) (at_name j.path)) f) u
+pub fault_blames : {A : Type 0} (told : Option Content) (j : Job A) (s : Searched) (f : SourceFault) (u : Turn A) → IsJob told j.path.config j → IsSearch j s → IsPath told j.path → Posts (fault_answer (waits.Reading (next_loader s) (at_name j.path)) f) u
     → BlamesWhere told j.path.config (λ x. Tells {A = A} x (loading_at j.path.config (loads.Searching j s)) (reply.SourceFault f)) j.request u
 fault_blames {A} told j s f u job search path posts =
-    posts_blames told j.path.config holds j.request (fault_answer (waits.Reading (next_place s) (at_name j.path)) f) u (by_fault f) posts
+    posts_blames told j.path.config holds j.request (fault_answer (waits.Reading (next_loader s) (at_name j.path)) f) u (by_fault f) posts
   where
     holds : Shown → Type 0
     holds x = Tells {A = A} x (loading_at j.path.config (loads.Searching j s)) (reply.SourceFault f)
 
-    blamed : IsBlamed j.path.config (AsksWhere told j.path.config holds j.request) (at_name j.path) (next_place s)
+    blamed : IsBlamed j.path.config (AsksWhere told j.path.config holds j.request) (at_name j.path) (next_loader s)
     blamed = record {
       from = at_loader j.path;
       asked = λ g x p served plan tells. in_contains (sought_ask j.path) p.asked (asks told j job path g x served p plan (record { frames = tells.before.frames; facts = tells.before.facts }));
       on_way =
-          subst (λ (way : List ℕ). Contains way (next_place s)) (way_is j.path s search.seeks.config search.seeks.asked search.seeks.name)
-          (let at = reads_place s search.next in get_contains (route_of s) at.0 (next_place s) at.1);
+          subst (λ (way : List ℕ). Contains way (next_loader s)) (way_is j.path s search.seeks.config search.seeks.asked search.seeks.name)
+          (let at = reads_place s search.next in get_contains (route_of s) at.0 (next_loader s) at.1);
     }
 
-    by_fault : (k : SourceFault) → AnswerBlames j.path.config (AsksWhere told j.path.config holds j.request) (fault_answer (waits.Reading (next_place s) (at_name j.path)) k)
+    by_fault : (k : SourceFault) → AnswerBlames j.path.config (AsksWhere told j.path.config holds j.request) (fault_answer (waits.Reading (next_loader s) (at_name j.path)) k)
     by_fault faults.Memory = tt
     by_fault faults.Device = blamed
     by_fault faults.TooLarge = blamed

@@ -17,7 +17,7 @@ use Rattle.cl_tasks.specs.Ends.{ConcludesBy, IsAftermath, IsCheck, IsForEntry, I
 use Rattle.cl_tasks.specs.Facts.{AreSo}
 use Rattle.cl_tasks.specs.Measures.{checking_left}
 use Rattle.cl_tasks.specs.Rooms.{past_room}
-use Rattle.cl_tasks.specs.Stages.{IsFailure, IsJob, load_of, past_calls, past_left, target_facts}
+use Rattle.cl_tasks.specs.Stages.{IsFailure, IsJob, load_alone, past_calls, past_left, target_facts}
 use Rattle.cl_tasks.specs.Steps.{Leads}
 use Rattle.cl_tasks.specs.Waits as waits
 use Rattle.cl_tasks.specs.declared.ends.Aftermath.{Aftermath}
@@ -36,7 +36,7 @@ use Rattle.cl_tasks.proofs.Said.{IsRecordIn, OwnFails, Settling, Stood, failure_
 pub record Ended {A : Type 0} (told : Option Content) (j : Job A) (v : verdict.Verdict) (b : Based) (holds : Shown → Type 0) : Type 0 where
   pub stood : Stood told j.path.config j.request v b holds
   pub failure : IsFailure v
-  pub load : IsOwnTarget j.target → Rests told (grounded_answer (load_of j.request) v b)
+  pub load : IsOwnTarget j.target → Rests told (grounded_answer (load_alone j.request) v b)
   pub record_is : IsRecordIn b.refused
   pub facts : (x : Shown) → holds x → AreSo x (target_facts j.request j.target)
 
@@ -70,7 +70,7 @@ check_calls r (targets.Reference d) loader name i w p s own is = absurd own
 checks_so : {A : Type 0} (told : Option Content) (j : Job A) (v : verdict.Verdict) (b : Based) (holds : Shown → Type 0) (r : Request) (loader : ℕ) (name : List ℕ) → IsJob told j.path.config j → Ended told j v b holds → IsCheck j r loader name
     → Leads told j (past_room j) holds (record { stage = stages.Resolve (resolutions.Checking (record { q = j.q; request = r; finding = grounded_answer j.request v b })); turn = turn.Look loader name })
 checks_so told j v b holds r loader name job e is =
-    let load : Rests told (grounded_answer (load_of r) v b) = subst (λ (q : Request). Rests told (grounded_answer (load_of q) v b)) (sym is.same) (e.load is.own) in
+    let load : Rests told (grounded_answer (load_alone r) v b) = subst (λ (q : Request). Rests told (grounded_answer (load_alone q) v b)) (sym is.same) (e.load is.own) in
     record {
       kept = record {
         index = is.index;

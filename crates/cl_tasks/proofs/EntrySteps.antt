@@ -30,7 +30,7 @@ use Rattle.cl_tasks.specs.Measures.{checking_left, reference_left}
 use Rattle.cl_tasks.specs.Reaching.{ReachesBy}
 use Rattle.cl_tasks.specs.Resolving.{SettledTold}
 use Rattle.cl_tasks.specs.Rooms.{reference_room}
-use Rattle.cl_tasks.specs.Stages.{IsFailed, basis_facts, load_of, resolving_at, task_at}
+use Rattle.cl_tasks.specs.Stages.{IsFailed, basis_facts, load_alone, resolving_at, task_at}
 use Rattle.cl_tasks.specs.Steps.{IsPlain, LeadsBy, LeadsOn, Steps, memory_ends, task_room}
 use Rattle.cl_tasks.specs.Tasks.{Tasked}
 use Rattle.cl_tasks.specs.Turns.{AnswersOwn, GoesOnWith}
@@ -103,8 +103,8 @@ failed_unrecorded told c f failed g x served facts =
     let r = f.request in
     let v = failed.verdict in
     let so = failed_facts told c f failed x facts in
-    let load : Rests told (grounded_answer (load_of r) v failed.basis) = subst (λ (k : Answered). Rests told (record k { request = load_of r })) (failed_whole told c f failed) failed.own in
-    let concludes = concludes_at told c g (state_of x) (load_of r) v failed.basis served load failed.config failed.unprepared (so_met x failed.basis so) in
+    let load : Rests told (grounded_answer (load_alone r) v failed.basis) = subst (λ (k : Answered). Rests told (record k { request = load_alone r })) (failed_whole told c f failed) failed.own in
+    let concludes = concludes_at told c g (state_of x) (load_alone r) v failed.basis served load failed.config failed.unprepared (so_met x failed.basis so) in
     unrecorded g (state_of x) (loader_of r) (name_of r) v served.sound failed.failure (answered_by g (state_of x) (plans.Load (loader_of r) (name_of r)) failed.basis.refused failed.basis.prepared (verdict_of v) concludes (so_refuses x failed.basis so))
 
 -- so nothing is found there

@@ -1,4 +1,4 @@
--- Where a turn does not run out of memory (own choice).
+-- Where a turn does not run out of memory.
 use Rattle.std.proofs.Common.{◌≡◌, ◌∙◌, ℕ, List, inl, refl, sym, subst}
 use Rattle.std.specs.declared.alloc.Global.{Global}
 use Rattle.std.specs.declared.sync.Arc.{Arc}

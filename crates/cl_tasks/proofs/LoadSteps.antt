@@ -32,7 +32,7 @@ use Rattle.cl_tasks.specs.Follows.{EndsAsRefused, ResolvesReference, Posts, Post
 use Rattle.cl_tasks.specs.Measures.{left_at}
 use Rattle.cl_tasks.specs.Measures as phases
 use Rattle.cl_tasks.specs.Rooms.{Room, calls_at, calls_found, last_room, past_room, room_at}
-use Rattle.cl_tasks.specs.Stages.{JobBegins, IsHoming, IsJob, IsSearch, job_calls, loading_at, next_place, past_left, probes_left, sought_ask, task_at}
+use Rattle.cl_tasks.specs.Stages.{JobBegins, IsHoming, IsJob, IsSearch, job_calls, loading_at, next_loader, past_left, probes_left, sought_ask, task_at}
 use Rattle.cl_tasks.specs.Steps.{FindsBy, FindsHome, FindsRow, HoldsOn, IsPlain, Leads, LeadsAt, LeadsFrom, LeadsHome, LeadsOn, LooksBy, ReadsAt, ReadsOn, Steps, task_room, way_on}
 use Rattle.cl_tasks.specs.Tasks.{Tasked}
 use Rattle.cl_tasks.specs.Turns.{GoesOnWith, IsBehind, IsReadNext, ReadsUnrecorded, WasAbsent, way_of}
@@ -121,7 +121,7 @@ steps_fault {A = A} told j s f n job search path l posts past = record {
   refused = posts;
   linkage = tt;
   blames = fault_blames told j s f n.turn job search path posts;
-  lacks = λ h. fault_lacks (next_place s) (at_name j.path) f (posts_one (fault_answer (loading_at j.path.config (loads.Searching j s)).waits f) answers.Memory n.turn posts h);
+  lacks = λ h. fault_lacks (next_loader s) (at_name j.path) f (posts_one (fault_answer (loading_at j.path.config (loads.Searching j s)).waits f) answers.Memory n.turn posts h);
   derives = past_derives (WasAbsent {A = A} (loading_at j.path.config (loads.Searching j s)) (reply.SourceFault f)) (frames_of j.path) n.stage past;
   reads = posts_reads {A = A} (loading_at j.path.config (loads.Searching j s)) (reply.SourceFault f) (fault_answer (loading_at j.path.config (loads.Searching j s)).waits f) n.turn posts;
   own = tt;

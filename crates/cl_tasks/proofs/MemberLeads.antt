@@ -29,7 +29,7 @@ use Rattle.cl_members.specs.Asking.{IsDeniedIn, IsLocated}
 use Rattle.cl_members.specs.declared.fault.LookupFault.{LookupFault}
 use Rattle.cl_findings.specs.Bases.{IsListed}
 use Rattle.cl_findings.specs.Findings.{Answered, Based, Rests, grounded_answer, loader_of}
-use Rattle.cl_findings.specs.References.{AreAsked, IsOfFound, asked_basis, class_basis, config_of, fault_verdict, member_basis, reference_needs, sprung_needs}
+use Rattle.cl_findings.specs.References.{AreAsked, IsOfFound, asked_basis, class_basis, origin_config, fault_verdict, member_basis, reference_needs, sprung_needs}
 use Rattle.cl_findings.proofs.References.{asked_rests}
 use Rattle.cl_registry.specs.Imposing.{IsNextOf, IsReached, IsStanding, MayImpose, OriginStands}
 use Rattle.cl_registry.specs.Tables.{NamesLoaders, Shown, state_of}
@@ -134,8 +134,8 @@ module _ {A : Type 0} (told : Option Content) (c : Configured) (m : Member A) (m
   asked : AreAsked m.entry.request m.equalities.value.origin
   asked = subst (λ (from : Sprung). AreAsked m.entry.request from) (sym member.origin) member.reference
 
-  config_is : config_of m.equalities.value.origin ≡ c
-  config_is = ap config_of member.origin ∙ member.own.config
+  config_is : origin_config m.equalities.value.origin ≡ c
+  config_is = ap origin_config member.origin ∙ member.own.config
 
   needs_met : (x : Shown) (i : ℕ) → ImposedTold m i x → AllMet (state_of x) (sprung_needs m.entry.request m.equalities.value.origin ++ take i (needs_of m.equalities.value.needs))
   needs_met x i h =

@@ -26,7 +26,7 @@ use Rattle.cl_registry.specs.Allowed.{RecordedIsNamed}
 use Rattle.cl_registry.specs.Tables.{Shown, NamesLoaders, records_of, state_of}
 use Rattle.cl_tasks.specs.Ends.{EndRests, IsOwnTarget, NextRests, NextWithin, RefusedOn}
 use Rattle.cl_tasks.specs.Facts.{AreSo}
-use Rattle.cl_tasks.specs.Stages.{IsFailure, IsJob, load_of, target_facts}
+use Rattle.cl_tasks.specs.Stages.{IsFailure, IsJob, load_alone, target_facts}
 use Rattle.cl_tasks.specs.Steps.{EndTold, EndWithin, EndsOn, HoldsOn}
 use Rattle.cl_tasks.specs.declared.stage.Job.{Job}
 use Rattle.cl_tasks.proofs.Ending.{Ended}
@@ -44,7 +44,7 @@ path_met x j more h met =
     (met_both (state_of x) (kept_of (frames_of j.path)) more ((kept_is_met (state_of x) (frames_of j.path)).1 (all_kept x (frames_of j.path) h.frames)) met)
 
 -- a request to load the same class alone
-own_for : {A : Type 0} (r : Request) (t : Target A) (p : Pathed) → IsOwnTarget t → IsFor r t p → IsFor {A = A} (load_of r) targets.Own p
+own_for : {A : Type 0} (r : Request) (t : Target A) (p : Pathed) → IsOwnTarget t → IsFor r t p → IsFor {A = A} (load_alone r) targets.Own p
 own_for r targets.Own p own h = record { loader = h.loader; name = h.name }
 own_for r (targets.Reference d) p own h = absurd own
 
@@ -54,7 +54,7 @@ own_verdict : {A : Type 0} (t : Target A) (p : Pathed) (e : Obstacle A) → IsOw
 own_verdict targets.Own p e own = refl
 own_verdict (targets.Reference d) p e own = absurd own
 
-own_basis : {A : Type 0} (r : Request) (t : Target A) (p : Pathed) (e : Obstacle A) → IsOwnTarget t → basis_at {A = A} (load_of r) targets.Own p e ≡ basis_at r t p e
+own_basis : {A : Type 0} (r : Request) (t : Target A) (p : Pathed) (e : Obstacle A) → IsOwnTarget t → basis_at {A = A} (load_alone r) targets.Own p e ≡ basis_at r t p e
 own_basis r targets.Own p e own = refl
 own_basis r (targets.Reference d) p e own = absurd own
 
@@ -103,16 +103,16 @@ obstacle_ends {A} told j e law job rests stops within = record {
   };
   failure = is_failure j.target j.path e;
   load = λ own.
-      subst (λ (v : verdict.Verdict). Rests told (grounded_answer (load_of j.request) v (basis_at j.request j.target j.path e))) (own_verdict j.target j.path e own)
-      (subst (λ (b : Based). Rests told (grounded_answer (load_of j.request) (verdict_at {A = A} targets.Own j.path e) b)) (own_basis j.request j.target j.path e own)
-      (rests (load_of j.request) targets.Own (own_for j.request j.target j.path own job.for_request) tt));
+      subst (λ (v : verdict.Verdict). Rests told (grounded_answer (load_alone j.request) v (basis_at j.request j.target j.path e))) (own_verdict j.target j.path e own)
+      (subst (λ (b : Based). Rests told (grounded_answer (load_alone j.request) (verdict_at {A = A} targets.Own j.path e) b)) (own_basis j.request j.target j.path e own)
+      (rests (load_alone j.request) targets.Own (own_for j.request j.target j.path own job.for_request) tt));
   record_is = tt;
   facts = λ x h. h.0.facts;
 }
 
 -- ---- refused records
 
-own_refused : {A : Type 0} (r : Request) (t : Target A) (p : Pathed) (n : NextRecord A) → IsOwnTarget t → refused_at {A = A} (load_of r) targets.Own p n ≡ refused_at r t p n
+own_refused : {A : Type 0} (r : Request) (t : Target A) (p : Pathed) (n : NextRecord A) → IsOwnTarget t → refused_at {A = A} (load_alone r) targets.Own p n ≡ refused_at r t p n
 own_refused r targets.Own p n own = refl
 own_refused r (targets.Reference d) p n own = absurd own
 
@@ -148,8 +148,8 @@ refusal_ends {A} told j n need job rests is within = record {
   };
   failure = tt;
   load = λ own.
-      subst (λ (b : Based). Rests told (grounded_answer (load_of j.request) (verdicts.Linkage need) b)) (own_refused j.request j.target j.path n own)
-      (rests (load_of j.request) targets.Own need (own_for j.request j.target j.path own job.for_request) tt is);
+      subst (λ (b : Based). Rests told (grounded_answer (load_alone j.request) (verdicts.Linkage need) b)) (own_refused j.request j.target j.path n own)
+      (rests (load_alone j.request) targets.Own need (own_for j.request j.target j.path own job.for_request) tt is);
   record_is = next_record n;
   facts = λ x h. h.before.facts;
 }

@@ -8,13 +8,13 @@ use Rattle.cl_config.specs.Views as views
 use Rattle.cl_config.specs.Views.{Configured}
 use Rattle.cl_config.specs.Loaders.{loaders_in, world_loader, world_order}
 use Rattle.cl_source.specs.Views.{Found}
-use Rattle.cl_delegation.specs.Searches.{Searched, begun_search, next_of, next_on, route_of, with_bytes, with_probe}
+use Rattle.cl_delegation.specs.Searches.{Searched, begun_search, next_of, next_on, route_of, after_probe, with_probe}
 use Rattle.cl_model.specs.Frames.{Frame}
 use Rattle.cl_model.proofs.Derivations.{all_map}
 use Rattle.cl_model.proofs.Derived.{all_both}
 use Rattle.cl_tasks.specs.Measures.{left_while_loading, most, turns, left_at}
 use Rattle.cl_tasks.specs.Measures as phases
-use Rattle.cl_tasks.specs.Stages.{next_place, probes_left, Seeks}
+use Rattle.cl_tasks.specs.Stages.{next_loader, probes_left, Seeks}
 use Rattle.cl_tasks.specs.Steps.{IsPlain, ReadsAt, reads_on, reads_left, way_on}
 use Rattle.cl_model.specs.Probes.{in_turn, route_at, route_below, route_from, route}
 use Rattle.cl_hierarchy.specs.Paths.{Pathed, at_loader, at_name}
@@ -144,7 +144,7 @@ none_found way i (Some p) l e = absurd cc
 pub takes_less : (s : Searched) (p : Found) (l : ℕ) → next_of s ≡ Some l → reads_left (with_probe s p) ≤ probes_left s
 takes_less s p l e = step p.bytes
   where
-    step : (o : Option (List ℕ)) → reads_left (with_bytes s p o) ≤ probes_left s
+    step : (o : Option (List ℕ)) → reads_left (after_probe s p o) ≤ probes_left s
     step (Some bytes) = omega arith
     step None =
         let f : s.found ≡ None = none_found (route_of s) (length s.absent) s.found l e in
@@ -179,7 +179,7 @@ reads_first p s u is h = subst (λ (t : Searched). ReadsAt p (λ l. next_of t �
 behind : (s : Searched) (p : Found) (l : ℕ) → next_of s ≡ Some p.loader → next_of (with_probe s p) ≡ Some l → IsBehind (route_of s) p l
 behind s p l before e = step p.bytes refl e
   where
-    step : (o : Option (List ℕ)) → p.bytes ≡ o → next_of (with_bytes s p o) ≡ Some l → IsBehind (route_of s) p l
+    step : (o : Option (List ℕ)) → p.bytes ≡ o → next_of (after_probe s p o) ≡ Some l → IsBehind (route_of s) p l
     step (Some bytes) is f = absurd (none-some l f)
     step None is f = record {
       nothing = is;
@@ -197,8 +197,8 @@ way_is p s config loader name =
     ∙ ap (λ (n : Name). route (loaders_in p.config) (at_loader p) n) name
 
 -- what a search asks next stands on its route
-pub reads_place : (s : Searched) → next_of s ≢ None → (i : ℕ) × (slice_get (route_of s) i ≡ Some (next_place s))
-reads_place s some = (length s.absent, on_way (route_of s) (length s.absent) s.found (next_place s) (is_some_of (next_of s) some))
+pub reads_place : (s : Searched) → next_of s ≢ None → (i : ℕ) × (slice_get (route_of s) i ≡ Some (next_loader s))
+reads_place s some = (length s.absent, on_way (route_of s) (length s.absent) s.found (next_loader s) (is_some_of (next_of s) some))
   where
     is_some_of : (o : Option ℕ) → o ≢ None → o ≡ Some (unwrap_or o 0)
     is_some_of None h = absurd (h refl)

@@ -40,7 +40,7 @@ use Rattle.cl_registry.specs.Tables.{Shown, NamesLoaders, records_of, state_of}
 use Rattle.cl_registry.proofs.Binding.{apart_is}
 use Rattle.cl_tasks.specs.Follows.{IsSettledNext, ServedIn}
 use Rattle.cl_tasks.specs.Ends.{IsNoResolution}
-use Rattle.cl_tasks.specs.Stages.{IsFailure, load_of}
+use Rattle.cl_tasks.specs.Stages.{IsFailure, load_alone}
 use Rattle.std.proofs.lemmas.Option.{none-some}
 use Rattle.cl_findings.proofs.Answered.{answered_by}
 
@@ -191,7 +191,7 @@ IsRecordIn (Some (Equal name a b)) = ⊥
 pub record OwnFails (told : Option Content) (c : Configured) (r : Request) (v : verdict.Verdict) (b : Based) (holds : Shown → Type 0) : Type 0 where
   pub stood : Stood told c r v b holds
   pub failure : IsFailure v
-  pub load : Rests told (grounded_answer (load_of r) v b)
+  pub load : Rests told (grounded_answer (load_alone r) v b)
   pub record_is : IsRecordIn b.refused
 
 -- where its load fails, the class of a request is not recorded
@@ -206,7 +206,7 @@ own_unrecorded : (told : Option Content) (c : Configured) (r : Request) (v : ver
     → recorded_definer (records_of x) (loader_of r) (name_of r) ≡ None
 own_unrecorded told c r v b holds own g x served h =
     let stood = own.stood in
-    let load : Stood told c (load_of r) v b holds = record {
+    let load : Stood told c (load_alone r) v b holds = record {
       rests = own.load;
       config = stood.config;
       unprepared = stood.unprepared;
@@ -214,7 +214,7 @@ own_unrecorded told c r v b holds own g x served h =
       refused = stood.refused;
       within = λ y config named k. let w = stood.within y config named k in record { loader = w.loader; answer = w.answer };
     } in
-    unrecorded g (state_of x) (loader_of r) (name_of r) v served.sound own.failure (stood_answers told c (load_of r) v b holds load g x served h)
+    unrecorded g (state_of x) (loader_of r) (name_of r) v served.sound own.failure (stood_answers told c (load_alone r) v b holds load g x served h)
 
 -- a link whose class is not recorded comes to it
 link_comes_so : (g : Setting) (s : State) (l : ℕ) (n : List ℕ) (o : Option Need) (cs : List Class) (v : Verdict) → recorded_definer s.records l n ≡ None → IsRecordIn o → Concludes g.world s (plans.Link l n) o cs v → IfSome o (Refused s) → ComesTo g s (plans.Link l n) v

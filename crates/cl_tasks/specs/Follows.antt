@@ -23,7 +23,7 @@ use Rattle.cl_config.specs.Views.{Configured, Scripted}
 use Rattle.cl_delegation.specs.Worlds.{setting_of}
 use Rattle.cl_hierarchy.specs.Imposed.{OfReference, OfPreparation, Sprung}
 use Rattle.cl_findings.specs.Findings.{Answered, loader_of, name_of}
-use Rattle.cl_findings.specs.References.{index_of}
+use Rattle.cl_findings.specs.References.{resolved_index}
 use Rattle.cl_registry.specs.Tables.{Shown, state_of, NamesLoaders, MayEnter, MayJoin, LacksRecord}
 use Rattle.cl_registry.specs.Imposing.{IsNextOf, IsPreparedBy, MayImpose, MayMark}
 use Rattle.cl_registry.specs.Traced.{IsTraced}
@@ -45,7 +45,7 @@ use Rattle.cl_findings.specs.Loads.{asked_record, own_record}
 
 -- the reference of a request is settled to this, where its loader records the class (5.4.3)
 abbrev pub IsSettledOf : Shown → Request → Settled → Type 0
-IsSettledOf x r s = (d : Class) → Records (state_of x) (loader_of r) (name_of r) d → IsSettledIn x d (index_of r) s
+IsSettledOf x r s = (d : Class) → Records (state_of x) (loader_of r) (name_of r) d → IsSettledIn x d (resolved_index r) s
 
 -- what a call was answered holds: a class is recorded, a lineage is of the tables, a reference is settled, an equality is imposed,
 -- a class is prepared, or what was to stand is refused (5.3 to 5.4.3)
@@ -113,7 +113,7 @@ pub record IsSettledNext (g : Setting) (s : State) (r : Request) (f : Answered) 
   pub kept : Records s (loader_of r) (name_of r) class
   pub verdict : verdict.Verdict
   pub said : f.answer ≡ answers.Said verdict
-  pub step : settled_to s.settled class (index_of r) ≡ None → IsNextStep g s (request_of r) (Settle class (index_of r) (verdict_of verdict))
+  pub step : settled_to s.settled class (resolved_index r) ≡ None → IsNextStep g s (request_of r) (Settle class (resolved_index r) (verdict_of verdict))
 
 -- the request's service has come to an answer, failures apart (5.3 to 5.4.3)
 abbrev pub AnswerFollows : Setting → State → Request → Answer → Type 0

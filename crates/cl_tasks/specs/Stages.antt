@@ -51,8 +51,8 @@ use Rattle.cl_tasks.specs.declared.stage.Stage.TheVariants as stages
 -- ---- loads
 
 -- the loader that a search asks next
-abbrev pub next_place : Searched → ℕ
-next_place s = unwrap_or (next_of s) 0
+abbrev pub next_loader : Searched → ℕ
+next_loader s = unwrap_or (next_of s) 0
 
 -- what was told before the load: nothing of a request's own class; of a reference's that the request's class is recorded (5.3, 5.4.3.1)
 abbrev pub target_facts : {A : Type 0} → Request → Target A → List Fact
@@ -102,7 +102,7 @@ abbrev pub loading_at : {A : Type 0} → Configured → Load A → Tasked
 loading_at c (loads.Fresh j) = at_work c waits.Beginning Fresh 0 (job_calls [] [] 1 j) j
 loading_at c (loads.Looking j) = at_work c (waits.Looking (at_loader j.path) (at_name j.path)) Looking 0 (job_calls [] [] 1 j) j
 loading_at c (loads.Searching j s) =
-    record (at_work c (waits.Reading (next_place s) (at_name j.path)) Reading (probes_left s) (job_calls (sought_ask j.path ∷ []) [] 0 j) j) { absent = Some (sought_class j.path) }
+    record (at_work c (waits.Reading (next_loader s) (at_name j.path)) Reading (probes_left s) (job_calls (sought_ask j.path ∷ []) [] 0 j) j) { absent = Some (sought_class j.path) }
 loading_at c (loads.Homing j h) = at_work c (waits.Looking h.place (at_name j.path)) Homing 0 (job_calls [] (sought_ask j.path ∷ []) 2 j) j
 loading_at c (loads.Defining j x) =
     record (at_work c (waits.Defining x.draft) Defining 0 (job_calls [] (sought_ask j.path ∷ ask_for x.draft.class ∷ []) (1 + away_calls (at_loader j.path) x.draft.class.loader) j) j) { frames = frames_of j.path ++ frame_of x ∷ [] }
@@ -264,8 +264,8 @@ IsLoading told c (loads.Defining j x) = IsJob told c j × IsWhole told j.path x
 IsLoading told c (loads.Initiating j h) = IsJob told c j × InitiatesNext told j h
 
 -- the same request, but to load its class alone (5.3)
-abbrev pub load_of : Request → Request
-load_of r = requests.Load (loader_of r) (name_of r)
+abbrev pub load_alone : Request → Request
+load_alone r = requests.Load (loader_of r) (name_of r)
 
 -- a verdict that is an error, or a refused need (5.3.4, 5.3.5)
 abbrev pub IsFailure : verdict.Verdict → Type 0
@@ -286,7 +286,7 @@ pub record IsFailed {A : Type 0} (told : Option Content) (c : Configured) (f : F
   pub config : basis.config ≡ c
   pub unprepared : basis.prepared ≡ []
   pub failure : IsFailure verdict
-  pub own : Rests told (record f.finding { request = load_of f.request })
+  pub own : Rests told (record f.finding { request = load_alone f.request })
 
 -- the request resolves the entry at an index of the pool of a class (5.4.3)
 pub record IsEntry {A : Type 0} (c : Configured) (e : entries.Entry A) : Type 0 where

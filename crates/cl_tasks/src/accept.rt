@@ -90,11 +90,13 @@ fn follow_draft<T: Told>(alloc: Global, job: Job<T>, draft: Draft<T>) -> Next<T>
 
 /// What is looked for waits for its first supertype.
 fn descend<T: Told>(alloc: Global, job: Job<T>, draft: Draft<T>) -> Next<T>
+    // What is given.
     requires job { IsJob T.told job.path.config job }
     requires home { IsSought job.path draft.home }
     requires off { is_on job.path draft.class ≡ false }
     requires waits { IsSome (wanted_supertype (frame_of (fresh draft))) }
     requires few { length (supers (file_of draft.file)) ≤ most }
+    // What it leads to.
     ensures leads { LeadsFrom T.told Homing job draft.home.place (HoldsOn job) result }
     ensures plain { IsPlain result.turn }
     ensures derives { Derives (λ c. c ≡ draft.class) (frames_of job.path) result.stage }

@@ -155,12 +155,15 @@ pub(crate) fn refuse<T: Told>(
     next: NextRecord<T>,
     need: Need,
 ) -> Next<T>
+    // What is given.
     requires job { IsJob T.told job.path.config job }
     requires next { ComesNext T.told job.path next }
     requires need { need_of need ≡ next_need next }
+    // What it leads to.
     ensures leads { Leads T.told job (past_room job) (RefusedOn job next) result }
     ensures plain { IsPlain result.turn }
     ensures past { IsPast result.stage }
+    // What is posted of the refusal, and when that memory ran out.
     ensures lacks { Posts answers.Memory result.turn → ResolvesReference job.request }
     ensures ends { EndsAsRefused job.request need result.turn }
 {

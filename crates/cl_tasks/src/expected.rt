@@ -7,7 +7,7 @@ ghost use Rattle.cl_hierarchy.specs.Imposed.{equal_need};
 ghost use Rattle.cl_model.specs.declared.class.Class as classes;
 ghost use Rattle.cl_model.specs.States.{Entry};
 ghost use Rattle.cl_model.specs.Views.{need_of};
-ghost use Rattle.cl_tasks.specs.Stages.{linking_at, loading_at, next_place, resolving_at, task_at};
+ghost use Rattle.cl_tasks.specs.Stages.{linking_at, loading_at, next_loader, resolving_at, task_at};
 ghost use Rattle.cl_tasks.specs.Turns.{Expects, IsReplyTo, equality_at};
 ghost use Rattle.cl_tasks.specs.Waits as waits;
 
@@ -194,6 +194,7 @@ fn is_to_look_prepared<T: Told>(reply: &Reply<T>) -> bool
 fn is_to_mark<T: Told>(list: &Equalities<T>, reply: &Reply<T>) -> bool
     ensures { (c : Configured) → Decides result (IsReplyTo c (waits.Marking list.now) reply.now) }
 {
+    // the contract alone speaks of it
     let _ = list;
     match reply {
         Reply::Marked | Reply::Memory => true,
@@ -203,7 +204,7 @@ fn is_to_mark<T: Told>(list: &Equalities<T>, reply: &Reply<T>) -> bool
 
 /// The loader that a search asks next; the first, where it asks none.
 fn place_of<T: Told>(search: &Search<T>) -> LoaderId
-    ensures { result ≡ next_place search.now }
+    ensures { result ≡ next_loader search.now }
 {
     match search.next_probe() {
         Some(loader) => loader,
@@ -262,6 +263,7 @@ fn link_expects<T: Told>(config: &Config, link: &Link<T>, reply: &Reply<T>) -> b
 fn end_expects<T: Told>(reply: &Reply<T>) -> bool
     ensures { (c : Configured) → Decides result (IsReplyTo c waits.Ended reply.now) }
 {
+    // the contract alone speaks of it: no reply is expected
     let _ = reply;
     false
 }

@@ -378,13 +378,16 @@ pub(crate) fn refuse_link<T: Told>(
     place: usize,
     need: Need,
 ) -> Next<T>
+    // What is given.
     requires chain { IsChain config.now.value chain }
     requires list { IsAtPlace chain list.value }
     requires need { equality_at list.value place ≡ Some (need_of need) }
+    // What it leads to.
     ensures leads { LeadsBy T.told config.now.value chain.goal.q chain.goal.request last_room
         (RefusedTold chain list.value place (need_of need)) result }
     ensures plain { IsPlain result.turn }
     ensures past { IsPast result.stage }
+    // What is posted of the refusal, and never that memory ran out.
     ensures lacks { Posts answers.Memory result.turn → ⊥ }
     ensures ends { EndsAsRefused chain.goal.request need result.turn }
 {

@@ -244,11 +244,13 @@ fn settle_fault<T: Told>(
     named: Lineage<T>,
     fault: LookupFault,
 ) -> Next<T>
+    // What is given.
     requires entry { IsEntry config.now.value entry }
     requires own { IsOf config.now.value entry.d.value.class own }
     requires goes { GoesTo entry.request own named entry.index }
     requires cites { Cites own named entry.index }
     requires lookup { LooksUp own named entry.index (Err fault) }
+    // What it leads to.
     ensures leads { LeadsBy T.told config.now.value entry.q entry.request tracing_named_room
         (TracedTold entry own named) result }
     ensures plain { IsPlain result.turn }

@@ -58,12 +58,15 @@ pub(crate) fn take_probe<T: Told>(
     search: Search<T>,
     probe: Probe<T>,
 ) -> Next<T>
+    // What is given.
     requires job { IsJob T.told job.path.config job }
     requires search { Seeks job search }
     requires next { next_of search ≡ Some probe.loader }
     requires name { probe.name ≡ at_name job.path }
+    // What it leads to.
     ensures leads { ReadsOn T.told (probes_left search) job (HoldsOn job) result }
     ensures no_fault { PostsNoFault result.turn }
+    // What it derives and reads.
     ensures derives { Derives (IsSoughtHere job.path) (frames_of job.path) result.stage }
     ensures reads { ReadsAt job.path (IsBehind (way_on job.path) probe) result.turn }
 {

@@ -108,24 +108,29 @@ impl<T: Told> Task<T> {
     /// The next turn, by the reply to the last. What each clause promises stands in the crate's README, 'What `turn` promises'.
     pub fn turn(&mut self, alloc: Global, reply: Reply<T>) -> Turn<T>
         requires expects { Expects self.old reply }
+        // What stays, and what it asks.
         ensures number { self.new.q ≡ self.old.q }
         ensures config { self.new.config ≡ self.old.config }
         ensures asks { Asks self.new result }
         ensures serves { KeepsRequest self.old self.new result }
+        // How much is left.
         ensures left { self.new.left < self.old.left }
         ensures calls { IfSome self.old.request (λ r. CallsWithin T.told self.old.config
             (λ x. TellsNow x self.old reply) r (made_by self.old.waits) self.new.calls
             self.old.calls) }
         ensures more { AreLeft self.new.calls }
+        // What holds in each state of the tables in which what was told holds.
         ensures keeps { (x : Shown) → Tells x self.old reply → Holds x self.new }
         ensures backed { BackedWhere self.old.config (λ x. TellsNow x self.old reply) result }
         ensures next { IfSome self.old.request (λ r. FollowsWhere T.told self.old.config
             (λ x. Tells x self.old reply) r result) }
+        // What refusals lead to.
         ensures refused { Refuses (refusal self.old reply) result }
         ensures linkage { EndsRefused self.old.request reply result }
         ensures lacks { LacksOnly self.old.request reply result }
         ensures blames { IfSome self.old.request (λ r. BlamesWhere T.told self.old.config
             (λ x. Tells x self.old reply) r result) }
+        // What was looked at before.
         ensures reads { ReadsUnrecorded self.old reply result }
         ensures derives { DerivesUnrecorded self.old self.new reply result }
         ensures own { AnswersOwn self.old self.new reply result }

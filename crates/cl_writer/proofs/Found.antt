@@ -23,7 +23,7 @@ use Rattle.cl_writer.specs.declared.statement.Statement.{Statement}
 use Rattle.cl_writer.specs.declared.statement.Statement.TheVariants.{Implements, Field, Method, Ref}
 use Rattle.cl_writer.specs.declared.fault.AssembleFault.{AssembleFault}
 use Rattle.cl_writer.specs.declared.fault.AssembleFault.TheVariants.{Memory, BadLine, Invalid}
-use Rattle.cl_writer.specs.Statements.{flags_of, WritesInteger, WritesSuper, IsName, IsInteger, IsMemberLine, IsMemberName, IsClassLine, Begins, kind_word, Refers, Says}
+use Rattle.cl_writer.specs.Statements.{hex_flags, WritesInteger, WritesSuper, IsName, IsInteger, IsMemberLine, IsMemberName, IsClassLine, Begins, kind_word, Refers, Says}
 use Rattle.cl_writer.specs.Assemblies.{ListedClass, class_alone, with_said, AllSay, IsRest, StopsAt, IsRead, IsBadAt}
 use Rattle.cl_writer.specs.Described.{described_file}
 use Rattle.cl_writer.specs.Listings.{listing_of}
@@ -92,7 +92,7 @@ name_found text = elim (some_or_none (unescaped_name text)) [
 ]
 
 flags_found : (text : List ℕ) → Finds (WritesFlags text)
-flags_found text = elim (some_or_none (flags_of text)) [ inl found ↦ inl found | inr none ↦ inr (λ flags w. none_some flags (flags_of text) none w) ]
+flags_found text = elim (some_or_none (hex_flags text)) [ inl found ↦ inl found | inr none ↦ inr (λ flags w. none_some flags (hex_flags text) none w) ]
 
 super_found : (text : List ℕ) → Finds (WritesSuper text)
 super_found text = elim (word_cases text (codes "-")) [

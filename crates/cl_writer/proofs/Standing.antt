@@ -15,7 +15,7 @@ use Rattle.cl_writer.specs.declared.statement.MemberLine.{MemberLine}
 use Rattle.cl_writer.specs.Assemblies.{ListedClass}
 use Rattle.cl_writer.specs.Items.{same_item, index_from, index_of, index, with_item, class_wanted, line_wanted, wanted_items, all_wanted, items_of}
 use Rattle.cl_writer.specs.Described.{entry_of, member_of, super_index, described_file}
-use Rattle.cl_writer.specs.Listings.{printed_name, printed_type, printed_super, class_line, implements_line, member_line, listing_of, super_text, class_text, implements_text, member_text, text_of}
+use Rattle.cl_writer.specs.Listings.{printed_name, printed_type, printed_super, class_line, implements_line, member_line, listing_of, super_text, class_text, implements_text, member_text, listed_lines}
 use Rattle.cl_writer.proofs.Indexed.{same_says, same_self, index_more, some_is}
 use Rattle.std.specs.Option.{option_or}
 
@@ -144,7 +144,7 @@ module _ (items : List Item) where
       ∙ ap (λ t. codes "class " ++ four_digits line.flags ++ codes " " ++ escaped_text line.name ++ codes " " ++ t ++ 10 ∷ []) (super_named line.superclass s)
 
 -- the listing of what lines describe has these lines
-pub printed_so : (l : ListedClass) → listing_of (described_file l) ≡ text_of l
+pub printed_so : (l : ListedClass) → listing_of (described_file l) ≡ listed_lines l
 printed_so l =
     let items = items_of l in
     let P : Item → Type 0 = Stands items in

@@ -4,11 +4,11 @@ use Rattle.cl_names.specs.Escape.{WritesName}
 use Rattle.cl_writer.specs.declared.item.MemberName.{MemberName}
 use Rattle.cl_writer.specs.declared.statement.ClassLine.{ClassLine}
 use Rattle.cl_writer.specs.declared.statement.MemberLine.{MemberLine}
-use Rattle.cl_writer.specs.Statements.{flags_of, WritesInteger, WritesSuper, IsName, IsInteger, IsMemberLine, IsMemberName, IsClassLine, Begins}
+use Rattle.cl_writer.specs.Statements.{hex_flags, WritesInteger, WritesSuper, IsName, IsInteger, IsMemberLine, IsMemberName, IsClassLine, Begins}
 
 -- four hexadecimal digits write these flags
 abbrev pub WritesFlags : List ℕ → ℕ → Type 0
-WritesFlags text flags = flags_of text ≡ Some flags
+WritesFlags text flags = hex_flags text ≡ Some flags
 
 -- the one word says this, where P says what a word says
 pub record One {A : Type 0} (P : List ℕ → A → Type 0) (words : List (List ℕ)) (said : A) : Type 0 where

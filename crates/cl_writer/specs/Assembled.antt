@@ -8,7 +8,7 @@ use Rattle.cl_writer.specs.declared.fault.AssembleFault.{AssembleFault}
 use Rattle.cl_writer.specs.declared.fault.AssembleFault.TheVariants.{Memory, BadLine, Invalid}
 use Rattle.cl_writer.specs.Assemblies.{ListedClass, IsRead, IsBadAt}
 use Rattle.cl_writer.specs.Described.{described_file}
-use Rattle.cl_writer.specs.Listings.{listing_of, text_of}
+use Rattle.cl_writer.specs.Listings.{listing_of, listed_lines}
 
 -- the lines describe this file, which is a class file: the tests of its parts find no fault, and
 -- bytes spell it; it is listed as these lines without those of `ref` (JVMS SE 8, 4.1 of the file)
@@ -18,7 +18,7 @@ pub record IsAssembled (lines : List Numbered) (file : Structure) : Type 0 where
   pub is : file ≡ described_file listed
   pub kept : parts_of (described_file listed) ≡ Ok file
   pub spelled : Spells (spelling file) file
-  pub printed : listing_of file ≡ text_of listed
+  pub printed : listing_of file ≡ listed_lines listed
 
 -- the lines describe what is no class file: this is the first fault of its parts (4.1)
 pub record IsInvalid (lines : List Numbered) (fault : Fault) : Type 0 where

@@ -51,7 +51,7 @@ abbrev pub same_member : MemberName → MemberName → Bool
 same_member m n =
     same_name m.class n.class && (same_name m.name n.name && same_name m.descriptor n.descriptor)
 
--- two entries name the same (4.4; own choice that names and not indices are compared)
+-- two entries name the same (4.4); names and not indices are compared
 abbrev pub same_item : Item → Item → Bool
 same_item (Text a) (Text b) = same_name a b
 same_item (Integer a) (Integer b) = int_eq a b
@@ -62,8 +62,7 @@ same_item _ _ = false
 
 -- ---- where an entry stands
 
--- the least index at which the entry stands, where the first has this index
--- (4.1; own choice of the least)
+-- the least index at which the entry stands, where the first has this index (4.1)
 abbrev pub index_from : ℕ → List Item → Item → Option ℕ
 index_from n items item = position_from (same_item item) n items
 
@@ -122,6 +121,6 @@ all_wanted l =
     ++ (flat_map line_wanted l.fields ++ flat_map line_wanted l.methods))))
 
 -- the entries of the `ref` lines stand from the start; what is wanted is appended where no equal
--- entry stands (own choice)
+-- entry stands
 abbrev pub items_of : ListedClass → List Item
 items_of l = fold with_item l.references (all_wanted l)

@@ -30,7 +30,7 @@ printed_name (Some name) = escaped_text name
 unfoldable pub printed_type : List Entry → ℕ → List ℕ
 printed_type pool i = printed_name (type_name pool i)
 
--- the name of the superclass, and `-` where there is none (4.1; own choice of the sign)
+-- the name of the superclass, and `-` where there is none (4.1)
 abbrev pub printed_super : List Entry → ℕ → List ℕ
 printed_super pool super = if super == 0 then codes "-" else printed_type pool super
 
@@ -72,7 +72,7 @@ listing_of f =
 
 -- ---- the lines of a text in this form
 
--- the name of the superclass, and `-` where there is none (own choice of the sign)
+-- the name of the superclass, and `-` where there is none
 abbrev pub super_text : Option (List ℕ) → List ℕ
 super_text None = codes "-"
 super_text (Some name) = escaped_text name
@@ -87,8 +87,8 @@ abbrev pub member_text : List ℕ → MemberLine → List ℕ
 member_text word m = member_words word m.flags (escaped_text m.name) (escaped_text m.descriptor)
 
 -- all lines but those of `ref`: the class, its interfaces, its fields, its methods
-abbrev pub text_of : ListedClass → List ℕ
-text_of l =
+abbrev pub listed_lines : ListedClass → List ℕ
+listed_lines l =
     class_text l.class
     ++ flat_map implements_text l.interfaces
     ++ flat_map (member_text (codes "field ")) l.fields

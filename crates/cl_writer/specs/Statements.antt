@@ -33,12 +33,12 @@ use Rattle.cl_writer.specs.declared.statement.MemberLine.{MemberLine}
 use Rattle.cl_writer.specs.declared.statement.Statement.{Statement}
 use Rattle.cl_writer.specs.declared.statement.Statement.TheVariants.{Implements, Field, Method, Ref}
 
--- the value of four hexadecimal digits of either case (own choice)
-abbrev pub flags_of : List ℕ → Option ℕ
-flags_of (a ∷ b ∷ c ∷ d ∷ []) = number_written a b c d
-flags_of _ = None
+-- the value of four hexadecimal digits of either case
+abbrev pub hex_flags : List ℕ → Option ℕ
+hex_flags (a ∷ b ∷ c ∷ d ∷ []) = number_written a b c d
+hex_flags _ = None
 
--- a minus, if there is one, and decimal digits write this number of 32 bits (own choice; 4.4.4)
+-- a minus, if there is one, and decimal digits write this number of 32 bits (4.4.4)
 pub record WritesInteger (text : List ℕ) (number : ℤ) : Type 0 where
   pub unsigned : slice_index text 0 ≢ 0x2b
   pub digits : IsNumeral 10 (without_leading_sign text)
@@ -68,7 +68,7 @@ pub record IsMemberLine (words : List (List ℕ)) (line : MemberLine) : Type 0 w
   pub name_text : List ℕ
   pub descriptor_text : List ℕ
   pub spelled : words ≡ flags_text ∷ name_text ∷ descriptor_text ∷ []
-  pub flags : flags_of flags_text ≡ Some line.flags
+  pub flags : hex_flags flags_text ≡ Some line.flags
   pub name : WritesName name_text line.name
   pub descriptor : WritesName descriptor_text line.descriptor
 
@@ -88,7 +88,7 @@ pub record IsClassLine (words : List (List ℕ)) (line : ClassLine) : Type 0 whe
   pub name_text : List ℕ
   pub super_text : List ℕ
   pub spelled : words ≡ codes "class" ∷ flags_text ∷ name_text ∷ super_text ∷ []
-  pub flags : flags_of flags_text ≡ Some line.flags
+  pub flags : hex_flags flags_text ≡ Some line.flags
   pub name : WritesName name_text line.name
   pub superclass : WritesSuper super_text line.superclass
 

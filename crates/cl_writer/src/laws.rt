@@ -19,7 +19,7 @@ pub fn says_one_thing()
         → a ≡ b }
 {}
 
-/// Want of memory apart, a text has one answer: the one file that it is assembled to, or its one fault.
+/// Unless memory runs out, a text has one answer: the one file that it is assembled to, or its one fault.
 pub fn assembles_to_one_answer()
     ensures some { (lines : List Numbered) → (r : Result Structure AssembleFault) × (r ≢ Err Memory)
         × AssembleOf lines r }

@@ -2,8 +2,7 @@
 
 ghost use Rattle.std.specs.Prelude.{◌≡◌, ◌++◌, OnOk, OnErr, codes, string_bytes};
 ghost use Rattle.std.specs.List.{flat_map};
-ghost use Rattle.std.specs.Io.KnownBytes.{Appends};
-ghost use Rattle.cl_streams.specs.Writing.{AppendsPart, Passes};
+ghost use Rattle.cl_streams.specs.Writing.{PutsBehind, StopsWithin, WritesBytes, WritesPart, paged, stream};
 ghost use Rattle.cl_writer.specs.Listings.{class_line, implements_line, listing_of, member_line};
 ghost use Rattle.cl_writer.specs.Texts.{AreTexts};
 
@@ -22,10 +21,10 @@ pub fn print_listing<W: Write>(
     file: &ClassFile,
     out: &mut W,
 ) -> Result<(), PrintFault>
-    ensures lines { OnOk result (Appends (W.contents out.old) (W.contents out.new)
+    ensures lines { OnOk result (WritesBytes (stream W.contents out.old out.new)
         (listing_of file.now)) }
     ensures part { OnErr result
-        (AppendsPart (W.contents out.old) (W.contents out.new) (listing_of file.now)) }
+        (WritesPart (stream W.contents out.old out.new) (listing_of file.now)) }
 {
     let mut waiting = String::new(alloc);
     let mut texts = Texts::new(alloc, file.pool());
@@ -66,11 +65,12 @@ fn print_interfaces<W: Write>(
 ) -> Result<(), PrintFault>
     requires { AreTexts pool.now texts.old }
     ensures texts { OnOk result (AreTexts pool.now texts.new) }
-    ensures lines { OnOk result (Passes (W.contents out.old) (string_bytes waiting.old)
-        (W.contents out.new) (string_bytes waiting.new)
+    ensures lines { OnOk result (PutsBehind
+        (paged W.contents out.old out.new string_bytes waiting.old waiting.new)
         (flat_map (implements_line pool.now) interfaces.now)) }
-    ensures part { OnErr result (AppendsPart (W.contents out.old) (W.contents out.new)
-        (string_bytes waiting.old ++ flat_map (implements_line pool.now) interfaces.now)) }
+    ensures part { OnErr result (StopsWithin
+        (paged W.contents out.old out.new string_bytes waiting.old waiting.new)
+        (flat_map (implements_line pool.now) interfaces.now)) }
 {
     for interface in interfaces {
         print_interface(pool, *interface, out, waiting, texts)?;
@@ -87,10 +87,12 @@ fn print_interface<W: Write>(
 ) -> Result<(), PrintFault>
     requires { AreTexts pool.now texts.old }
     ensures texts { OnOk result (AreTexts pool.now texts.new) }
-    ensures line { OnOk result (Passes (W.contents out.old) (string_bytes waiting.old)
-        (W.contents out.new) (string_bytes waiting.new) (implements_line pool.now interface)) }
-    ensures part { OnErr result (AppendsPart (W.contents out.old) (W.contents out.new)
-        (string_bytes waiting.old ++ implements_line pool.now interface)) }
+    ensures line { OnOk result (PutsBehind
+        (paged W.contents out.old out.new string_bytes waiting.old waiting.new)
+        (implements_line pool.now interface)) }
+    ensures part { OnErr result (StopsWithin
+        (paged W.contents out.old out.new string_bytes waiting.old waiting.new)
+        (implements_line pool.now interface)) }
 {
     put_interface(waiting, pool, interface, texts)?;
     pass_page(out, waiting)
@@ -107,11 +109,12 @@ fn print_members<W: Write>(
 ) -> Result<(), PrintFault>
     requires { AreTexts pool.now texts.old }
     ensures texts { OnOk result (AreTexts pool.now texts.new) }
-    ensures lines { OnOk result (Passes (W.contents out.old) (string_bytes waiting.old)
-        (W.contents out.new) (string_bytes waiting.new)
+    ensures lines { OnOk result (PutsBehind
+        (paged W.contents out.old out.new string_bytes waiting.old waiting.new)
         (flat_map (member_line word.now pool.now) members.now)) }
-    ensures part { OnErr result (AppendsPart (W.contents out.old) (W.contents out.new)
-        (string_bytes waiting.old ++ flat_map (member_line word.now pool.now) members.now)) }
+    ensures part { OnErr result (StopsWithin
+        (paged W.contents out.old out.new string_bytes waiting.old waiting.new)
+        (flat_map (member_line word.now pool.now) members.now)) }
 {
     for member in members {
         print_member(word, pool, member, out, waiting, texts)?;
@@ -129,11 +132,12 @@ fn print_member<W: Write>(
 ) -> Result<(), PrintFault>
     requires { AreTexts pool.now texts.old }
     ensures texts { OnOk result (AreTexts pool.now texts.new) }
-    ensures line { OnOk result (Passes (W.contents out.old) (string_bytes waiting.old)
-        (W.contents out.new) (string_bytes waiting.new)
+    ensures line { OnOk result (PutsBehind
+        (paged W.contents out.old out.new string_bytes waiting.old waiting.new)
         (member_line word.now pool.now member.now)) }
-    ensures part { OnErr result (AppendsPart (W.contents out.old) (W.contents out.new)
-        (string_bytes waiting.old ++ member_line word.now pool.now member.now)) }
+    ensures part { OnErr result (StopsWithin
+        (paged W.contents out.old out.new string_bytes waiting.old waiting.new)
+        (member_line word.now pool.now member.now)) }
 {
     put_member(waiting, word, pool, member, texts)?;
     pass_page(out, waiting)

@@ -4,7 +4,7 @@ ghost use Rattle.std.specs.Prelude.{◌≡◌, List, ℕ, [], ◌∷◌, Some, N
 ghost use Rattle.cl_names.specs.Truth.{Reads, FoundBy};
 ghost use Rattle.cl_lines.specs.Lines.{words_of};
 ghost use Rattle.cl_names.specs.Escape.{digit_written, WritesName};
-ghost use Rattle.cl_writer.specs.Statements.{flags_of, WritesInteger, WritesSuper, IsName, IsMemberLine, IsMemberName, IsInteger, IsClassLine, Refers, Says, kind_word};
+ghost use Rattle.cl_writer.specs.Statements.{hex_flags, WritesInteger, WritesSuper, IsName, IsMemberLine, IsMemberName, IsInteger, IsClassLine, Refers, Says, kind_word};
 
 use crate::item::{Item, MemberKind, MemberName};
 use cl_lines::Words;
@@ -51,7 +51,7 @@ pub fn class_line(alloc: Global, line: &str) -> Result<Option<ClassLine>, AllocE
     let Some((flags, name, above)) = three(words) else {
         return Ok(None);
     };
-    let Some(flags) = flags_of(flags) else {
+    let Some(flags) = hex_flags(flags) else {
         return Ok(None);
     };
     let Some(name) = written_name(alloc, name)? else {
@@ -169,7 +169,7 @@ fn member_line(alloc: Global, words: Words<'_>) -> Result<Option<MemberLine>, Al
     let Some((flags, name, descriptor)) = three(words) else {
         return Ok(None);
     };
-    let Some(flags) = flags_of(flags) else {
+    let Some(flags) = hex_flags(flags) else {
         return Ok(None);
     };
     let Some(name) = written_name(alloc, name)? else {
@@ -256,8 +256,8 @@ fn written_super(alloc: Global, text: &str) -> Result<Option<Option<Name>>, Allo
 }
 
 /// The flags that four hexadecimal digits write.
-fn flags_of(text: &str) -> Option<u16>
-    ensures { result ≡ flags_of text.now }
+fn hex_flags(text: &str) -> Option<u16>
+    ensures { result ≡ hex_flags text.now }
 {
     let [a, b, c, d] = text.as_bytes() else {
         return None;

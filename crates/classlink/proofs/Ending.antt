@@ -9,7 +9,8 @@ use Rattle.cl_streams.proofs.Written.{appends_nothing}
 use Rattle.cl_program.specs.Asking.{AsksForBundle, AsksForFile, AsksForRun, Wanted, wanted_of}
 use Rattle.cl_program.specs.Faults.{print_fault}
 use Rattle.cl_program.specs.Files.{Giving}
-use Rattle.cl_program.specs.Outputs.{Outputs, Stream, TellsFault, WritesPart}
+use Rattle.cl_program.specs.Outputs.{Outputs, TellsFault}
+use Rattle.cl_streams.specs.Writing.{Stream, WritesPart}
 use Rattle.cl_program.specs.Readings.{IsReading}
 use Rattle.cl_program.specs.Runs.{IsRun}
 use Rattle.cl_program.specs.ScriptRuns.{IsScriptRun}

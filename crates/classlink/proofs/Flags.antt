@@ -25,7 +25,7 @@ use Rattle.cl_program.specs.Asking.{AsksForBundle, AsksForFile, AsksForRun, Want
 use Rattle.cl_program.specs.declared.asked.Asked.{Asked}
 use Rattle.cl_program.specs.declared.asked.Asked.TheVariants.{Bundle, Read, Run}
 use Rattle.cl_program.specs.declared.asked.Options.{Options}
-use Rattle.classlink.specs.CommandLine.{Answers, AreOptions, AreWordsOf, AskFor, AskToRead, AskToRun, Dashes, End, HasFlag, HasOptions, CommandAsks, IsCount, IsCountOf, CommandIsNamed, IsToRead, IsToRun, Workers, file_to_read, is_plain_word, named_file, program, wrong_words, text_at}
+use Rattle.classlink.specs.CommandLine.{Answers, AreOptions, AreWordsOf, AskFor, AskToRead, AskToRun, Dashes, End, HasFlag, HasOptions, CommandAsks, IsCount, IsCountOf, CommandIsNamed, IsToRead, IsToRun, Workers, file_to_read, is_plain_word, named_file, program, wrong_words, argument_text}
 use Rattle.classlink.proofs.Orders.{AreFull, Ends, PassesCount, answers_row, full_at_end, leads_on, right_at_end, workers_row}
 use Rattle.classlink.proofs.Steps.{IsNoFlag, finds_at, idle_at, no_flag, passes_to}
 use Rattle.cl_pool.specs.declared.limits.TheConstants.{MOST_WORKERS}
@@ -86,7 +86,7 @@ entered_at words = entered (built program) (stop_after (built program).top.rules
 
 -- what is found for the options
 abbrev HasTexts : Option Text → Bool → Option (Text × List Row) → Type 0
-HasTexts count answers entered = HasFlag entered answers × (text_at entered (codes "workers") ≡ Some (count_text count))
+HasTexts count answers entered = HasFlag entered answers × (argument_text entered (codes "workers") ≡ Some (count_text count))
 
 -- the words of `bundle` pass, and the options are found in them
 abbrev IsBundle : Option Text → Bool → List Text → Type 0

@@ -136,12 +136,12 @@ abbrev pub file_to_read : Option (Text × List Row) → Text
 file_to_read entered = named_file (codes "FILE") entered
 
 -- the one text of an argument of this name
-abbrev pub text_at : Option (Text × List Row) → List ℕ → Option Text
-text_at entered name = option_and_then (λ p. one_of name p.1) entered
+abbrev pub argument_text : Option (Text × List Row) → List ℕ → Option Text
+argument_text entered name = option_and_then (λ p. one_of name p.1) entered
 
 -- the flag `--answers` is `true` or `false`
 abbrev pub HasFlag : Option (Text × List Row) → Bool → Type 0
-HasFlag entered b = text_at entered (codes "answers") ≡ Some (bool_text b)
+HasFlag entered b = argument_text entered (codes "answers") ≡ Some (bool_text b)
 
 -- these are the options, where each argument has this text
 pub record OptionsBy (text_of : List ℕ → Option Text) (o : Options) : Type 0 where
@@ -151,7 +151,7 @@ pub record OptionsBy (text_of : List ℕ → Option Text) (o : Options) : Type 0
 
 -- these are the options of the subcommand
 abbrev pub HasOptions : Option (Text × List Row) → Options → Type 0
-HasOptions entered o = OptionsBy (text_at entered) o
+HasOptions entered o = OptionsBy (argument_text entered) o
 
 -- these are the options of a subcommand, by what is found for its arguments
 abbrev pub AreOptions : Found → Options → Type 0

@@ -5,7 +5,8 @@ use Rattle.clap.specs.declared.error.kind.ErrorKind.{ErrorKind}
 use Rattle.clap.specs.declared.error.kind.ErrorKind.TheVariants as kinds
 use Rattle.cl_program.specs.Asking.{Wanted}
 use Rattle.cl_program.specs.Files.{Giving}
-use Rattle.cl_program.specs.Outputs.{EndsWith, Outputs, Stream, WritesBytes}
+use Rattle.cl_program.specs.Outputs.{EndsWith, Outputs}
+use Rattle.cl_streams.specs.Writing.{Stream, WritesBytes}
 use Rattle.cl_program.specs.Readings.{IsReading}
 use Rattle.cl_program.specs.Runs.{IsRun}
 use Rattle.cl_program.specs.ScriptRuns.{IsScriptRun}
@@ -16,13 +17,13 @@ use Rattle.classlink.specs.CommandLine.{HasOptions, IsForBundle, IsToRead, IsToR
 
 -- ---- words that `clap` takes
 
--- memory was wanting before anything was done: this is told, and standard output is as it was
+-- memory ran out before anything was done: this is told, and standard output is as it was
 pub record LacksMemory (o : Outputs) (status : ℕ) : Type 0 where
   pub nothing : WritesBytes o.out []
   pub told : EndsWith o.err status (Err Memory)
 
--- what `clap` finds in words that it takes is done: the file of `read` is read, a script is run, or a bundle with its options; or memory
--- was wanting
+-- what `clap` finds in words that it takes is done: the file of `read` is read, a script is run, or a bundle with its options;
+-- or memory ran out
 pub data IsTaken (entered : Option (Text × List Row)) (input : Option (List ℕ)) (gives : List ℕ → Giving) (o : Outputs) (status : ℕ) : Type 0 where
   Reads : IsToRead entered → IsReading (gives (file_to_read entered)) (file_to_read entered) o status → IsTaken entered input gives o status
   RunsScript : (w : Wanted) → IsToRun entered → RunWants entered w → IsScriptRun gives w o status → IsTaken entered input gives o status

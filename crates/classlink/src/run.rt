@@ -1,7 +1,8 @@
 ghost use Rattle.std.specs.Prelude.{◌≡◌, [], ℕ, List, map};
 ghost use Rattle.clap.specs.Words.{kind_of, subcommand_of};
 ghost use Rattle.cl_program.specs.Asking.{Wanted};
-ghost use Rattle.cl_program.specs.Outputs.{outputs, stream};
+ghost use Rattle.cl_program.specs.Outputs.{outputs};
+ghost use Rattle.cl_streams.specs.Writing.{stream};
 ghost use Rattle.cl_program.specs.Readings.{IsReading};
 ghost use Rattle.cl_program.specs.Runs.{IsRun};
 ghost use Rattle.cl_program.specs.ScriptRuns.{IsScriptRun};

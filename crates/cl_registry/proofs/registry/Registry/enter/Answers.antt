@@ -4,7 +4,7 @@ use Rattle.cl_model.specs.declared.need.Need.TheVariants as needs
 use Rattle.cl_delegation.specs.Searches.{Located}
 use Rattle.cl_hierarchy.specs.Rows.{Rowed}
 use Rattle.cl_registry.specs.Parts.{IsPut, shared_values}
-use Rattle.cl_registry.specs.Tables.{Shown, IsNew, MayEnter, DefinedAs, row_for, row_at, state_of}
+use Rattle.cl_registry.specs.Tables.{Shown, IsNew, MayEnter, DefinedAs, row_for, table_row, state_of}
 use Rattle.cl_registry.specs.Refusals.{AddRefusedFor, BlamesNeed}
 use Rattle.cl_registry.specs.View.{shown_of}
 use Rattle.cl_registry.proofs.Asked.{row_made}
@@ -39,9 +39,9 @@ invariant_of-self-2 g c =
     let e = c.in-Ok.ensures in
     let fresh : IsNew x d = subst (λ (y : Shown). IsNew y d) (sym c.self.view_is) c.requires.fresh in
     let may : MayEnter x d = subst (λ (y : Shown). MayEnter y d) (sym c.self.view_is) c.requires.may in
-    let made : c.in-Ok.row.value ≡ row_for x d = e.row ∙ row_made (λ r. r.value) g.T.Told.told x c.self.invariant.kept (row_at c.self.inside.tables.items) c.self.invariant.rows d in
+    let made : c.in-Ok.row.value ≡ row_for x d = e.row ∙ row_made (λ r. r.value) g.T.Told.told x c.self.invariant.kept (table_row c.self.inside.tables.items) c.self.invariant.rows d in
     kept_defined g.T.Told.told x d _ _ _ _ _ _ _ _ c.to_come-left.result _ _ _ c.self.invariant c.home.ensures.draft may fresh e.entered
-    (subst (λ (v : Rowed). IsPut (shared_values (λ r. r.value) (row_at c.self.inside.tables.items)) (shared_values (λ r. r.value) (row_at c.record.new.tables.items)) d.class.loader d.class.name v) made e.put)
+    (subst (λ (v : Rowed). IsPut (shared_values (λ r. r.value) (table_row c.self.inside.tables.items)) (shared_values (λ r. r.value) (table_row c.record.new.tables.items)) d.class.loader d.class.name v) made e.put)
     (record {
       width = e.width;
       references_are = λ k i. refl;
@@ -62,7 +62,7 @@ returns-clause-defined g c =
     let y : Shown = record x { rows = map (λ r. r.value) c.record.new.rows.items; history = c.record.new.history.items } in
     let v = c.in-Ok.row.value in
     let may : MayEnter x d = subst (λ (z : Shown). MayEnter z d) (sym c.self.view_is) c.requires.may in
-    let made : v ≡ row_for x d = e.row ∙ row_made (λ r. r.value) g.T.Told.told x c.self.invariant.kept (row_at c.self.inside.tables.items) c.self.invariant.rows d in
+    let made : v ≡ row_for x d = e.row ∙ row_made (λ r. r.value) g.T.Told.told x c.self.invariant.kept (table_row c.self.inside.tables.items) c.self.invariant.rows d in
     subst (λ (z : Shown). DefinedAs z y d v None) c.self.view_is
     (may, (e.entered (state_of x) c.self.invariant.book).0, shown_define x d _ _ (e.rows ∙ ap (λ (w : Rowed). x.rows ++ w ∷ []) made) e.event.events, made)
 

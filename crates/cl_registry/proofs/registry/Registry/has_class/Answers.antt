@@ -1,7 +1,7 @@
 use Rattle.std.proofs.Common.{◌∙◌, subst, sym}
 use Rattle.cl_findings.specs.Findings.{Decides}
 use Rattle.cl_registry.specs.Imposing.{IsStanding}
-use Rattle.cl_registry.specs.Tables.{Shown, placed_at, row_at}
+use Rattle.cl_registry.specs.Tables.{Shown, placed_at, table_row}
 use Rattle.cl_registry.specs.View.{shown_of}
 use Rattle.cl_registry.proofs.Asked.{place_at}
 use Rattle.cl_registry.proofs.Tested.{standing_at}
@@ -12,4 +12,4 @@ returns-clause-stands g c = λ l config class.
     let x : Shown = shown_of c.self.inside in
     subst (λ (y : Shown). Decides c.has.result (IsStanding y l)) c.self.view_is
     (standing_at x l c.args.class.now c.has.result (placed_at c.self.inside.tables.items) (sym class) (config ∙ c.if-not-is_same.ensures ∙ c.deref.ensures)
-    (place_at (λ r. r.value) g.T.Told.told x c.self.invariant.kept (row_at c.self.inside.tables.items) c.self.invariant.rows) c.has.ensures)
+    (place_at (λ r. r.value) g.T.Told.told x c.self.invariant.kept (table_row c.self.inside.tables.items) c.self.invariant.rows) c.has.ensures)

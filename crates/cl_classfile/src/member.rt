@@ -25,8 +25,7 @@ impl Model for Member {
     ghost view = { λ m. record {
       flags = m.flags;
       name_index = m.name_index;
-      descriptor_index =
-          m.descriptor_index;
+      descriptor_index = m.descriptor_index;
       attributes = m.attributes.items;
     } };
 }

@@ -45,14 +45,12 @@ impl Model for Script {
     ghost view = { λ s. record {
       requests = s.requests.items;
       rounds_of = s.rounds_of.items;
-      rounds
-          = s.rounds;
+      rounds = s.rounds;
     } };
 
     ghost invariant = { λ s. IsScript (record {
       requests = s.requests.items;
-      rounds_of =
-          s.rounds_of.items;
+      rounds_of = s.rounds_of.items;
       rounds = s.rounds;
     }) };
 }

@@ -52,20 +52,17 @@ impl<T: Told> Model for Search<T> {
       config = s.config.value;
       loader = s.loader;
       name = s.name;
-      absent =
-          s.absent.items;
+      absent = s.absent.items;
       found = s.found;
     } };
 
     ghost invariant = { λ s. HasRouteAtHand T.told (record {
       config = s.config.value;
-      loader =
-          s.loader;
+      loader = s.loader;
       name = s.name;
       absent = s.absent.items;
       found = s.found;
-    }) s.route.items (vec_len
-        s.absent) (vec_capacity s.absent) };
+    }) s.route.items (vec_len s.absent) (vec_capacity s.absent) };
 }
 
 /// A search could not begin.
@@ -331,8 +328,7 @@ impl<T: Told> Model for Unfound<T> {
       config = u.config.value;
       asked = u.loader;
       name = u.name;
-      absent =
-          u.absent.items;
+      absent = u.absent.items;
     } };
 
     ghost invariant = { λ u. LeadsTo T.told u.config.value u.loader u.name None };

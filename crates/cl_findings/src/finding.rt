@@ -39,15 +39,13 @@ impl<T: Told> Model for Finding<T> {
     ghost view = { λ f. record {
       request = f.request;
       answer = f.answer;
-      basis = option_map
-          (basis_of f.request) f.basis;
+      basis = option_map (basis_of f.request) f.basis;
     } };
 
     ghost invariant = { λ f. Rests T.told (record {
       request = f.request;
       answer = f.answer;
-      basis =
-          option_map (basis_of f.request) f.basis;
+      basis = option_map (basis_of f.request) f.basis;
     }) };
 }
 

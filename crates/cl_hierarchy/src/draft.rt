@@ -59,8 +59,7 @@ impl<T: Told> Model for Draft<T> {
     ghost invariant = { λ d. IsDraft T.told (record {
       class = d.class;
       file = d.file.value;
-      home =
-          d.home.value;
+      home = d.home.value;
     }) };
 }
 

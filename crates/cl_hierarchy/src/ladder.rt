@@ -50,8 +50,7 @@ impl<T: Told> Model for Ladder<T> {
 
     ghost invariant = { λ x. IsLadder T.told (record {
       config = x.config.value;
-      rows = map (λ r.
-          r.value) x.rows.items;
+      rows = map (λ r. r.value) x.rows.items;
       marks = x.marks.items;
     }) };
 }

@@ -62,8 +62,7 @@ impl<T: Told> Model for Lineage<T> {
 
     ghost view = { λ l. record {
       config = l.ladder.value.config;
-      above = take l.place
-          l.ladder.value.rows;
+      above = take l.place l.ladder.value.rows;
       own = l.own.value;
     } };
 

@@ -51,9 +51,10 @@ impl<T: Told> Model for Lineages<T> {
 
     ghost view = { λ l. l.whole };
 
-    ghost invariant = { λ l. IfSome l.table (λ t. AreAllSupers (rows_in l.whole) (rows_in l.whole)
-        t.items) × IfSome l.over_class (IsOverAt l.whole) × IfSome l.over_interface (IsOverAt
-        l.whole) };
+    ghost invariant = { λ l. IfSome l.table
+        (λ t. AreAllSupers (rows_in l.whole) (rows_in l.whole) t.items)
+        × IfSome l.over_class (IsOverAt l.whole)
+        × IfSome l.over_interface (IsOverAt l.whole) };
 }
 
 impl<T: Told> Lineages<T> {

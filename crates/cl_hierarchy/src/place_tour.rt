@@ -106,8 +106,7 @@ impl Model for PlaceTour {
     ghost view = { λ t. record {
       told = t.told.items;
       is_told = t.is_told.items;
-      is_left =
-          t.is_left.items;
+      is_left = t.is_left.items;
       stack = t.stack.items;
     } };
 }

@@ -50,8 +50,7 @@ impl<T: Told> Model for Found<T> {
       c = f.c;
       index = f.index;
       owner = f.owner.value;
-      key =
-          f.key;
+      key = f.key;
       flags = f.flags;
     } };
 
@@ -59,8 +58,7 @@ impl<T: Told> Model for Found<T> {
       d = f.d;
       c = f.c;
       index = f.index;
-      owner =
-          f.owner.value;
+      owner = f.owner.value;
       key = f.key;
       flags = f.flags;
     }) };

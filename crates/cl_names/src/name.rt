@@ -52,9 +52,10 @@ impl Model for Name {
 
     ghost view = { λ n. part_of n.start n.len (arc_slice_items n.bytes) };
 
-    ghost invariant = { λ n. IsModifiedUtf8 (part_of n.start n.len (arc_slice_items n.bytes)) ×
-        (n.start + n.len ≤ length (arc_slice_items n.bytes)) × (MOST_SHARED_BYTES < n.len →
-        KeepsLong n.start n.len n.front (arc_slice_items n.bytes)) };
+    ghost invariant = { λ n. IsModifiedUtf8 (part_of n.start n.len (arc_slice_items n.bytes))
+        × (n.start + n.len ≤ length (arc_slice_items n.bytes))
+        × (MOST_SHARED_BYTES < n.len
+        → KeepsLong n.start n.len n.front (arc_slice_items n.bytes)) };
 }
 
 impl PartialEq for Name {

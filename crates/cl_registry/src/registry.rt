@@ -112,11 +112,9 @@ impl<T: Told> Model for Registry<T> {
     ghost view = { shown_of };
 
     ghost invariant = { λ r. IsRegistry T.told (shown_of r) (record {
-      table = shared_values (λ c.
-          c.value) (table_row r.tables.items);
+      table = shared_values (λ c. c.value) (table_row r.tables.items);
       parts = length r.tables.items;
-      references = shared_values
-          (λ s. s.value) (reference_in r.references);
+      references = shared_values (λ s. s.value) (reference_in r.references);
       prepared = r.prepared.keys;
       met = r.met.items;
       events = vec_len r.history;
@@ -125,8 +123,7 @@ impl<T: Told> Model for Registry<T> {
       unanswered = r.unanswered.items;
       round = r.round;
       filled = vec_len r.room;
-      room =
-          vec_capacity r.room;
+      room = vec_capacity r.room;
     }) (⟦<GroupedBook as ConstraintBook>⟧.stands_for r.book) };
 }
 

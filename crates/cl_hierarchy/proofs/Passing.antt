@@ -6,8 +6,8 @@ use Rattle.cl_model.specs.Classes.{is_among, same_class}
 use Rattle.cl_model.specs.Lineages.{Kin, alone, classes, once_after, preorder, superinterfaces}
 use Rattle.cl_model.proofs.Ancestors.{Within, within_both}
 use Rattle.cl_model.proofs.Complete.{is_class, or_true}
-use Rattle.cl_hierarchy.specs.declared.tour.Order.TheVariants as orders
-use Rattle.cl_hierarchy.specs.declared.tour.Task.TheVariants as tasks
+use Rattle.cl_hierarchy.specs.declared.tour.TourOrder.TheVariants as orders
+use Rattle.cl_hierarchy.specs.declared.tour.TourStep.TheVariants as tasks
 use Rattle.cl_hierarchy.specs.Lineages.{IsRowIn}
 use Rattle.cl_hierarchy.specs.Rows.{Rowed}
 use Rattle.cl_hierarchy.specs.Tours.{Comes, Leaves, Marked, Stop, Toured, inner, after_passing, steps_left, steps_to_go, stops, stops_left, after_telling, telling_all, told_at}

@@ -13,9 +13,9 @@ use Rattle.cl_model.proofs.Complete.{is_class}
 use Rattle.cl_hierarchy.specs.declared.place_tour.OverAt.{OverAt}
 use Rattle.cl_hierarchy.specs.declared.place_tour.Spot.{Spot}
 use Rattle.cl_hierarchy.specs.declared.supers.Supers.{Supers}
-use Rattle.cl_hierarchy.specs.declared.tour.Order.TheVariants as orders
-use Rattle.cl_hierarchy.specs.declared.tour.Task.{Task}
-use Rattle.cl_hierarchy.specs.declared.tour.Task.TheVariants as tasks
+use Rattle.cl_hierarchy.specs.declared.tour.TourOrder.TheVariants as orders
+use Rattle.cl_hierarchy.specs.declared.tour.TourStep.{TourStep}
+use Rattle.cl_hierarchy.specs.declared.tour.TourStep.TheVariants as tasks
 use Rattle.cl_hierarchy.specs.Lineages.{IsRowIn}
 use Rattle.cl_hierarchy.specs.PlaceTours.{AreKnown, AreMarked, AreSkipped, AreSuperinterfacesAt, AreTold, TourGoesOn, IsToldAndLeft, IsOpened, TourIsPlaced, IsPushed, IsToldAt, IsTour, Moves, PassesAt, Placed, TourSteps, classes_at, mark_at, marks_at, rows_at, toured_at}
 use Rattle.cl_hierarchy.specs.Rows.{Rowed}
@@ -138,7 +138,7 @@ record Pushes (rows : List Rowed) (left : List Class) (a : Placed) (m : Marked) 
   told : b.told ≡ a.told
   marks : marks_at rows b.stack ≡ marks_at rows a.stack ++ m ∷ []
 
-pushes : (rows : List Rowed) (left : List Class) (a b : Placed) (p : ℕ) (k : Task) (r : Rowed) → slice_get rows p ≡ Some r → TourIsPlaced rows left a → IsPushed a p k b → Pushes rows left a (record { row = r; task = k }) b
+pushes : (rows : List Rowed) (left : List Class) (a b : Placed) (p : ℕ) (k : TourStep) (r : Rowed) → slice_get rows p ≡ Some r → TourIsPlaced rows left a → IsPushed a p k b → Pushes rows left a (record { row = r; task = k }) b
 pushes rows left a b p k r e h put = record {
   placed = record {
     told_in = subst (λ (ps : List ℕ). AllByRecursion (HasRow rows) ps) (sym put.told) h.told_in;
@@ -505,15 +505,15 @@ module _ (rows : List Rowed) (table : List Supers) (start : Rowed) (t rest new :
   old = toured_at rows h.left rest
 
   -- what the last thing was that is left to do
-  marks_of : (task : Task) → next.task ≡ task → marks_at rows t.stack ≡ old.stack ++ record { row = row; task = task } ∷ []
-  marks_of task is = marks ∙ ap (λ (k : Task). old.stack ++ record { row = row; task = k } ∷ []) is
+  marks_of : (task : TourStep) → next.task ≡ task → marks_at rows t.stack ≡ old.stack ++ record { row = row; task = task } ∷ []
+  marks_of task is = marks ∙ ap (λ (k : TourStep). old.stack ++ record { row = row; task = k } ∷ []) is
 
   -- the tour goes on, and is nearer to its end
   abbrev IsNearer : Type 0
   IsNearer = IsTouring rows start new × (steps_left (kins rows) (marks_at rows new.stack) < steps_left (kins rows) (marks_at rows t.stack))
 
   -- one step, of this task
-  module _ (task : Task) (ms : List Marked) (marks_are : ms ≡ old.stack ++ record { row = row; task = task } ∷ []) (stage : IsStage orders.Superinterfaces rows (goal rows start) (record old { stack = ms })) (steps : TourSteps table rest next.place task new) where
+  module _ (task : TourStep) (ms : List Marked) (marks_are : ms ≡ old.stack ++ record { row = row; task = task } ∷ []) (stage : IsStage orders.Superinterfaces rows (goal rows start) (record old { stack = ms })) (steps : TourSteps table rest next.place task new) where
     abbrev reached : Toured
     reached = step orders.Superinterfaces rows old row task
 
@@ -582,10 +582,10 @@ module _ (rows : List Rowed) (table : List Supers) (start : Rowed) (t rest new :
         let other = steps_both (kins rows) old.stack (record { row = row; task = tasks.Over to } ∷ []) in
         omega arith
 
-  stepped : (task : Task) → next.task ≡ task → TourSteps table rest next.place task new → IsNearer
+  stepped : (task : TourStep) → next.task ≡ task → TourSteps table rest next.place task new → IsNearer
   stepped task is steps = (stepped_on task (marks_at rows t.stack) (marks_of task is) before steps, stepped_less task (marks_at rows t.stack) (marks_of task is) before steps)
 
-  gone_on : (task : Task) → next.task ≡ task → TourGoesOn table rest next.place task new → IsNearer
+  gone_on : (task : TourStep) → next.task ≡ task → TourGoesOn table rest next.place task new → IsNearer
   gone_on (tasks.Come wanted) is steps = stepped (tasks.Come wanted) is steps
   gone_on (tasks.Over at) is (to, skipped, steps) = (over_on at to is skipped steps, over_less at to is skipped steps)
   gone_on tasks.Leave is steps = stepped tasks.Leave is steps

@@ -7,10 +7,10 @@ use Rattle.cl_model.specs.Classes.{is_among}
 use Rattle.cl_model.specs.Lineages.{Forest, Kin, alone, classes, once}
 use Rattle.cl_model.proofs.Ancestors.{Within}
 use Rattle.cl_model.proofs.Closed.{all_right}
-use Rattle.cl_hierarchy.specs.declared.tour.Order.{Order}
+use Rattle.cl_hierarchy.specs.declared.tour.TourOrder.{TourOrder}
 use Rattle.cl_hierarchy.specs.declared.tour.Step.{Step}
-use Rattle.cl_hierarchy.specs.declared.tour.Task.{Task}
-use Rattle.cl_hierarchy.specs.declared.tour.Task.TheVariants as tasks
+use Rattle.cl_hierarchy.specs.declared.tour.TourStep.{TourStep}
+use Rattle.cl_hierarchy.specs.declared.tour.TourStep.TheVariants as tasks
 use Rattle.cl_hierarchy.specs.Lineages.{IsRowIn, row_of}
 use Rattle.cl_hierarchy.specs.NamedBefore.{AreNamedBefore, IsNamedBefore}
 use Rattle.cl_hierarchy.specs.Rows.{Rowed}
@@ -24,7 +24,7 @@ use Rattle.cl_hierarchy.proofs.Tours.{Goes, classes_both, goes_past, told_both, 
 
 -- ---- what the superinterfaces before one told
 
-module _ (rows : List Rowed) (o : Order) where
+module _ (rows : List Rowed) (o : TourOrder) where
   -- the stops of a superinterface, with all above it
   abbrev pub stops_one : Class → List Stop
   stops_one c = stops o (forest (kins rows) (c ∷ [])) true
@@ -38,7 +38,7 @@ module _ (rows : List Rowed) (o : Order) where
   AreTold seen cs at = (k : ℕ) → k < at → (c : Class) → slice_get cs k ≡ Some c → Within (classes (told_at o (stops_one c))) seen
 
   -- a class's superinterfaces are gone through from one on once those before it told all that they tell
-  abbrev pub IsReady : List Class → Rowed → Task → Type 0
+  abbrev pub IsReady : List Class → Rowed → TourStep → Type 0
   IsReady seen r (tasks.Over at) = AreTold seen (interfaces_in r) at
   IsReady seen r (tasks.Come wanted) = Unit {0}
   IsReady seen r tasks.Leave = Unit {0}
@@ -48,7 +48,7 @@ module _ (rows : List Rowed) (o : Order) where
   AllReady seen [] = Unit {0}
   AllReady seen (m ∷ ms) = IsReady (told_for ms ++ seen) m.row m.task × AllReady seen ms
 
-  ready_more : (xs ys : List Class) (r : Rowed) (task : Task) → Within xs ys → IsReady xs r task → IsReady ys r task
+  ready_more : (xs ys : List Class) (r : Rowed) (task : TourStep) → Within xs ys → IsReady xs r task → IsReady ys r task
   ready_more xs ys r (tasks.Over at) w h = λ k lt c e d i. w d (h k lt c e d i)
   ready_more xs ys r (tasks.Come wanted) w h = tt
   ready_more xs ys r tasks.Leave w h = tt
@@ -117,7 +117,7 @@ size_front : (k : Option Kin) (f : Forest) → size f ≤ size (in_front k f)
 size_front None f = omega arith
 size_front (Some k) f = omega arith
 
-module _ (rows : List Rowed) (o : Order) (seen : List Class) (r : Rowed) where
+module _ (rows : List Rowed) (o : TourOrder) (seen : List Class) (r : Rowed) where
   abbrev cs : List Class
   cs = interfaces_in r
 
@@ -156,7 +156,7 @@ module _ (rows : List Rowed) (o : Order) (seen : List Class) (r : Rowed) where
 
 -- ---- superinterfaces that were named before are passed
 
-module _ (rows : List Rowed) (o : Order) (goal : List Kin) (t : Toured) (r : Rowed) (rest : List Stop) (from : ℕ) where
+module _ (rows : List Rowed) (o : TourOrder) (goal : List Kin) (t : Toured) (r : Rowed) (rest : List Stop) (from : ℕ) where
   abbrev over_at : ℕ → Marked
   over_at k = record { row = r; task = tasks.Over k }
 
@@ -221,14 +221,14 @@ module _ (rows : List Rowed) (o : Order) (goal : List Kin) (t : Toured) (r : Row
 
 -- ---- one step
 
-module _ (rows : List Rowed) (ordered : SupersBefore [] rows) (o : Order) (r : Rowed) (is_row : IsRowIn rows r) where
+module _ (rows : List Rowed) (ordered : SupersBefore [] rows) (o : TourOrder) (r : Rowed) (is_row : IsRowIn rows r) where
   abbrev k : Kin
   k = kin_under (kins rows) r
 
   abbrev above : List Class
   above = classes (told_at o (inner o k ++ Leaves k ∷ []))
 
-  abbrev mark : Task → Marked
+  abbrev mark : TourStep → Marked
   mark task = record { row = r; task = task }
 
   telling_grows : (t : Toured) (b : Bool) → Within t.seen (after_telling b t r).seen
@@ -295,7 +295,7 @@ module _ (rows : List Rowed) (ordered : SupersBefore [] rows) (o : Order) (r : R
       (subst (λ (xs : List Class). Within (xs ++ seen) new) (sym (classes_both (tells o (Leaves k)) []))
       (within_join (classes (tells o (Leaves k)) ++ []) seen new (within_join (classes (tells o (Leaves k))) [] new told (λ c e. absurd cc)) grows)) h
 
-  pub ready_step : (t : Toured) (task : Task) → (is_among t.left r.class ≡ true → Within above t.seen) → AllReady rows o t.seen (t.stack ++ mark task ∷ []) → AllReady rows o (step o rows t r task).seen (step o rows t r task).stack
+  pub ready_step : (t : Toured) (task : TourStep) → (is_among t.left r.class ≡ true → Within above t.seen) → AllReady rows o t.seen (t.stack ++ mark task ∷ []) → AllReady rows o (step o rows t r task).seen (step o rows t r task).stack
   ready_step t (tasks.Come wanted) done h =
       let b = tells_before o wanted in
       let new = after_telling b t r in
@@ -312,12 +312,12 @@ module _ (rows : List Rowed) (ordered : SupersBefore [] rows) (o : Order) (r : R
 
 -- ---- what holds between two steps
 
-pub record IsUnderWay (o : Order) (rows : List Rowed) (goal : List Kin) (t : Toured) : Type 0 where
+pub record IsUnderWay (o : TourOrder) (rows : List Rowed) (goal : List Kin) (t : Toured) : Type 0 where
   pub stage : IsStage o rows goal t
   pub ready : AllReady rows o t.seen t.stack
 
 -- the last of what is left is taken off
-module _ (rows : List Rowed) (ordered : SupersBefore [] rows) (o : Order) (goal : List Kin) (told : List Rowed) (seen left : List Class) (stack rest : List Marked) (next : Marked) (popped : stack ≡ rest ++ next ∷ [])
+module _ (rows : List Rowed) (ordered : SupersBefore [] rows) (o : TourOrder) (goal : List Kin) (told : List Rowed) (seen left : List Class) (stack rest : List Marked) (next : Marked) (popped : stack ≡ rest ++ next ∷ [])
     (h : IsUnderWay o rows goal (record { told = told; seen = seen; left = left; stack = stack })) where
   abbrev before : Toured
   before = record { told = told; seen = seen; left = left; stack = rest }
@@ -329,14 +329,14 @@ module _ (rows : List Rowed) (ordered : SupersBefore [] rows) (o : Order) (goal 
   abbrev IsNearer : Toured → Type 0
   IsNearer new = IsUnderWay o rows goal new × (steps_left (kins rows) new.stack < steps_left (kins rows) stack)
 
-  abbrev with : Task → List Marked
+  abbrev with : TourStep → List Marked
   with task = rest ++ record { row = next.row; task = task } ∷ []
 
   ready_now : AllReady rows o seen (with next.task)
   ready_now = subst (λ (ms : List Marked). AllReady rows o seen ms) popped h.ready
 
   -- one step, of this task in place of the last
-  nearer : (task : Task) (new : Toured) → IsStage o rows goal (record before { stack = with task }) → AllReady rows o seen (with task) → steps_to_go (kins rows) next.row task ≤ steps_to_go (kins rows) next.row next.task → new ≡ step o rows before next.row task → IsNearer new
+  nearer : (task : TourStep) (new : Toured) → IsStage o rows goal (record before { stack = with task }) → AllReady rows o seen (with task) → steps_to_go (kins rows) next.row task ≤ steps_to_go (kins rows) next.row next.task → new ≡ step o rows before next.row task → IsNearer new
   nearer task new stage ready less e =
       let m : Marked = record { row = next.row; task = task } in
       let fewer_ = smaller_by rows ordered o goal told seen left (with task) rest m refl new stage e in
@@ -358,20 +358,20 @@ module _ (rows : List Rowed) (ordered : SupersBefore [] rows) (o : Order) (goal 
   passed : (at to : ℕ) → next.task ≡ tasks.Over at → AreNamedBefore (interfaces_in next.row) at to → MayGoOn rows o goal before next.row (stops_left o (kins rows) rest) at to
   passed at to is all =
       pass_all rows o goal before next.row (stops_left o (kins rows) rest) at to all
-      (subst (λ (task : Task). IsReady rows o seen next.row task) is (ready_last rows o rest next seen ready_now))
-      (subst (λ (task : Task). IsTold o rows goal before (stops_of o (kins rows) next.row task ++ stops_left o (kins rows) rest)) is (told_before rows ordered o goal told seen left stack rest next popped h.stage))
+      (subst (λ (task : TourStep). IsReady rows o seen next.row task) is (ready_last rows o rest next seen ready_now))
+      (subst (λ (task : TourStep). IsTold o rows goal before (stops_of o (kins rows) next.row task ++ stops_left o (kins rows) rest)) is (told_before rows ordered o goal told seen left stack rest next popped h.stage))
 
-  pub went : (task : Task) (new : Toured) → next.task ≡ task → TakesStep o rows before next.row task new → IsNearer new
-  went (tasks.Come wanted) new is e = nearer next.task new stage_now ready_now (omega arith) (e ∙ ap (λ (task : Task). step o rows before next.row task) (sym is))
-  went tasks.Leave new is e = nearer next.task new stage_now ready_now (omega arith) (e ∙ ap (λ (task : Task). step o rows before next.row task) (sym is))
+  pub went : (task : TourStep) (new : Toured) → next.task ≡ task → TakesStep o rows before next.row task new → IsNearer new
+  went (tasks.Come wanted) new is e = nearer next.task new stage_now ready_now (omega arith) (e ∙ ap (λ (task : TourStep). step o rows before next.row task) (sym is))
+  went tasks.Leave new is e = nearer next.task new stage_now ready_now (omega arith) (e ∙ ap (λ (task : TourStep). step o rows before next.row task) (sym is))
   went (tasks.Over at) new is (to, all, e) =
       let on = passed at to is all in
       let m : Marked = record { row = next.row; task = tasks.Over to } in
       let less = on.steps in
-      let most = ap (λ (task : Task). steps_to_go (kins rows) next.row task) is in
+      let most = ap (λ (task : TourStep). steps_to_go (kins rows) next.row task) is in
       nearer (tasks.Over to) new (one_more rows o goal before m is_row on.goes (rows_before rows ordered o goal told seen left stack rest next popped h.stage))
       (ready_swap rows o rest (next ∷ []) (m ∷ []) seen seen
-      (subst (λ (task : Task). Within (told_for rows o (record { row = next.row; task = task } ∷ []) ++ seen) (told_for rows o (m ∷ []) ++ seen)) (sym is) on.within)
+      (subst (λ (task : TourStep). Within (told_for rows o (record { row = next.row; task = task } ∷ []) ++ seen) (told_for rows o (m ∷ []) ++ seen)) (sym is) on.within)
       ready_now (on_told on.told, tt))
       (omega (arith, less, most)) e
     where
@@ -380,7 +380,7 @@ module _ (rows : List Rowed) (ordered : SupersBefore [] rows) (o : Order) (goal 
 
 -- ---- the same of lists of steps
 
-module _ {A : Type 0} (rows : List Rowed) (ordered : SupersBefore [] rows) (o : Order) (goal : List Kin) (told : List Rowed) (seen left : List Class) (stack rest : List (Step A)) (next : Step A) (popped : stack ≡ rest ++ next ∷ []) (new : Toured)
+module _ {A : Type 0} (rows : List Rowed) (ordered : SupersBefore [] rows) (o : TourOrder) (goal : List Kin) (told : List Rowed) (seen left : List Class) (stack rest : List (Step A)) (next : Step A) (popped : stack ≡ rest ++ next ∷ []) (new : Toured)
     (h : IsUnderWay o rows goal (record { told = told; seen = seen; left = left; stack = marks stack })) (e : TakesStep o rows (record { told = told; seen = seen; left = left; stack = marks rest }) next.row.value next.task new) where
   pushed : marks stack ≡ marks rest ++ plain_step next ∷ []
   pushed = ap (λ (ss : List (Step A)). marks ss) popped ∙ map_push (λ (s : Step A). plain_step s) rest next
@@ -394,7 +394,7 @@ module _ {A : Type 0} (rows : List Rowed) (ordered : SupersBefore [] rows) (o : 
   pub smaller : steps_left (kins rows) new.stack < steps_left (kins rows) (marks stack)
   smaller = gone.1
 
-pub first_way : (rows : List Rowed) (o : Order) (r : Rowed) (wanted : Bool) (told : List Rowed) (seen left : List Class) (stack : List Marked) → IsRowIn rows r → told ≡ [] → seen ≡ [] → left ≡ []
+pub first_way : (rows : List Rowed) (o : TourOrder) (r : Rowed) (wanted : Bool) (told : List Rowed) (seen left : List Class) (stack : List Marked) → IsRowIn rows r → told ≡ [] → seen ≡ [] → left ≡ []
     → stack ≡ record { row = r; task = tasks.Come wanted } ∷ [] → IsUnderWay o rows (once (told_at o (stops o (alone (kin_under (kins rows) r)) wanted))) (record { told = told; seen = seen; left = left; stack = stack })
 first_way rows o r wanted told seen left stack i a b c d = record {
   stage = first_stage rows o r wanted told seen left stack i a b c d;

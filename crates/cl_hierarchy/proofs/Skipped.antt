@@ -5,8 +5,8 @@ use Rattle.cl_model.specs.Classes.{is_among, same_class}
 use Rattle.cl_model.specs.Lineages.{Kin, alone, classes}
 use Rattle.cl_model.proofs.Ancestors.{Within}
 use Rattle.cl_model.proofs.Complete.{is_class, or_true}
-use Rattle.cl_hierarchy.specs.declared.tour.Order.TheVariants as orders
-use Rattle.cl_hierarchy.specs.declared.tour.Task.TheVariants as tasks
+use Rattle.cl_hierarchy.specs.declared.tour.TourOrder.TheVariants as orders
+use Rattle.cl_hierarchy.specs.declared.tour.TourStep.TheVariants as tasks
 use Rattle.cl_hierarchy.specs.Lineages.{IsRowIn}
 use Rattle.cl_hierarchy.specs.Rows.{Rowed}
 use Rattle.cl_hierarchy.specs.Tours.{Leaves, Stop, Toured, inner, interface_row, steps_to_go, stops, stops_of, told_at}

@@ -9,10 +9,10 @@ use Rattle.cl_model.specs.Lineages.{Forest, Bare, Kin, alone, classes, once}
 use Rattle.cl_model.proofs.Ancestors.{Within}
 use Rattle.cl_model.proofs.Closed.{all_left, all_right}
 use Rattle.cl_model.proofs.Derived.{all_both}
-use Rattle.cl_hierarchy.specs.declared.tour.Order.{Order}
+use Rattle.cl_hierarchy.specs.declared.tour.TourOrder.{TourOrder}
 use Rattle.cl_hierarchy.specs.declared.tour.Step.{Step}
-use Rattle.cl_hierarchy.specs.declared.tour.Task.{Task}
-use Rattle.cl_hierarchy.specs.declared.tour.Task.TheVariants as tasks
+use Rattle.cl_hierarchy.specs.declared.tour.TourStep.{TourStep}
+use Rattle.cl_hierarchy.specs.declared.tour.TourStep.TheVariants as tasks
 use Rattle.cl_hierarchy.specs.Frames.{accepted_of}
 use Rattle.cl_hierarchy.specs.Lineages.{IsRowIn, row_of}
 use Rattle.cl_hierarchy.specs.Rows.{Rowed}
@@ -24,7 +24,7 @@ use Rattle.cl_hierarchy.proofs.Ends.{all_push}
 
 -- ---- what is left to do
 
-pub left_both : (o : Order) (known : List Kin) (ms ns : List Marked) → stops_left o known (ms ++ ns) ≡ stops_left o known ns ++ stops_left o known ms
+pub left_both : (o : TourOrder) (known : List Kin) (ms ns : List Marked) → stops_left o known (ms ++ ns) ≡ stops_left o known ns ++ stops_left o known ms
 left_both o known [] ns = sym (append-nil (stops_left o known ns))
 left_both o known (m ∷ ms) ns =
     ap (λ (x : List Stop). x ++ stops_of o known m.row m.task) (left_both o known ms ns) ∙ append_assoc (stops_left o known ns) (stops_left o known ms) (stops_of o known m.row m.task)
@@ -59,36 +59,36 @@ module _ (rows : List Rowed) (ordered : SupersBefore [] rows) where
   pub kin_is : (c : Class) (x : Rowed) → row_of rows c ≡ Some x → kin_named known c ≡ Some (kin_under known x)
   kin_is c x e = (row_kin [] rows c x ordered e).kin
 
-  up_stops : (o : Order) (c : Class) (x : Option Rowed) → row_of rows c ≡ x → stops_left o known (upwards_of o x) ≡ stops o (forest known (c ∷ [])) (wants_up o)
+  up_stops : (o : TourOrder) (c : Class) (x : Option Rowed) → row_of rows c ≡ x → stops_left o known (upwards_of o x) ≡ stops o (forest known (c ∷ [])) (wants_up o)
   up_stops o c None e = sym (ap (λ (y : Option Kin). stops o (in_front y Bare) (wants_up o)) (no_row [] rows c refl e))
   up_stops o c (Some x) e = sym (ap (λ (y : Option Kin). stops o (in_front y Bare) (wants_up o)) (kin_is c x e))
 
-  up_steps : (o : Order) (c : Class) (x : Option Rowed) → row_of rows c ≡ x → steps_left known (upwards_of o x) ≤ 4 * size (forest known (c ∷ []))
+  up_steps : (o : TourOrder) (c : Class) (x : Option Rowed) → row_of rows c ≡ x → steps_left known (upwards_of o x) ≤ 4 * size (forest known (c ∷ []))
   up_steps o c None e = omega arith
   up_steps o c (Some x) e =
       let is : size (forest known (c ∷ [])) ≡ size (alone (kin_under known x)) = ap (λ (y : Option Kin). size (in_front y Bare)) (kin_is c x e) in
       omega arith
 
-  up_rows : (o : Order) (c : Class) (x : Option Rowed) → row_of rows c ≡ x → AreRowsOf rows (upwards_of o x)
+  up_rows : (o : TourOrder) (c : Class) (x : Option Rowed) → row_of rows c ≡ x → AreRowsOf rows (upwards_of o x)
   up_rows o c None e = tt
   up_rows o c (Some x) e = (row_is c x e, tt)
 
   -- to come to what is above
-  pub record IsUp (o : Order) (cs : List Class) : Type 0 where
+  pub record IsUp (o : TourOrder) (cs : List Class) : Type 0 where
     pub stops_are : stops_left o known (upwards_of o (first_row rows cs)) ≡ stops o (forest known cs) (wants_up o)
     pub steps_are : steps_left known (upwards_of o (first_row rows cs)) ≤ 4 * size (forest known cs)
     pub rows_are : AreRowsOf rows (upwards_of o (first_row rows cs))
 
-  up_of : (o : Order) (cs : List Class) → (cs ≡ []) ⊎ ((c : Class) × (cs ≡ c ∷ [])) → IsUp o cs
+  up_of : (o : TourOrder) (cs : List Class) → (cs ≡ []) ⊎ ((c : Class) × (cs ≡ c ∷ [])) → IsUp o cs
   up_of o cs (inl e) = subst (λ (x : List Class). IsUp o x) (sym e) (record { stops_are = refl; steps_are = omega arith; rows_are = tt })
   up_of o cs (inr e) = subst (λ (x : List Class). IsUp o x) (sym e.1) (record { stops_are = up_stops o e.0 (row_of rows e.0) refl; steps_are = up_steps o e.0 (row_of rows e.0) refl; rows_are = up_rows o e.0 (row_of rows e.0) refl })
 
-  pub up : (o : Order) (r : Rowed) → IsUp o (superclass_in r)
+  pub up : (o : TourOrder) (r : Rowed) → IsUp o (superclass_in r)
   up o r = up_of o (superclass_in r) (one_above (file_of r.file).super_name r.places)
 
 -- ---- what is opened
 
-module _ (rows : List Rowed) (ordered : SupersBefore [] rows) (o : Order) (r : Rowed) where
+module _ (rows : List Rowed) (ordered : SupersBefore [] rows) (o : TourOrder) (r : Rowed) where
   abbrev kin : Kin
   kin = kin_under (kins rows) r
 
@@ -147,10 +147,10 @@ over_here rows h (c ∷ cs) (suc k) all x e = let more = over_here rows h cs k a
 plus_one : (n : ℕ) → n + 1 ≡ suc n
 plus_one n = omega arith
 
-pub stops_front : (o : Order) (k : Kin) (f : Forest) → stops o (in_front (Some k) f) true ≡ stops o (alone k) true ++ stops o f true
+pub stops_front : (o : TourOrder) (k : Kin) (f : Forest) → stops o (in_front (Some k) f) true ≡ stops o (alone k) true ++ stops o f true
 stops_front o k f = ap (λ (x : List Stop). Comes k true ∷ x) (sym (append_assoc (inner o k) (Leaves k ∷ []) (stops o f true)))
 
-module _ (rows : List Rowed) (o : Order) (r : Rowed) (place : ℕ) where
+module _ (rows : List Rowed) (o : TourOrder) (r : Rowed) (place : ℕ) where
   pub over_stops : (x : Option Rowed) → IsOver rows (interfaces_in r) place x → stops_left o (kins rows) (over_from r place x) ≡ stops_of o (kins rows) r (tasks.Over place)
   over_stops None h = sym (ap (λ (f : Forest). stops o f true) h.front)
   over_stops (Some x) h =
@@ -171,13 +171,13 @@ module _ (rows : List Rowed) (o : Order) (r : Rowed) (place : ℕ) where
   over_rows (Some x) i h = (i, (h.is_one, tt))
 
 -- what holds between two steps
-pub record IsStage (o : Order) (rows : List Rowed) (goal : List Kin) (t : Toured) : Type 0 where
+pub record IsStage (o : TourOrder) (rows : List Rowed) (goal : List Kin) (t : Toured) : Type 0 where
   pub goes : Goes o (kins rows) goal t.told t.seen t.left (stops_left o (kins rows) t.stack)
   pub told_are : AllByRecursion (IsRowIn rows) t.told
   pub stack_is : AreRowsOf rows t.stack
 
 -- the same of what was told, before any other stops
-pub record IsTold (o : Order) (rows : List Rowed) (goal : List Kin) (t : Toured) (rest : List Stop) : Type 0 where
+pub record IsTold (o : TourOrder) (rows : List Rowed) (goal : List Kin) (t : Toured) (rest : List Stop) : Type 0 where
   pub goes : Goes o (kins rows) goal t.told t.seen t.left rest
   pub told_are : AllByRecursion (IsRowIn rows) t.told
 
@@ -188,7 +188,7 @@ row_joins rows seen told r h i = at (is_among seen r.class)
     at true = h
     at false = all_push (IsRowIn rows) told r h i
 
-module _ (o : Order) (rows : List Rowed) (goal : List Kin) (r : Rowed) (is_row : IsRowIn rows r) where
+module _ (o : TourOrder) (rows : List Rowed) (goal : List Kin) (r : Rowed) (is_row : IsRowIn rows r) where
   pub telling_on : (t : Toured) (s : Stop) (b : Bool) (rest : List Stop) → tells o s ≡ (if b then kin_under (kins rows) r ∷ [] else []) → IsTold o rows goal t (s ∷ (rest ++ stops_left o (kins rows) t.stack))
       → IsTold o rows goal (after_telling b t r) (rest ++ stops_left o (kins rows) (after_telling b t r).stack)
   telling_on t s true rest e h = record {
@@ -201,7 +201,7 @@ pub telling_stack : (t : Toured) (b : Bool) (r : Rowed) → (after_telling b t r
 telling_stack t true r = refl
 telling_stack t false r = refl
 
-module _ (rows : List Rowed) (ordered : SupersBefore [] rows) (o : Order) (goal : List Kin) (r : Rowed) (is_row : IsRowIn rows r) where
+module _ (rows : List Rowed) (ordered : SupersBefore [] rows) (o : TourOrder) (goal : List Kin) (r : Rowed) (is_row : IsRowIn rows r) where
   found : kin_named (kins rows) r.class ≡ Some (kin_under (kins rows) r)
   found = kin_is rows ordered r.class r is_row
 
@@ -278,7 +278,7 @@ module _ (rows : List Rowed) (ordered : SupersBefore [] rows) (o : Order) (goal 
       (subst (λ (cs : List Class). Within cs x.seen) (sym (ap (λ (ks : List Kin). classes ks) (told_both o (inner o k) (Leaves k ∷ [])) ∙ classes_both (told_at o (inner o k)) (tells o (Leaves k) ++ []))) (all_told_of t b refl h.goes.ready.0))
 
 -- one thing more is left to do
-pub one_more : (rows : List Rowed) (o : Order) (goal : List Kin) (t : Toured) (m : Marked) → IsRowIn rows m.row → IsTold o rows goal t (stops_of o (kins rows) m.row m.task ++ stops_left o (kins rows) t.stack) → AreRowsOf rows t.stack
+pub one_more : (rows : List Rowed) (o : TourOrder) (goal : List Kin) (t : Toured) (m : Marked) → IsRowIn rows m.row → IsTold o rows goal t (stops_of o (kins rows) m.row m.task ++ stops_left o (kins rows) t.stack) → AreRowsOf rows t.stack
     → IsStage o rows goal (record t { stack = t.stack ++ m ∷ [] })
 one_more rows o goal t m i h a = record {
   goes = subst (λ (ss : List Stop). Goes o (kins rows) goal t.told t.seen t.left ss) (sym (left_both o (kins rows) t.stack (m ∷ []))) h.goes;
@@ -287,19 +287,19 @@ one_more rows o goal t m i h a = record {
 }
 
 -- one step
-stepped : (rows : List Rowed) → SupersBefore [] rows → (o : Order) (goal : List Kin) (t : Toured) (r : Rowed) (k : Task) → IsRowIn rows r → IsTold o rows goal t (stops_of o (kins rows) r k ++ stops_left o (kins rows) t.stack) → AreRowsOf rows t.stack
+stepped : (rows : List Rowed) → SupersBefore [] rows → (o : TourOrder) (goal : List Kin) (t : Toured) (r : Rowed) (k : TourStep) → IsRowIn rows r → IsTold o rows goal t (stops_of o (kins rows) r k ++ stops_left o (kins rows) t.stack) → AreRowsOf rows t.stack
     → IsStage o rows goal (step o rows t r k)
 stepped rows ordered o goal t r (tasks.Come wanted) i h a = came rows ordered o goal r i t wanted h a
 stepped rows ordered o goal t r (tasks.Over place) i h a = went_over rows ordered o goal r i t place h a
 stepped rows ordered o goal t r tasks.Leave i h a = went rows ordered o goal r i t h a
 
 -- and it comes nearer to the end
-opening_less : (rows : List Rowed) → SupersBefore [] rows → (o : Order) (t : Toured) (r : Rowed) (b : Bool) (wanted : Bool)
+opening_less : (rows : List Rowed) → SupersBefore [] rows → (o : TourOrder) (t : Toured) (r : Rowed) (b : Bool) (wanted : Bool)
     → steps_left (kins rows) (if b then t.stack else t.stack ++ opening_steps o rows r) < steps_left (kins rows) t.stack + steps_to_go (kins rows) r (tasks.Come wanted)
 opening_less rows ordered o t r true wanted = omega arith
 opening_less rows ordered o t r false wanted = let s = opened_steps rows ordered o r in let e = steps_both (kins rows) t.stack (opening_steps o rows r) in omega arith
 
-nearer : (rows : List Rowed) → SupersBefore [] rows → (o : Order) (t : Toured) (r : Rowed) (k : Task) → IsRowIn rows r → steps_left (kins rows) (step o rows t r k).stack < steps_left (kins rows) t.stack + steps_to_go (kins rows) r k
+nearer : (rows : List Rowed) → SupersBefore [] rows → (o : TourOrder) (t : Toured) (r : Rowed) (k : TourStep) → IsRowIn rows r → steps_left (kins rows) (step o rows t r k).stack < steps_left (kins rows) t.stack + steps_to_go (kins rows) r k
 nearer rows ordered o t r (tasks.Come wanted) i =
     let b = tells_before o wanted in
     subst (λ (ms : List Marked). steps_left (kins rows) (opening_unless_left o rows (after_telling b t r) r).stack < steps_left (kins rows) ms + steps_to_go (kins rows) r (tasks.Come wanted)) (telling_stack t b r)
@@ -317,7 +317,7 @@ nearer rows ordered o t r tasks.Leave i = at (tells_after o)
 
 -- ---- the last of what is left is taken off
 
-module _ (rows : List Rowed) (ordered : SupersBefore [] rows) (o : Order) (goal : List Kin) (told : List Rowed) (seen left : List Class) (stack rest : List Marked) (next : Marked) (popped : stack ≡ rest ++ next ∷ []) where
+module _ (rows : List Rowed) (ordered : SupersBefore [] rows) (o : TourOrder) (goal : List Kin) (told : List Rowed) (seen left : List Class) (stack rest : List Marked) (next : Marked) (popped : stack ≡ rest ++ next ∷ []) where
   abbrev before : Toured
   before = record { told = told; seen = seen; left = left; stack = rest }
 
@@ -348,7 +348,7 @@ module _ (rows : List Rowed) (ordered : SupersBefore [] rows) (o : Order) (goal 
       let is : steps_left (kins rows) new.stack ≡ steps_left (kins rows) (step o rows before next.row next.task).stack = ap (λ (t : Toured). steps_left (kins rows) t.stack) e in
       omega arith
 
-pub first_stage : (rows : List Rowed) (o : Order) (r : Rowed) (wanted : Bool) (told : List Rowed) (seen left : List Class) (stack : List Marked) → IsRowIn rows r → told ≡ [] → seen ≡ [] → left ≡ []
+pub first_stage : (rows : List Rowed) (o : TourOrder) (r : Rowed) (wanted : Bool) (told : List Rowed) (seen left : List Class) (stack : List Marked) → IsRowIn rows r → told ≡ [] → seen ≡ [] → left ≡ []
     → stack ≡ record { row = r; task = tasks.Come wanted } ∷ [] → IsStage o rows (once (told_at o (stops o (alone (kin_under (kins rows) r)) wanted))) (record { told = told; seen = seen; left = left; stack = stack })
 first_stage rows o r wanted told seen left stack i a b c d =
     subst (λ (x : List Rowed). IsStage o rows (once (told_at o (stops o (alone (kin_under (kins rows) r)) wanted))) (record { told = x; seen = seen; left = left; stack = stack })) (sym a) (
@@ -358,12 +358,12 @@ first_stage rows o r wanted told seen left stack i a b c d =
     record { goes = goes_first o (kins rows) (alone (kin_under (kins rows) r)) wanted; told_are = tt; stack_is = (i, tt) }
     ))))
 
-pub ended_by : (rows : List Rowed) (o : Order) (goal : List Kin) (told : List Rowed) (seen left : List Class) (stack : List Marked) → stack ≡ [] → IsStage o rows goal (record { told = told; seen = seen; left = left; stack = stack })
+pub ended_by : (rows : List Rowed) (o : TourOrder) (goal : List Kin) (told : List Rowed) (seen left : List Class) (stack : List Marked) → stack ≡ [] → IsStage o rows goal (record { told = told; seen = seen; left = left; stack = stack })
     → map (kin_under (kins rows)) told ≡ goal
 ended_by rows o goal told seen left stack e h =
     sym (append-nil (map (kin_under (kins rows)) told))
     ∙ (subst (λ (ms : List Marked). IsStage o rows goal (record { told = told; seen = seen; left = left; stack = ms })) e h).goes.goes
 
-pub ended : {A : Type 0} (rows : List Rowed) (o : Order) (goal : List Kin) (told : List Rowed) (seen left : List Class) (stack : List (Step A)) → stack ≡ [] → IsStage o rows goal (record { told = told; seen = seen; left = left; stack = marks stack })
+pub ended : {A : Type 0} (rows : List Rowed) (o : TourOrder) (goal : List Kin) (told : List Rowed) (seen left : List Class) (stack : List (Step A)) → stack ≡ [] → IsStage o rows goal (record { told = told; seen = seen; left = left; stack = marks stack })
     → map (kin_under (kins rows)) told ≡ goal
 ended {A} rows o goal told seen left stack e h = ended_by rows o goal told seen left (marks stack) (ap (λ (ss : List (Step A)). marks ss) e) h

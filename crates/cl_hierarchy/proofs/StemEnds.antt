@@ -12,7 +12,7 @@ use Rattle.cl_hierarchy.specs.Lineages.{IsInOrder, IsRowIn, Lined, kin_at, row_o
 use Rattle.cl_hierarchy.specs.Places.{IsPlace}
 use Rattle.cl_hierarchy.specs.Rows.{Rowed}
 use Rattle.cl_hierarchy.specs.Stems.{SharesSuperinterfaces}
-use Rattle.cl_hierarchy.specs.declared.tour.Order.TheVariants as orders
+use Rattle.cl_hierarchy.specs.declared.tour.TourOrder.TheVariants as orders
 use Rattle.cl_hierarchy.specs.Tours.{stops, told_at}
 use Rattle.cl_hierarchy.specs.Trees.{SupersBefore, forest, in_front, kin_named, kin_under, kins, superclass_in}
 use Rattle.cl_hierarchy.proofs.Ancestry.{kin_stays, row_kin}

@@ -9,7 +9,7 @@ use Rattle.cl_model.specs.Lineages.{Forest, Bare, Kin, alone, lineage, once, pos
 use Rattle.cl_hierarchy.specs.Lineages.{IsRowIn, row_of}
 use Rattle.cl_hierarchy.specs.Rows.{Rowed}
 use Rattle.cl_hierarchy.specs.Stems.{IsOnlyAbove}
-use Rattle.cl_hierarchy.specs.declared.tour.Order.TheVariants as orders
+use Rattle.cl_hierarchy.specs.declared.tour.TourOrder.TheVariants as orders
 use Rattle.cl_hierarchy.specs.Tours.{size, stops, told_at}
 use Rattle.cl_hierarchy.specs.Trees.{SupersBefore, forest, in_front, kin_under, kins}
 use Rattle.cl_hierarchy.proofs.Ancestry.{row_kin}

@@ -7,8 +7,8 @@ use Rattle.cl_model.specs.Classes.{same_class, is_among}
 use Rattle.cl_model.specs.Lineages.{Forest, Bare, Tree, Kin, alone, classes, once_after, once, postorder, preorder, superinterfaces}
 use Rattle.cl_model.proofs.Ancestors.{Within, among_first}
 use Rattle.cl_model.proofs.Complete.{is_class, or_true}
-use Rattle.cl_hierarchy.specs.declared.tour.Order.{Order}
-use Rattle.cl_hierarchy.specs.declared.tour.Order.TheVariants as orders
+use Rattle.cl_hierarchy.specs.declared.tour.TourOrder.{TourOrder}
+use Rattle.cl_hierarchy.specs.declared.tour.TourOrder.TheVariants as orders
 use Rattle.cl_hierarchy.specs.Lineages.{field_order, upwards}
 use Rattle.cl_hierarchy.specs.Rows.{Rowed}
 use Rattle.cl_hierarchy.specs.Trees.{kin_named, kin_under}
@@ -16,7 +16,7 @@ use Rattle.cl_hierarchy.specs.Tours.{Comes, Leaves, Stop, between, inner, stops,
 
 -- ---- the orders of the definitions
 
-pub told_both : (o : Order) (xs ys : List Stop) → told_at o (xs ++ ys) ≡ told_at o xs ++ told_at o ys
+pub told_both : (o : TourOrder) (xs ys : List Stop) → told_at o (xs ++ ys) ≡ told_at o xs ++ told_at o ys
 told_both o [] ys = refl
 told_both o (s ∷ xs) ys = ap (λ (ks : List Kin). tells o s ++ ks) (told_both o xs ys) ∙ sym (append_assoc (tells o s) (told_at o xs) (told_at o ys))
 
@@ -169,25 +169,25 @@ once_skips seen (k ∷ ks) rest h =
 
 -- ---- a class is left when all above it was told
 
-abbrev IsClosed : Order → List Class → Stop → Type 0
+abbrev IsClosed : TourOrder → List Class → Stop → Type 0
 IsClosed o seen (Comes k wanted) = Unit {0}
 IsClosed o seen (Leaves k) = Within (classes (told_at o (inner o k))) seen
 
-abbrev pub Closed : Order → List Class → List Stop → Type 0
+abbrev pub Closed : TourOrder → List Class → List Stop → Type 0
 Closed o seen [] = Unit {0}
 Closed o seen (s ∷ ss) = IsClosed o seen s × Closed o (classes (tells o s) ++ seen) ss
 
-is_closed_more : (o : Order) (xs ys : List Class) (s : Stop) → Within xs ys → IsClosed o xs s → IsClosed o ys s
+is_closed_more : (o : TourOrder) (xs ys : List Class) (s : Stop) → Within xs ys → IsClosed o xs s → IsClosed o ys s
 is_closed_more o xs ys (Comes k wanted) f h = tt
 is_closed_more o xs ys (Leaves k) f h = λ c e. f c (h c e)
 
-pub closed_more : (o : Order) (xs ys : List Class) (ss : List Stop) → Within xs ys → Closed o xs ss → Closed o ys ss
+pub closed_more : (o : TourOrder) (xs ys : List Class) (ss : List Stop) → Within xs ys → Closed o xs ss → Closed o ys ss
 closed_more o xs ys [] f h = tt
 closed_more o xs ys (s ∷ ss) f h =
     (is_closed_more o xs ys s f h.0, closed_more o (classes (tells o s) ++ xs) (classes (tells o s) ++ ys) ss (within_more (classes (tells o s)) xs ys f) h.1)
 
 -- what is told at a stop and then at others
-told_then : (o : Order) (s : Stop) (xs : List Stop) (seen : List Class) → Within (classes (told_at o (s ∷ xs)) ++ seen) (classes (told_at o xs) ++ (classes (tells o s) ++ seen))
+told_then : (o : TourOrder) (s : Stop) (xs : List Stop) (seen : List Class) → Within (classes (told_at o (s ∷ xs)) ++ seen) (classes (told_at o xs) ++ (classes (tells o s) ++ seen))
 told_then o s xs seen =
     let a = classes (tells o s) in
     let b = classes (told_at o xs) in
@@ -196,7 +196,7 @@ told_then o s xs seen =
     (λ c e. within_right b (a ++ seen) c (within_right a seen c e))
     )
 
-told_back : (o : Order) (s : Stop) (xs : List Stop) (seen : List Class) → Within (classes (told_at o xs) ++ (classes (tells o s) ++ seen)) (classes (told_at o (s ∷ xs)) ++ seen)
+told_back : (o : TourOrder) (s : Stop) (xs : List Stop) (seen : List Class) → Within (classes (told_at o xs) ++ (classes (tells o s) ++ seen)) (classes (told_at o (s ∷ xs)) ++ seen)
 told_back o s xs seen =
     let a = classes (tells o s) in
     let b = classes (told_at o xs) in
@@ -205,24 +205,24 @@ told_back o s xs seen =
     (within_join a seen ((a ++ b) ++ seen) (λ c e. within_left (a ++ b) seen c (within_left a b c e)) (within_right (a ++ b) seen))
     )
 
-pub closed_both : (o : Order) (seen : List Class) (xs ys : List Stop) → Closed o seen xs → Closed o (classes (told_at o xs) ++ seen) ys → Closed o seen (xs ++ ys)
+pub closed_both : (o : TourOrder) (seen : List Class) (xs ys : List Stop) → Closed o seen xs → Closed o (classes (told_at o xs) ++ seen) ys → Closed o seen (xs ++ ys)
 closed_both o seen [] ys h g = g
 closed_both o seen (s ∷ xs) ys h g =
     (h.0, closed_both o (classes (tells o s) ++ seen) xs ys h.1 (closed_more o (classes (told_at o (s ∷ xs)) ++ seen) (classes (told_at o xs) ++ (classes (tells o s) ++ seen)) ys (told_then o s xs seen) g))
 
-pub closed_rest : (o : Order) (seen : List Class) (xs ys : List Stop) → Closed o seen (xs ++ ys) → Closed o (classes (told_at o xs) ++ seen) ys
+pub closed_rest : (o : TourOrder) (seen : List Class) (xs ys : List Stop) → Closed o seen (xs ++ ys) → Closed o (classes (told_at o xs) ++ seen) ys
 closed_rest o seen [] ys h = h
 closed_rest o seen (s ∷ xs) ys h =
     closed_more o (classes (told_at o xs) ++ (classes (tells o s) ++ seen)) (classes (told_at o (s ∷ xs)) ++ seen) ys (told_back o s xs seen) (closed_rest o (classes (tells o s) ++ seen) xs ys h.1)
 
-closed_between : (o : Order) (up over : List Stop) (seen : List Class) → ((s : List Class) → Closed o s up) → ((s : List Class) → Closed o s over) → Closed o seen (between o up over)
+closed_between : (o : TourOrder) (up over : List Stop) (seen : List Class) → ((s : List Class) → Closed o s up) → ((s : List Class) → Closed o s over) → Closed o seen (between o up over)
 closed_between o up over seen f g = at (up_first o)
   where
     at : (b : Bool) → Closed o seen (if b then up ++ over else over ++ up)
     at true = closed_both o seen up over (f seen) (g (classes (told_at o up) ++ seen))
     at false = closed_both o seen over up (g seen) (f (classes (told_at o over) ++ seen))
 
-pub closed_stops : (o : Order) (f : Forest) (wanted : Bool) (seen : List Class) → Closed o seen (stops o f wanted)
+pub closed_stops : (o : TourOrder) (f : Forest) (wanted : Bool) (seen : List Class) → Closed o seen (stops o f wanted)
 closed_stops o Bare wanted seen = tt
 closed_stops o (Tree c f sup ints others) wanted seen =
     let k : Kin = record { class = c; file = f; superclass = sup; interfaces = ints } in
@@ -237,15 +237,15 @@ closed_stops o (Tree c f sup ints others) wanted seen =
 -- ---- what was told, and what is left
 
 -- the rows that were told, the classes that were, those that were left, and the stops that are left
-pub record Goes (o : Order) (known : List Kin) (goal : List Kin) (told : List Rowed) (seen left : List Class) (rest : List Stop) : Type 0 where
+pub record Goes (o : TourOrder) (known : List Kin) (goal : List Kin) (told : List Rowed) (seen left : List Class) (rest : List Stop) : Type 0 where
   pub goes : map (kin_under known) told ++ once_after seen (told_at o rest) ≡ goal
   pub ready : Closed o seen rest
   pub done : (k : Kin) → kin_named known k.class ≡ Some k → is_among left k.class ≡ true → Within (classes (told_at o (inner o k ++ Leaves k ∷ []))) seen
 
-pub goes_first : (o : Order) (known : List Kin) (f : Forest) (wanted : Bool) → Goes o known (once (told_at o (stops o f wanted))) [] [] [] (stops o f wanted)
+pub goes_first : (o : TourOrder) (known : List Kin) (f : Forest) (wanted : Bool) → Goes o known (once (told_at o (stops o f wanted))) [] [] [] (stops o f wanted)
 goes_first o known f wanted = record { goes = refl; ready = closed_stops o f wanted []; done = λ k e h. absurd cc }
 
-module _ (o : Order) (known goal : List Kin) (told : List Rowed) (seen left : List Class) where
+module _ (o : TourOrder) (known goal : List Kin) (told : List Rowed) (seen left : List Class) where
   tell_goes : (r : Rowed) (ks : List Kin) (b : Bool) → is_among seen r.class ≡ b
       → map (kin_under known) (if b then told else told ++ r ∷ []) ++ once_after (if b then seen else seen ++ r.class ∷ []) ks
       ≡ map (kin_under known) told ++ (if b then once_after seen ks else kin_under known r ∷ once_after (r.class ∷ seen) ks)

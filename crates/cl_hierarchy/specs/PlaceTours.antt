@@ -6,9 +6,9 @@ use Rattle.cl_model.specs.Classes.{is_among}
 use Rattle.cl_model.specs.Lineages.{superinterfaces}
 use Rattle.cl_hierarchy.specs.declared.place_tour.OverAt.{OverAt}
 use Rattle.cl_hierarchy.specs.declared.place_tour.Spot.{Spot}
-use Rattle.cl_hierarchy.specs.declared.tour.Order.TheVariants as orders
-use Rattle.cl_hierarchy.specs.declared.tour.Task.{Task}
-use Rattle.cl_hierarchy.specs.declared.tour.Task.TheVariants as tasks
+use Rattle.cl_hierarchy.specs.declared.tour.TourOrder.TheVariants as orders
+use Rattle.cl_hierarchy.specs.declared.tour.TourStep.{TourStep}
+use Rattle.cl_hierarchy.specs.declared.tour.TourStep.TheVariants as tasks
 use Rattle.cl_hierarchy.specs.Rows.{Rowed}
 use Rattle.cl_hierarchy.specs.Supers.{AreAllSupers, HasRow, place_in}
 use Rattle.cl_hierarchy.specs.Tours.{Marked, Toured, opening_steps, after_passing, step, after_telling, telling_all}
@@ -47,7 +47,7 @@ pub record Placed : Type 0 where
   pub stack : List Spot
 
 -- more is left to do at a place
-pub record IsPushed (old : Placed) (place : ℕ) (task : Task) (new : Placed) : Type 0 where
+pub record IsPushed (old : Placed) (place : ℕ) (task : TourStep) (new : Placed) : Type 0 where
   pub told : new.told ≡ old.told
   pub is_told : new.is_told ≡ old.is_told
   pub is_left : new.is_left ≡ old.is_left
@@ -95,7 +95,7 @@ IsOpened table old place new =
     (λ rows t r. record t { stack = t.stack ++ opening_steps orders.Superinterfaces rows r }) new
 
 -- one step
-abbrev pub TourSteps : List Supers → Placed → ℕ → Task → Placed → Type 0
+abbrev pub TourSteps : List Supers → Placed → ℕ → TourStep → Placed → Type 0
 TourSteps table old place task new =
     Does table old place (λ rows t r. step orders.Superinterfaces rows t r task) new
 
@@ -122,7 +122,7 @@ pub record AreSkipped (over : List (Option ℕ)) (told left : List Bool) (from t
 
 -- one step, which may skip superinterfaces that were told and left: to come to them would change
 -- nothing (5.4.3.3)
-abbrev pub TourGoesOn : List Supers → Placed → ℕ → Task → Placed → Type 0
+abbrev pub TourGoesOn : List Supers → Placed → ℕ → TourStep → Placed → Type 0
 TourGoesOn table old place (tasks.Over at) new =
     (next : ℕ)
     × ((s : Supers) → slice_get table place ≡ Some s

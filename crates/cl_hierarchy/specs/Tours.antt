@@ -4,10 +4,10 @@ use Rattle.std.specs.Prelude.{◌≡◌, ℕ, ◌+◌, ◌*◌, Bool, true, fals
 use Rattle.cl_model.specs.declared.class.Class.{Class}
 use Rattle.cl_model.specs.Classes.{is_among}
 use Rattle.cl_model.specs.Lineages.{Forest, Bare, Tree, Kin, alone}
-use Rattle.cl_hierarchy.specs.declared.tour.Order.{Order}
-use Rattle.cl_hierarchy.specs.declared.tour.Order.TheVariants as orders
-use Rattle.cl_hierarchy.specs.declared.tour.Task.{Task}
-use Rattle.cl_hierarchy.specs.declared.tour.Task.TheVariants as tasks
+use Rattle.cl_hierarchy.specs.declared.tour.TourOrder.{TourOrder}
+use Rattle.cl_hierarchy.specs.declared.tour.TourOrder.TheVariants as orders
+use Rattle.cl_hierarchy.specs.declared.tour.TourStep.{TourStep}
+use Rattle.cl_hierarchy.specs.declared.tour.TourStep.TheVariants as tasks
 use Rattle.cl_hierarchy.specs.declared.tour.Step.{Step}
 use Rattle.cl_hierarchy.specs.declared.tour.Tour.{Tour}
 use Rattle.cl_hierarchy.specs.NamedBefore.{AreNamedBefore}
@@ -18,25 +18,25 @@ use Rattle.cl_hierarchy.specs.Lineages.{row_of}
 -- ---- orders
 
 -- a class is told before what stands above it
-abbrev pub tells_before : Order → Bool → Bool
+abbrev pub tells_before : TourOrder → Bool → Bool
 tells_before orders.Lineage wanted = false
 tells_before orders.Superinterfaces wanted = wanted
 tells_before orders.Fields wanted = wanted
 
 -- a class is told after what stands above it
-abbrev pub tells_after : Order → Bool
+abbrev pub tells_after : TourOrder → Bool
 tells_after orders.Lineage = true
 tells_after orders.Superinterfaces = false
 tells_after orders.Fields = false
 
 -- a superclass is wanted itself, too
-abbrev pub wants_up : Order → Bool
+abbrev pub wants_up : TourOrder → Bool
 wants_up orders.Lineage = true
 wants_up orders.Superinterfaces = false
 wants_up orders.Fields = true
 
 -- what stands above a class: the superclass's first, or last
-abbrev pub up_first : Order → Bool
+abbrev pub up_first : TourOrder → Bool
 up_first orders.Lineage = true
 up_first orders.Superinterfaces = false
 up_first orders.Fields = false
@@ -49,11 +49,11 @@ pub data Stop : Type 0 where
   Leaves : (kin : Kin) → Stop
 
 -- one part in front of the other
-abbrev pub between : {A : Type 0} → Order → List A → List A → List A
+abbrev pub between : {A : Type 0} → TourOrder → List A → List A → List A
 between o up over = if up_first o then up ++ over else over ++ up
 
 -- the stops of a tour through the classes of a list
-abbrev pub stops : Order → Forest → Bool → List Stop
+abbrev pub stops : TourOrder → Forest → Bool → List Stop
 stops o Bare wanted = []
 stops o (Tree c f sup ints others) wanted =
     Comes (record { class = c; file = f; superclass = sup; interfaces = ints }) wanted
@@ -62,16 +62,16 @@ stops o (Tree c f sup ints others) wanted =
     ∷ stops o others wanted
 
 -- those above a class
-abbrev pub inner : Order → Kin → List Stop
+abbrev pub inner : TourOrder → Kin → List Stop
 inner o k = between o (stops o k.superclass (wants_up o)) (stops o k.interfaces true)
 
 -- what is told at a stop
-abbrev pub tells : Order → Stop → List Kin
+abbrev pub tells : TourOrder → Stop → List Kin
 tells o (Comes k wanted) = if tells_before o wanted then k ∷ [] else []
 tells o (Leaves k) = if tells_after o then k ∷ [] else []
 
 -- what is told at these
-abbrev pub told_at : Order → List Stop → List Kin
+abbrev pub told_at : TourOrder → List Stop → List Kin
 told_at o ss = flat_map (tells o) ss
 
 -- ---- what is left to do
@@ -79,7 +79,7 @@ told_at o ss = flat_map (tells o) ss
 -- what is left to do for a row
 pub record Marked : Type 0 where
   pub row : Rowed
-  pub task : Task
+  pub task : TourStep
 
 -- the same, without where the row lies in memory
 abbrev pub plain_step : {A : Type 0} → Step A → Marked
@@ -90,13 +90,13 @@ abbrev pub marks : {A : Type 0} → List (Step A) → List Marked
 marks ss = map (λ s. plain_step s) ss
 
 -- the stops that it has
-abbrev pub stops_of : Order → List Kin → Rowed → Task → List Stop
+abbrev pub stops_of : TourOrder → List Kin → Rowed → TourStep → List Stop
 stops_of o known r (tasks.Come wanted) = stops o (alone (kin_under known r)) wanted
 stops_of o known r (tasks.Over place) = stops o (forest known (drop place (interfaces_in r))) true
 stops_of o known r tasks.Leave = Leaves (kin_under known r) ∷ []
 
 -- those of all these, the last first
-abbrev pub stops_left : Order → List Kin → List Marked → List Stop
+abbrev pub stops_left : TourOrder → List Kin → List Marked → List Stop
 stops_left o known [] = []
 stops_left o known (m ∷ ms) = stops_left o known ms ++ stops_of o known m.row m.task
 
@@ -108,12 +108,12 @@ first_row rows [] = None
 first_row rows (c ∷ cs) = row_of rows c
 
 -- to come to the superclass
-abbrev pub upwards_of : Order → Option Rowed → List Marked
+abbrev pub upwards_of : TourOrder → Option Rowed → List Marked
 upwards_of o None = []
 upwards_of o (Some r) = record { row = r; task = tasks.Come (wants_up o) } ∷ []
 
 -- to come to all that stands above a class, and then to leave it
-abbrev pub opening_steps : Order → List Rowed → Rowed → List Marked
+abbrev pub opening_steps : TourOrder → List Rowed → Rowed → List Marked
 opening_steps o rows r =
     record { row = r; task = tasks.Leave }
     ∷ (if up_first o
@@ -148,7 +148,7 @@ size Bare = 0
 size (Tree c f sup ints others) = 1 + size sup + size ints + size others
 
 -- how many steps are left for a row, or more
-abbrev pub steps_to_go : List Kin → Rowed → Task → ℕ
+abbrev pub steps_to_go : List Kin → Rowed → TourStep → ℕ
 steps_to_go known r (tasks.Come wanted) =
     4 * size (forest known (superclass_in r)) + 4 * size (forest known (interfaces_in r)) + 3
 steps_to_go known r (tasks.Over place) = 4 * size (forest known (drop place (interfaces_in r))) + 1
@@ -189,12 +189,12 @@ telling_all t [] = t
 telling_all t (r ∷ rs) = telling_all (after_telling true t r) rs
 
 -- what is left to do, once the tour came to a class that it left before, or not
-abbrev pub opening_unless_left : Order → List Rowed → Toured → Rowed → Toured
+abbrev pub opening_unless_left : TourOrder → List Rowed → Toured → Rowed → Toured
 opening_unless_left o rows t r =
     record t { stack = if is_among t.left r.class then t.stack else t.stack ++ opening_steps o rows r }
 
 -- one step
-abbrev pub step : Order → List Rowed → Toured → Rowed → Task → Toured
+abbrev pub step : TourOrder → List Rowed → Toured → Rowed → TourStep → Toured
 step o rows t r (tasks.Come wanted) = opening_unless_left o rows (after_telling (tells_before o wanted) t r) r
 step o rows t r (tasks.Over place) =
     record t { stack = t.stack ++ over_from r place (interface_row rows r place) }
@@ -203,13 +203,13 @@ step o rows t r tasks.Leave =
 
 -- the same, where it may pass superinterfaces that were named before: to come to them again would
 -- change nothing
-abbrev pub TakesStep : Order → List Rowed → Toured → Rowed → Task → Toured → Type 0
+abbrev pub TakesStep : TourOrder → List Rowed → Toured → Rowed → TourStep → Toured → Type 0
 TakesStep o rows old r (tasks.Over at) new =
     (next : ℕ) × AreNamedBefore (interfaces_in r) at next × (new ≡ step o rows old r (tasks.Over next))
 TakesStep o rows old r task new = new ≡ step o rows old r task
 
 -- a class is told, where that is wanted, then these rows, which are of all that stands above it, and it
 -- is left
-abbrev pub after_passing : Order → List Rowed → Toured → Rowed → Bool → List Rowed → Toured
+abbrev pub after_passing : TourOrder → List Rowed → Toured → Rowed → Bool → List Rowed → Toured
 after_passing o rows t r wanted over =
     step o rows (telling_all (after_telling wanted t r) over) r tasks.Leave

@@ -25,7 +25,7 @@ use crate::row::ClassRow;
 use crate::row_index::RowIndex;
 use crate::several::superinterface_classes;
 use crate::stem::{lineage_rows, stem_end, superinterfaces_behind};
-use crate::tour::{Order, rows_in_order};
+use crate::tour::{TourOrder, rows_in_order};
 use cl_config::Config;
 use cl_model::{Class, Told};
 use cl_names::Seed;
@@ -298,7 +298,7 @@ impl<T: Told> Lineage<T> {
             v.items) }
     {
         match stem_end(self.above(), self.own()) {
-            None => self.rows_by_tour(alloc, Order::Superinterfaces, self.own(), false),
+            None => self.rows_by_tour(alloc, TourOrder::Superinterfaces, self.own(), false),
             Some((end, before)) => superinterfaces_behind(alloc, self.config().seed(), before, end),
         }
     }
@@ -340,7 +340,7 @@ impl<T: Told> Lineage<T> {
     fn rows_by_tour(
         &self,
         alloc: Global,
-        order: Order,
+        order: TourOrder,
         row: &Arc<ClassRow<T>>,
         wanted: bool,
     ) -> Result<Vec<Arc<ClassRow<T>>>, AllocError>
@@ -364,6 +364,6 @@ impl<T: Told> Lineage<T> {
         ensures rows { IfOk result (λ v. AllByRecursion (λ r. IsRowIn (rows_in self.now) r.value)
             v.items) }
     {
-        self.rows_by_tour(alloc, Order::Fields, self.own(), true)
+        self.rows_by_tour(alloc, TourOrder::Fields, self.own(), true)
     }
 }

@@ -8,11 +8,11 @@ ghost use Rattle.cl_hierarchy.specs.Rows.{Rowed};
 ghost use Rattle.cl_hierarchy.specs.Supers.{AreAllSupers, place_in};
 ghost use Rattle.cl_hierarchy.specs.Trees.{SupersBefore};
 ghost use Rattle.cl_hierarchy.specs.declared.supers.Supers.{Supers};
-ghost use Rattle.cl_hierarchy.specs.declared.tour.Task.TheVariants as tasks;
+ghost use Rattle.cl_hierarchy.specs.declared.tour.TourStep.TheVariants as tasks;
 
 use crate::row::ClassRow;
 use crate::supers::Supers;
-use crate::tour::Task;
+use crate::tour::TourStep;
 use cl_model::Told;
 use std::alloc::{AllocError, Global};
 use std::marker::Model;
@@ -76,7 +76,7 @@ impl OverAt {
 #[derive(Clone, Copy, Debug)]
 pub(crate) struct Spot {
     pub place: usize,
-    pub task: Task,
+    pub task: TourStep,
 }
 
 /// A tour: the places that were told, of each place whether it was told and whether it was left, and what is left to do.
@@ -124,7 +124,7 @@ fn is_marked(marks: &[bool], place: usize) -> bool
 
 impl PlaceTour {
     /// Puts what is left to do at a place.
-    fn push(&mut self, place: usize, task: Task) -> Result<(), AllocError>
+    fn push(&mut self, place: usize, task: TourStep) -> Result<(), AllocError>
         ensures { OnOk result (IsPushed self.old place task self.new) }
     {
         self.stack.push(Spot { place, task })?;
@@ -151,12 +151,12 @@ impl PlaceTour {
     fn open(&mut self, table: &[Supers], place: usize) -> Result<(), AllocError>
         ensures { OnOk result (IsOpened table.now self.old place self.new) }
     {
-        self.push(place, Task::Leave)?;
+        self.push(place, TourStep::Leave)?;
         match up_at(table, place) {
-            None => self.push(place, Task::Over(0)),
+            None => self.push(place, TourStep::Over(0)),
             Some(up) => {
-                self.push(up, Task::Come(false))?;
-                self.push(place, Task::Over(0))
+                self.push(up, TourStep::Come(false))?;
+                self.push(place, TourStep::Over(0))
             }
         }
     }
@@ -185,8 +185,8 @@ impl PlaceTour {
         let Some(behind) = next.checked_add(1) else {
             return Err(AllocError);
         };
-        self.push(place, Task::Over(behind))?;
-        self.push(above, Task::Come(true))
+        self.push(place, TourStep::Over(behind))?;
+        self.push(above, TourStep::Come(true))
     }
 
     /// Leaves the class at a place: all that stands above it was told.
@@ -204,9 +204,9 @@ impl PlaceTour {
         ensures { OnOk result (TourGoesOn table.now self.old next.place next.task self.new) }
     {
         match next.task {
-            Task::Come(wanted) => self.come(table, next.place, wanted),
-            Task::Over(at) => self.go_over(table, next.place, at),
-            Task::Leave => {
+            TourStep::Come(wanted) => self.come(table, next.place, wanted),
+            TourStep::Over(at) => self.go_over(table, next.place, at),
+            TourStep::Leave => {
                 self.leave(next.place);
                 Ok(())
             }
@@ -245,7 +245,7 @@ impl PlaceTour {
         ensures { OnOk result (Moves table.now self.old next
             (option_map (λ o. o.now) known.entry) self.new) }
     {
-        if let Task::Come(wanted) = next.task {
+        if let TourStep::Come(wanted) = next.task {
             if let Some(over) = known {
                 if over.of == next.place {
                     return self.pass(next.place, wanted, over.places.as_slice());
@@ -339,7 +339,7 @@ pub(crate) fn superinterface_places<T: Told>(
         is_left: vec![in alloc; false; rows.len()]?,
         stack: Vec::new(alloc),
     };
-    tour.push(start, Task::Come(false))?;
+    tour.push(start, TourStep::Come(false))?;
     while let Some(next) = tour.stack.pop() {
         tour.move_on(table, next, known)?;
     }

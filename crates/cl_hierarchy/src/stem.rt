@@ -11,7 +11,7 @@ ghost use Rattle.cl_model.specs.Lineages.{lineage, superinterfaces};
 use crate::above::superclass_row;
 use crate::row::ClassRow;
 use crate::row_index::RowIndex;
-use crate::tour::{Finds, Order, rows_in_order, superclass_of};
+use crate::tour::{Finds, TourOrder, rows_in_order, superclass_of};
 use cl_model::Told;
 use cl_names::Seed;
 use std::alloc::{AllocError, Global};
@@ -53,7 +53,7 @@ pub(crate) fn lineage_rows<'a, T: Told, F: Finds<T>>(
         stem.push(Arc::try_clone(top)?)?;
         top = above;
     }
-    let mut rows = rows_in_order(alloc, seed, Order::Lineage, table, top, true)?;
+    let mut rows = rows_in_order(alloc, seed, TourOrder::Lineage, table, top, true)?;
     while let Some(row) = stem.pop() {
         rows.push(row)?;
     }
@@ -108,5 +108,5 @@ pub(crate) fn superinterfaces_behind<'a, T: Told>(
         (map (λ x. x.value) before.now ++ end.now.value ∷ []) r.value) v.items) }
 {
     let table = RowIndex::of(alloc, seed, before, end)?;
-    rows_in_order(alloc, seed, Order::Superinterfaces, &table, end, false)
+    rows_in_order(alloc, seed, TourOrder::Superinterfaces, &table, end, false)
 }

@@ -8,7 +8,7 @@ ghost use Rattle.cl_model.specs.Lineages.{alone, once};
 ghost use Rattle.cl_hierarchy.specs.Lineages.{IsRowIn, row_of};
 ghost use Rattle.cl_hierarchy.specs.Rows.{Rowed};
 ghost use Rattle.cl_hierarchy.specs.Tours.{TakesStep, first_row, interface_row, marks, opening_steps, opening_unless_left, over_from, step, stops, after_telling, tells_after, tells_before, told_at, plain_tour, up_first, upwards_of, wants_up, with_class, with_row};
-ghost use Rattle.cl_hierarchy.specs.declared.tour.Task.TheVariants as tasks;
+ghost use Rattle.cl_hierarchy.specs.declared.tour.TourStep.TheVariants as tasks;
 ghost use Rattle.cl_hierarchy.specs.Trees.{SupersBefore, kin_under, kins, superclass_in};
 
 use crate::row::ClassRow;
@@ -36,7 +36,7 @@ pub(crate) trait Finds<T: Told> {
 
 /// In which order classes are told.
 #[derive(Clone, Copy, Debug)]
-pub(crate) enum Order {
+pub(crate) enum TourOrder {
     /// A class after all that stands above it, its superclass's first (JVMS SE 8, 5.4).
     Lineage,
     /// A superinterface before its own, those of the superclass last (JVMS SE 8, 5.4.3.3).
@@ -45,14 +45,14 @@ pub(crate) enum Order {
     Fields,
 }
 
-impl Order {
+impl TourOrder {
     fn tells_before(self, wanted: bool) -> bool
         ensures { result ≡ tells_before self wanted }
     {
         match self {
-            Order::Lineage => false,
-            Order::Superinterfaces => wanted,
-            Order::Fields => wanted,
+            TourOrder::Lineage => false,
+            TourOrder::Superinterfaces => wanted,
+            TourOrder::Fields => wanted,
         }
     }
 
@@ -60,9 +60,9 @@ impl Order {
         ensures { result ≡ tells_after self }
     {
         match self {
-            Order::Lineage => true,
-            Order::Superinterfaces => false,
-            Order::Fields => false,
+            TourOrder::Lineage => true,
+            TourOrder::Superinterfaces => false,
+            TourOrder::Fields => false,
         }
     }
 
@@ -70,9 +70,9 @@ impl Order {
         ensures { result ≡ wants_up self }
     {
         match self {
-            Order::Lineage => true,
-            Order::Superinterfaces => false,
-            Order::Fields => true,
+            TourOrder::Lineage => true,
+            TourOrder::Superinterfaces => false,
+            TourOrder::Fields => true,
         }
     }
 
@@ -80,15 +80,15 @@ impl Order {
         ensures { result ≡ up_first self }
     {
         match self {
-            Order::Lineage => true,
-            Order::Superinterfaces => false,
-            Order::Fields => false,
+            TourOrder::Lineage => true,
+            TourOrder::Superinterfaces => false,
+            TourOrder::Fields => false,
         }
     }
 }
 
 #[derive(Clone, Copy, Debug)]
-pub(crate) enum Task {
+pub(crate) enum TourStep {
     /// To come to the class, which is told or not.
     Come(bool),
     /// To go through its superinterfaces from this one on.
@@ -100,7 +100,7 @@ pub(crate) enum Task {
 /// What is left to do for a row.
 struct Step<T: Told> {
     row: Arc<ClassRow<T>>,
-    task: Task,
+    task: TourStep,
 }
 
 impl<T: Told> Drop for Step<T> {
@@ -112,7 +112,7 @@ impl<T: Told> Drop for Step<T> {
 fn push<T: Told>(
     stack: &mut Vec<Step<T>>,
     row: &Arc<ClassRow<T>>,
-    task: Task,
+    task: TourStep,
 ) -> Result<(), AllocError>
     ensures { OnOk result (marks stack.new.items ≡ marks stack.old.items ++ record
         { row = row.now.value; task = task } ∷ []) }
@@ -188,7 +188,7 @@ fn interface_of<'a, T: Told, F: Finds<T>>(
 /// To come to the superclass of a row.
 fn open_up<T: Told, F: Finds<T>>(
     alloc: Global,
-    order: Order,
+    order: TourOrder,
     table: &F,
     stack: &mut Vec<Step<T>>,
     row: &ClassRow<T>,
@@ -198,14 +198,14 @@ fn open_up<T: Told, F: Finds<T>>(
 {
     match superclass_of(alloc, table, row)? {
         None => Ok(()),
-        Some(up) => push(stack, up, Task::Come(order.wants_up())),
+        Some(up) => push(stack, up, TourStep::Come(order.wants_up())),
     }
 }
 
 /// To come to all that stands above a row's class, and then to leave it.
 fn open<T: Told, F: Finds<T>>(
     alloc: Global,
-    order: Order,
+    order: TourOrder,
     table: &F,
     stack: &mut Vec<Step<T>>,
     row: &Arc<ClassRow<T>>,
@@ -213,13 +213,13 @@ fn open<T: Told, F: Finds<T>>(
     ensures { OnOk result (marks stack.new.items ≡ marks stack.old.items ++ opening_steps order
         (F.rows table.now) row.now.value) }
 {
-    push(stack, row, Task::Leave)?;
+    push(stack, row, TourStep::Leave)?;
     if order.up_first() {
-        push(stack, row, Task::Over(0))?;
+        push(stack, row, TourStep::Over(0))?;
         open_up(alloc, order, table, stack, row)
     } else {
         open_up(alloc, order, table, stack, row)?;
-        push(stack, row, Task::Over(0))
+        push(stack, row, TourStep::Over(0))
     }
 }
 
@@ -239,8 +239,8 @@ fn open_over<T: Told, F: Finds<T>>(
         Some(above) => match place.checked_add(1) {
             None => Err(AllocError),
             Some(next) => {
-                push(stack, row, Task::Over(next))?;
-                push(stack, above, Task::Come(true))
+                push(stack, row, TourStep::Over(next))?;
+                push(stack, above, TourStep::Come(true))
             }
         },
     }
@@ -276,7 +276,7 @@ impl<T: Told> Tour<T> {
     fn come<F: Finds<T>>(
         &mut self,
         alloc: Global,
-        order: Order,
+        order: TourOrder,
         table: &F,
         row: &Arc<ClassRow<T>>,
         wanted: bool,
@@ -296,7 +296,7 @@ impl<T: Told> Tour<T> {
     fn leave(
         &mut self,
         alloc: Global,
-        order: Order,
+        order: TourOrder,
         row: &Arc<ClassRow<T>>,
     ) -> Result<(), AllocError>
         ensures { OnOk result (plain_tour self.new
@@ -311,7 +311,7 @@ impl<T: Told> Tour<T> {
     fn go<F: Finds<T>>(
         &mut self,
         alloc: Global,
-        order: Order,
+        order: TourOrder,
         table: &F,
         next: &Step<T>,
     ) -> Result<(), AllocError>
@@ -319,13 +319,13 @@ impl<T: Told> Tour<T> {
             next.now.row.value next.now.task (plain_tour self.new)) }
     {
         match next.task {
-            Task::Come(wanted) => self.come(alloc, order, table, &next.row, wanted),
-            Task::Over(at) => {
+            TourStep::Come(wanted) => self.come(alloc, order, table, &next.row, wanted),
+            TourStep::Over(at) => {
                 // to come again to one that was named before would change nothing
                 let place = next.row.next_new(at);
                 open_over(alloc, table, &mut self.stack, &next.row, place)
             }
-            Task::Leave => self.leave(alloc, order, &next.row),
+            TourStep::Leave => self.leave(alloc, order, &next.row),
         }
     }
 }
@@ -334,7 +334,7 @@ impl<T: Told> Tour<T> {
 pub(crate) fn rows_in_order<T: Told, F: Finds<T>>(
     alloc: Global,
     seed: Seed,
-    order: Order,
+    order: TourOrder,
     table: &F,
     start: &Arc<ClassRow<T>>,
     wanted: bool,
@@ -354,7 +354,7 @@ pub(crate) fn rows_in_order<T: Told, F: Finds<T>>(
         left: IndexSet::with_hasher(alloc, seed),
         stack: Vec::new(alloc),
     };
-    push(&mut tour.stack, start, Task::Come(wanted))?;
+    push(&mut tour.stack, start, TourStep::Come(wanted))?;
     while let Some(next) = tour.stack.pop() {
         tour.go(alloc, order, table, &next)?;
     }

@@ -1,7 +1,7 @@
 use Rattle.std.proofs.Common.{◌≡◌, ◌∙◌, [], ◌∷◌, ◌++◌, length, map, arith, sym, ap}
 use Rattle.std.proofs.lemmas.List.{nil_from_length}
 use mathlib.Core.List.{map-map}
-use Rattle.cl_hierarchy.specs.declared.tour.Task.TheVariants as tasks
+use Rattle.cl_hierarchy.specs.declared.tour.TourStep.TheVariants as tasks
 use Rattle.cl_hierarchy.specs.Trees.{kin_under, kins}
 use Rattle.cl_hierarchy.specs.Tours.{marks}
 use Rattle.cl_hierarchy.proofs.Climbs.{all_back}

@@ -77,7 +77,7 @@ IsCountOf (Some text) n = IsCount text n
 abbrev pub is_plain_word : List ℕ → Bool
 is_plain_word [] = true
 is_plain_word (c ∷ []) = true
-is_plain_word (c ∷ d ∷ rest) = not (c == 45)
+is_plain_word (c ∷ d ∷ rest) = not (c == 0x2d)
 
 -- the words are these paths, in this order, and the options: `--workers` and a count, where one is given, and `--answers`, where the answers
 -- alone are wanted. The options stand before, between or behind the paths, in either order, and each path is plain or behind `--`

@@ -17,10 +17,9 @@ const VERSION: &str = "0.1.0";
 
 /// The form of a bundle.
 const BUNDLE_FORM: &str = "\
-A bundle is a line %config and a configuration in TOML; any number of sections,
-each a line %class LOADER NAME and assembler text, or lines @hex and bytes;
-and a line %script and a script, of lines load LOADER NAME, link LOADER NAME,
-resolve LOADER NAME INDEX, and then, which begins a round.";
+A bundle: a line %config and TOML; sections, each a line %class LOADER NAME and
+assembler text, or @hex and bytes; a line %script and lines load LOADER NAME,
+link LOADER NAME, resolve LOADER NAME INDEX, and then, which begins a round.";
 
 /// Where directories are looked for.
 const DIRECTORIES: &str = "\

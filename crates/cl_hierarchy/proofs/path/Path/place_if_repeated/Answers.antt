@@ -4,4 +4,4 @@ use Rattle.cl_hierarchy.proofs.path.Path.place_if_repeated.Goals as goal
 
 pub returns-clause-repeats : goal.returns-clause-repeats
 returns-clause-repeats g c =
-    last_repeats c.self.inside.config.value c.self.inside.loader c.self.inside.at c.self.inside.frames.entries c.in_ok-frame.field-0-0.now c.in_ok-frame.frame.now c.args.self.now c.repeated.result (sym c.in_ok-frame.ensures.entry) c.repeated.ensures c.self.view_is
+    last_repeats c.self.inside.config.value c.self.inside.loader c.self.inside.at c.self.inside.frames.entries c.in_ok-frame.field-0-0.now c.in_ok-frame.frame.now c.args.self.now c.place_if_repeated.result (sym c.in_ok-frame.ensures.entry) c.place_if_repeated.ensures c.self.view_is

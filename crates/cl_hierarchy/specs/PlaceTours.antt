@@ -86,7 +86,8 @@ Does table old place does new =
 
 -- the class at a place is told, where that is wanted and it was not
 abbrev pub IsToldAt : List Supers → Placed → ℕ → Bool → Placed → Type 0
-IsToldAt table old place wanted new = Does table old place (λ rows t r. after_telling wanted t r) new
+IsToldAt table old place wanted new = Does table old place
+    (λ rows t r. after_telling wanted t r) new
 
 -- what stands above the class at a place is to be come to, and then the class to be left
 abbrev pub IsOpened : List Supers → Placed → ℕ → Placed → Type 0
@@ -146,7 +147,8 @@ PassesAt table old place wanted over new =
     → AreAllSupers rows rows table → AllByRecursion (HasRow rows) over
     → slice_get rows place ≡ Some r → TourIsPlaced rows left old
     → IsTour rows
-    (after_passing orders.Superinterfaces rows (toured_at rows left old) r wanted (rows_at rows over)) new
+    (after_passing orders.Superinterfaces rows (toured_at rows left old) r wanted
+    (rows_at rows over)) new
 
 -- one step, or the class is passed of which these are known
 abbrev pub Moves : List Supers → Placed → Spot → Option OverAt → Placed → Type 0

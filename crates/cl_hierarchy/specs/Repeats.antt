@@ -56,4 +56,5 @@ FitsNext (Some content) c x place =
 -- the same of the supertype that the last class of a path wants (5.3.5, steps 3 and 4)
 abbrev pub FitsLast : Option Content → Pathed → ℕ → Type 0
 FitsLast told p place =
-    (before : List Framed) (x : Framed) → p.frames ≡ before ++ x ∷ [] → FitsNext told p.config x place
+    (before : List Framed) (x : Framed) → p.frames ≡ before ++ x ∷ []
+    → FitsNext told p.config x place

@@ -181,7 +181,8 @@ plain_tour t =
 -- a row is told
 abbrev pub after_telling : Bool → Toured → Rowed → Toured
 after_telling false t r = t
-after_telling true t r = record t { told = with_row t.seen t.told r; seen = with_class t.seen r.class }
+after_telling true t r = record t { told = with_row t.seen t.told r; seen = with_class t.seen
+    r.class }
 
 -- these rows are told, one after another
 abbrev pub telling_all : Toured → List Rowed → Toured
@@ -191,11 +192,13 @@ telling_all t (r ∷ rs) = telling_all (after_telling true t r) rs
 -- what is left to do, once the tour came to a class that it left before, or not
 abbrev pub opening_unless_left : TourOrder → List Rowed → Toured → Rowed → Toured
 opening_unless_left o rows t r =
-    record t { stack = if is_among t.left r.class then t.stack else t.stack ++ opening_steps o rows r }
+    record t { stack = if is_among t.left r.class then t.stack else t.stack
+    ++ opening_steps o rows r }
 
 -- one step
 abbrev pub step : TourOrder → List Rowed → Toured → Rowed → TourStep → Toured
-step o rows t r (tasks.Come wanted) = opening_unless_left o rows (after_telling (tells_before o wanted) t r) r
+step o rows t r (tasks.Come wanted) = opening_unless_left o rows
+    (after_telling (tells_before o wanted) t r) r
 step o rows t r (tasks.Over place) =
     record t { stack = t.stack ++ over_from r place (interface_row rows r place) }
 step o rows t r tasks.Leave =
@@ -205,7 +208,8 @@ step o rows t r tasks.Leave =
 -- change nothing
 abbrev pub TakesStep : TourOrder → List Rowed → Toured → Rowed → TourStep → Toured → Type 0
 TakesStep o rows old r (tasks.Over at) new =
-    (next : ℕ) × AreNamedBefore (interfaces_in r) at next × (new ≡ step o rows old r (tasks.Over next))
+    (next : ℕ) × AreNamedBefore (interfaces_in r) at next
+    × (new ≡ step o rows old r (tasks.Over next))
 TakesStep o rows old r task new = new ≡ step o rows old r task
 
 -- a class is told, where that is wanted, then these rows, which are of all that stands above it, and it

@@ -13,4 +13,5 @@ EachClassOnce ks = NoneTwice is_among (classes ks)
 -- each class stands after its direct supertypes, or these are among the classes before the list (5.4)
 abbrev pub SupersFirst : World → List Class → List Kin → Type 0
 SupersFirst w before [] = Unit {0}
-SupersFirst w before (k ∷ ks) = AllAtHome w k.class (λ t. is_among before t ≡ true) (supers k.file) × SupersFirst w (k.class ∷ before) ks
+SupersFirst w before (k ∷ ks) = AllAtHome w k.class (λ t. is_among before t ≡ true) (supers k.file)
+    × SupersFirst w (k.class ∷ before) ks

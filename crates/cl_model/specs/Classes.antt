@@ -43,7 +43,8 @@ is_own loader (Some place) = place == loader
 
 -- the bytes of a class; a name at a loader that is not its home is no class, and has none (5.3, 5.3.2)
 abbrev pub bytes_of : World → Class → Option (List ℕ)
-bytes_of w c = if is_own c.loader (home w c.loader c.name) then content_at w.content c.loader c.name else None
+bytes_of w c = if is_own c.loader (home w c.loader c.name) then content_at w.content c.loader c.name
+    else None
 
 -- the error that a fault of the bytes is (5.3.5, step 2; version before the rest of the form is an own choice)
 abbrev pub fault_of : Class → FileFault → Error
@@ -89,7 +90,8 @@ supers f = superclass_of f ++ superinterfaces_of f
 
 -- two classes are of one run-time package (5.3)
 abbrev pub same_package : Class → Class → Bool
-same_package a b = (a.loader == b.loader) && pointwise nat_eq (package_of a.name) (package_of b.name)
+same_package a b = (a.loader == b.loader) && pointwise nat_eq (package_of a.name)
+    (package_of b.name)
 
 -- a class with these flags is accessible to another (5.4.4)
 abbrev pub class_accessible : ℕ → Class → Class → Bool
@@ -124,7 +126,8 @@ abbrev pub AllAtHome : World → Class → (Class → Type 0) → List Above →
 AllAtHome w c P others = AllByRecursion (λ (a : Above). AtHome w c P a.name) others
 
 -- a class is of file f, and a supertype of c does or does not fit in its role (5.3.5, steps 3 and 4)
-pub record Fitting (w : World) (c : Class) (role : Role) (wrong : Option Error) (s : Class) : Type 0 where
+pub record Fitting (w : World) (c : Class) (role : Role) (wrong : Option Error)
+    (s : Class) : Type 0 where
   pub file : File
   pub has_file : HasFile w s file
   pub judged : misfit c role s file ≡ wrong
@@ -155,7 +158,8 @@ abbrev pub Fails : World → ℕ → Class → Error → Type 0
 Fails w zero c e = ⊥
 Fails w (suc n) c e =
     (read_class w c ≡ Err e)
-    ⊎ ((f : File) × HasFile w c f × FirstWrong (FitsAt w c (Good w n)) (WrongAt w c (Good w n) (λ s. Fails w n s e) e) (supers f))
+    ⊎ ((f : File) × HasFile w c f × FirstWrong (FitsAt w c (Good w n))
+    (WrongAt w c (Good w n) (λ s. Fails w n s e) e) (supers f))
 
 -- a class is good at some height (5.3.5)
 abbrev pub IsGood : World → Class → Type 0
@@ -170,12 +174,14 @@ pub record Circular (w : World) (c : Class) : Type 0 where
 
 -- s is a supertype of c, and all before it are good and fit (5.3.5, steps 3 and 4)
 abbrev pub Next : World → Class → Class → Type 0
-Next w c s = (f : File) × HasFile w c f × FirstWrong (FitsAt w c (IsGood w)) (λ a. AtHome w c (λ t. t ≡ s) a.name) (supers f)
+Next w c s = (f : File) × HasFile w c f × FirstWrong (FitsAt w c (IsGood w))
+    (λ a. AtHome w c (λ t. t ≡ s) a.name) (supers f)
 
 -- a walk from c by these steps, after the classes of a path, to x, the first class that is met again (5.3.5, steps 3 and 4)
 abbrev pub IsWalk : World → List Class → Class → List Class → Class → Type 0
 IsWalk w path c [] x = (is_among path c ≡ true) × (c ≡ x)
-IsWalk w path c (s ∷ steps) x = (is_among path c ≡ false) × Next w c s × IsWalk w (c ∷ path) s steps x
+IsWalk w path c (s ∷ steps) x = (is_among path c ≡ false) × Next w c s
+    × IsWalk w (c ∷ path) s steps x
 
 -- a walk from c along first supertypes that are not good, after the classes of a path, meets x again:
 -- x is the subject of the ClassCircularityError (5.3.5, steps 3 and 4; own choice of the subject)

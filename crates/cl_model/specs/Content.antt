@@ -15,7 +15,8 @@ Content = List Stored
 -- the bytes of a loader and name; what is absent is not in the map (5.3.1, 5.3.2)
 abbrev pub content_at : Content → ℕ → List ℕ → Option (List ℕ)
 content_at [] loader name = None
-content_at (e ∷ es) loader name = if (e.loader == loader) && pointwise nat_eq e.name name then Some e.bytes else content_at es loader name
+content_at (e ∷ es) loader name = if (e.loader == loader)
+    && pointwise nat_eq e.name name then Some e.bytes else content_at es loader name
 
 -- a naming tells just this content, or none
 abbrev pub TellsContent : Option Content → Content → Type 0

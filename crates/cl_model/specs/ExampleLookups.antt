@@ -145,7 +145,8 @@ derived_lineage (Err e) = None
 
 -- the class of this name in app of the world of several, with all that stands above it (5.3.5)
 abbrev pub several_kin : String → Option Kin
-several_kin name = option_and_then (λ m. derived_lineage m.ends) (load several enough ClassNotFound app (codes name))
+several_kin name = option_and_then (λ m. derived_lineage m.ends)
+    (load several enough ClassNotFound app (codes name))
 
 -- these are the classes of an order of what stands above the class of this name, and of the class itself (5.3.5, 5.4.3)
 abbrev pub Orders : (Kin → List Kin) → String → List Class → Type 0

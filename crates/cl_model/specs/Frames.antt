@@ -27,7 +27,8 @@ Judged w c role wrong t = IsAtHome w t → Fitting w c role wrong t
 abbrev pub AcceptsFirst : World → Class → List Class → List Above → Type 0
 AcceptsFirst w c [] others = Unit {0}
 AcceptsFirst w c (t ∷ ts) [] = ⊥
-AcceptsFirst w c (t ∷ ts) (a ∷ others) = (t.name ≡ a.name) × Judged w c a.role None t × AcceptsFirst w c ts others
+AcceptsFirst w c (t ∷ ts) (a ∷ others) = (t.name ≡ a.name) × Judged w c a.role None t
+    × AcceptsFirst w c ts others
 
 -- these have the names of the first direct supertypes, whatever the source tells (5.3.5, steps 3 and 4)
 abbrev pub NamedAs : List Class → List Above → Type 0
@@ -44,7 +45,8 @@ abbrev pub AllKept : State → List Frame → Type 0
 AllKept s xs = AllByRecursion (KeepsAccepted s) xs
 
 -- a frame is of the class that a loader is asked for, has its file, and its class is none of the path; what it accepted fits (5.3.2, 5.3.5)
-pub record IsFrame (w : World) (path : List Class) (loader : ℕ) (name : Name) (x : Frame) : Type 0 where
+pub record IsFrame (w : World) (path : List Class) (loader : ℕ) (name : Name)
+    (x : Frame) : Type 0 where
   pub named : name ≡ x.class.name
   pub found : home w loader name ≡ Some x.class.loader
   pub has_file : HasFile w x.class x.file
@@ -56,7 +58,8 @@ pub record IsFrame (w : World) (path : List Class) (loader : ℕ) (name : Name) 
 abbrev pub IsFrames : World → List Class → ℕ → Name → List Frame → ℕ → Name → Type 0
 IsFrames w path loader name [] at_loader at_name = (loader ≡ at_loader) × (name ≡ at_name)
 IsFrames w path loader name (x ∷ xs) at_loader at_name =
-    IsFrame w path loader name x × ((a : Above) × (wanted_supertype x ≡ Some a) × IsFrames w (x.class ∷ path) x.class.loader a.name xs at_loader at_name)
+    IsFrame w path loader name x × ((a : Above) × (wanted_supertype x ≡ Some a)
+    × IsFrames w (x.class ∷ path) x.class.loader a.name xs at_loader at_name)
 
 -- the classes of a path and of these frames, the last first
 abbrev pub path_of : List Class → List Frame → List Class
@@ -81,7 +84,8 @@ pub record EndsHere (w : World) (s : State) (r : Request) (v : Verdict) : Type 0
   pub ends : plan.ends ≡ v
 
 -- a request resolves a reference that names a class, and the class of the reference is recorded where it asks (5.4.3.1)
-pub record OfReference (w : World) (s : State) (r : Request) (loader : ℕ) (name : Name) : Type 0 where
+pub record OfReference (w : World) (s : State) (r : Request) (loader : ℕ)
+    (name : Name) : Type 0 where
   pub through : ℕ
   pub asked : Name
   pub index : ℕ
@@ -98,7 +102,8 @@ Starts w s r absent loader name =
     ⊎ ((absent ≡ NoClassDef) × OfReference w s r loader name)
 
 -- the frames of a request in a state (5.3.5, steps 3 and 4)
-pub record Under (w : World) (s : State) (r : Request) (absent : Class → Error) (xs : List Frame) (at_loader : ℕ) (at_name : Name) : Type 0 where
+pub record Under (w : World) (s : State) (r : Request) (absent : Class → Error) (xs : List Frame)
+    (at_loader : ℕ) (at_name : Name) : Type 0 where
   pub loader : ℕ
   pub name : Name
   pub starts : Starts w s r absent loader name

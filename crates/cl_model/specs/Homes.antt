@@ -46,7 +46,8 @@ own_home w loader name = if is_some (content_at w.content loader name) then Some
 
 -- where the first import whose prefix begins the name leads (own choice of delegation, 5.3.2)
 abbrev pub decisive : List Import → Name → Option ℕ
-decisive imports name = option_map (λ i. i.target) (find (λ i. starts_with nat_eq name i.prefix) imports)
+decisive imports name = option_map (λ i. i.target)
+    (find (λ i. starts_with nat_eq name i.prefix) imports)
 
 -- the first of these loaders' homes (own choice of delegation, 5.3.2)
 abbrev pub first_home : (ℕ → Option ℕ) → List ℕ → Option ℕ
@@ -60,7 +61,8 @@ in_order ChildFirst above own = option_or own above
 
 -- without a decisive import: the loaders above and the own content, in order (5.3.2)
 abbrev pub home_without_import : World → Name → (ℕ → Option ℕ) → ℕ → WorldLoader → Option ℕ
-home_without_import w name earlier loader l = in_order l.order (first_home earlier l.parents) (own_home w loader name)
+home_without_import w name earlier loader l = in_order l.order (first_home earlier l.parents)
+    (own_home w loader name)
 
 -- the home at one loader, by those at earlier ones (5.3.2)
 abbrev pub home_by_earlier : World → Name → (ℕ → Option ℕ) → ℕ → WorldLoader → Option ℕ
@@ -75,7 +77,8 @@ abbrev pub home_below : World → Name → ℕ → ℕ → Option ℕ
 home_below w name zero loader = None
 home_below w name (suc n) loader =
     elim (loader == n) [
-      | true ↦ option_and_then (home_by_earlier w name (home_below w name n) n) (slice_get w.loaders n)
+      | true ↦ option_and_then (home_by_earlier w name (home_below w name n) n)
+      (slice_get w.loaders n)
       | false ↦ home_below w name n loader
     ]
 

@@ -8,11 +8,13 @@ use Rattle.cl_classfile.specs.Files.{Name, Key}
 
 -- what a text is the descriptor of: a field's type, or a method's (4.3.2, 4.3.3)
 abbrev pub descriptor_of : Name → Option Descriptor
-descriptor_of text = option_or (option_map (λ t. descriptors.Field t) (whole_field text)) (option_map (λ m. descriptors.Method m) (whole_method text))
+descriptor_of text = option_or (option_map (λ t. descriptors.Field t) (whole_field text))
+    (option_map (λ m. descriptors.Method m) (whole_method text))
 
 -- what the text of a descriptor is one of; of another text it tells nothing (4.3)
 abbrev pub descriptor_in : Name → Descriptor
-descriptor_in text = unwrap_or (descriptor_of text) (descriptors.Method (record { params = []; ret = None }))
+descriptor_in text = unwrap_or (descriptor_of text)
+    (descriptors.Method (record { params = []; ret = None }))
 
 -- the key of this name and this descriptor (5.4.3)
 abbrev pub key_of : Name → Name → Key

@@ -11,7 +11,8 @@ use Rattle.cl_model.specs.Classes.{same_class, is_among, same_package, Above, Ha
 -- a list of classes, each with its superclass (of one class or none) and its direct superinterfaces (5.3.5)
 pub data Forest : Type 0 where
   Bare : Forest
-  Tree : (class : Class) → (file : File) → (superclass : Forest) → (interfaces : Forest) → (others : Forest) → Forest
+  Tree : (class : Class) → (file : File) → (superclass : Forest) → (interfaces : Forest)
+      → (others : Forest) → Forest
 
 -- one class of them (5.3.5)
 pub record Kin : Type 0 where
@@ -33,7 +34,8 @@ StandsFor w c Bare [] = Unit {0}
 StandsFor w c Bare (a ∷ more) = ⊥
 StandsFor w c (Tree s f sup ints others) [] = ⊥
 StandsFor w c (Tree s f sup ints others) (a ∷ more) =
-    IsAbove w c a s f × StandsFor w s sup (superclass_of f) × StandsFor w s ints (superinterfaces_of f) × StandsFor w c others more
+    IsAbove w c a s f × StandsFor w s sup (superclass_of f)
+    × StandsFor w s ints (superinterfaces_of f) × StandsFor w c others more
 
 -- a class with its own file and its own lineage (5.3.5)
 pub record IsLineage (w : World) (k : Kin) : Type 0 where
@@ -52,7 +54,8 @@ classes ks = map (λ k. k.class) ks
 -- the first of the list and its superclasses, nearest first (4.1; 5.3.5, step 3)
 abbrev pub upward : Forest → List Kin
 upward Bare = []
-upward (Tree c f sup ints others) = record { class = c; file = f; superclass = sup; interfaces = ints } ∷ upward sup
+upward (Tree c f sup ints others) = record { class = c; file = f; superclass = sup;
+    interfaces = ints } ∷ upward sup
 
 -- the proper superclasses, nearest first (4.1, super_class)
 abbrev pub superclasses : Kin → List Kin
@@ -62,7 +65,8 @@ superclasses k = upward k.superclass
 abbrev pub preorder : Forest → Bool → List Kin
 preorder Bare wanted = []
 preorder (Tree c f sup ints others) wanted =
-    (if wanted then record { class = c; file = f; superclass = sup; interfaces = ints } ∷ [] else [])
+    (if wanted then record { class = c; file = f; superclass = sup; interfaces = ints }
+    ∷ [] else [])
     ++ preorder ints true ++ preorder sup false ++ preorder others wanted
 
 -- each class at its first place alone, after those that were seen
@@ -81,7 +85,8 @@ superinterfaces k = once (preorder k.interfaces true ++ preorder k.superclass fa
 abbrev pub postorder : Forest → List Kin
 postorder Bare = []
 postorder (Tree c f sup ints others) =
-    postorder sup ++ postorder ints ++ record { class = c; file = f; superclass = sup; interfaces = ints } ∷ postorder others
+    postorder sup ++ postorder ints ++ record { class = c; file = f; superclass = sup;
+    interfaces = ints } ∷ postorder others
 
 -- the lineage in the order in which it is prepared, each class once (5.4)
 abbrev pub lineage : Kin → List Kin
@@ -105,7 +110,8 @@ method_of k key = member k.file.methods key
 abbrev pub protected_open : Kin → Kin → ℕ → Kin → Bool
 protected_open d owner flags c =
     (same_class owner.class d.class || is_subclass d owner.class)
-    && (is_static flags || same_class c.class d.class || is_subclass c d.class || is_subclass d c.class)
+    && (is_static flags || same_class c.class d.class || is_subclass c d.class
+    || is_subclass d c.class)
 
 -- a member of owner with these flags is accessible to d through the class c (5.4.4)
 abbrev pub member_accessible : Kin → Kin → ℕ → Kin → Bool
@@ -164,7 +170,8 @@ is_maximal ks k = not (list_any (λ other. is_among (classes (superinterfaces ot
 
 -- the maximally specific ones (5.4.3.3)
 abbrev pub maximally_specific : Kin → Key → List Kin
-maximally_specific k key = filter (is_maximal (offering_superinterfaces k key)) (offering_superinterfaces k key)
+maximally_specific k key = filter (is_maximal (offering_superinterfaces k key))
+    (offering_superinterfaces k key)
 
 -- it declares it, and it is not abstract (5.4.3.3, step 3)
 abbrev pub is_default : Key → Kin → Bool
@@ -183,11 +190,13 @@ only (x ∷ y ∷ xs) = None
 
 -- the one maximally specific method that is not abstract, else the first that is offered (5.4.3.3, step 3)
 abbrev pub from_superinterfaces : Kin → Key → Option Kin
-from_superinterfaces k key = option_or (only (filter (is_default key) (maximally_specific k key))) (first (offering_superinterfaces k key))
+from_superinterfaces k key = option_or (only (filter (is_default key) (maximally_specific k key)))
+    (first (offering_superinterfaces k key))
 
 -- method lookup (5.4.3.3)
 abbrev pub lookup_method : Kin → Key → Option Kin
-lookup_method k key = option_or (find (λ a. is_some (method_of a key)) (k ∷ superclasses k)) (from_superinterfaces k key)
+lookup_method k key = option_or (find (λ a. is_some (method_of a key)) (k ∷ superclasses k))
+    (from_superinterfaces k key)
 
 -- it declares a public method that is not static (5.4.3.4)
 abbrev pub is_public_instance : Key → Kin → Bool

@@ -64,7 +64,8 @@ pub record AnswersPlan (g : Setting) (s : State) (q : Request) (v : Verdict) : T
   pub answered : Answers s (plan_needs plan) plan.ends v
 
 -- a reference is answered so in a state (5.4.3)
-pub record AnswersReference (g : Setting) (s : State) (d : Class) (i : ℕ) (v : Verdict) : Type 0 where
+pub record AnswersReference (g : Setting) (s : State) (d : Class) (i : ℕ)
+    (v : Verdict) : Type 0 where
   pub made : Made Verdict
   pub resolved : IsResolution g.world d i made
   pub answered : Answers s made.needs (ending_verdict made.ends) v
@@ -90,8 +91,10 @@ pub record MayInitiate (g : Setting) (s : State) (name : Name) (place loader : �
 -- a list of needs that may impose equalities belongs to a recorded class: its preparation, or a reference of it (5.3.4, 5.4.2, 5.4.3)
 abbrev pub AreOfRecorded : Setting → State → List Need → Type 0
 AreOfRecorded g s needs =
-    ((c : Class) × IsRecorded s c × ((k : Kin) × HasLineage g.world c k × (needs ≡ constraints_of k)))
-    ⊎ ((d : Class) × IsRecorded s d × ((i : ℕ) × (m : Made Verdict) × IsResolution g.world d i m × (needs ≡ m.needs)))
+    ((c : Class) × IsRecorded s c × ((k : Kin) × HasLineage g.world c k
+    × (needs ≡ constraints_of k)))
+    ⊎ ((d : Class) × IsRecorded s d × ((i : ℕ) × (m : Made Verdict) × IsResolution g.world d i m
+    × (needs ≡ m.needs)))
 
 -- an equality may be imposed: it is next in such a list (5.3.4)
 pub record MayConstrain (g : Setting) (s : State) (name : Name) (one other : ℕ) : Type 0 where
@@ -132,7 +135,8 @@ IsPastLoad s p d = (p.reached ≡ Some d) × AllMet s p.own
 -- what a verdict rests on: a reference that was reached is settled to it, what is linked is prepared (5.4.2, 5.4.3)
 abbrev pub RestsOn : State → Request → Plan → Verdict → Type 0
 RestsOn s (Load loader name) p v = Unit {0}
-RestsOn s (Resolve loader name i) p v = (d : Class) → IsPastLoad s p d → IsSettling v → settled_to s.settled d i ≡ Some v
+RestsOn s (Resolve loader name i) p v = (d : Class) → IsPastLoad s p d → IsSettling v
+    → settled_to s.settled d i ≡ Some v
 RestsOn s (Link loader name) p v = (c : Class) → v ≡ IsLinked c → Contains s.prepared c
 
 -- a request may be answered with a verdict (5.3 to 5.4.3)
@@ -145,7 +149,8 @@ abbrev pub MayAnswer : Setting → State → Request → Answer → Type 0
 MayAnswer g s q a = IfSaid (MaySay g s q) a
 
 -- a request of the script is of the round and has no answer, and P holds of it
-pub record IsPostable (script : List Scheduled) (s : State) (q : ℕ) (P : Request → Type 0) : Type 0 where
+pub record IsPostable (script : List Scheduled) (s : State) (q : ℕ)
+    (P : Request → Type 0) : Type 0 where
   pub scheduled : Scheduled
   pub asked : slice_get script q ≡ Some scheduled
   pub in_round : scheduled.round ≡ s.round
@@ -158,7 +163,8 @@ MayPost g s q a = IsPostable g.script s q (λ r. MayAnswer g s r a)
 
 -- all of a script's requests of the round are answered, and there is a later round
 pub record EndsRound (script : List Scheduled) (rounds : ℕ) (s : State) : Type 0 where
-  pub answered : (q : ℕ) (e : Scheduled) → slice_get script q ≡ Some e → e.round ≡ s.round → IsSome (answer_to s.answers q)
+  pub answered : (q : ℕ) (e : Scheduled) → slice_get script q ≡ Some e → e.round ≡ s.round
+      → IsSome (answer_to s.answers q)
   pub later : s.round + 1 < rounds
 
 -- the next round may begin
@@ -183,7 +189,8 @@ abbrev pub after : State → Step → State
 after s (Define c) = with_need s (entry_for c.loader c)
 after s (Initiate name place loader) = with_need s (Entry loader name place)
 after s (Constrain name a b) = with_need s (Equal name a b)
-after s (Settle d i v) = record s { settled = s.settled ++ record { class = d; index = i; verdict = v } ∷ [] }
+after s (Settle d i v) = record s { settled = s.settled
+    ++ record { class = d; index = i; verdict = v } ∷ [] }
 after s (Prepare c) = record s { prepared = s.prepared ++ c ∷ [] }
 after s (Post q a) = record s { answers = s.answers ++ record { request = q; answer = a } ∷ [] }
 after s NextRound = record s { round = s.round + 1 }
@@ -205,17 +212,21 @@ Run g s es = Along (May g) s es
 
 -- the step that makes a need stand (5.3, 5.3.4)
 abbrev pub step_for : Need → Step
-step_for (Entry loader name place) = if loader == place then Define (class name place) else Initiate name place loader
+step_for (Entry loader name place) = if loader == place then Define
+    (class name place) else Initiate name place loader
 step_for (Equal name a b) = Constrain name a b
 
 -- ---- what every state of a run is
 
 -- a record has its home, whose own record stands; a recorded class is good, and the records of its supertypes stand (5.3, 5.3.5)
 pub record IsClosed (w : World) (s : State) : Type 0 where
-  pub homes : (loader place : ℕ) (name : Name) → recorded_definer s.records loader name ≡ Some place → home w loader name ≡ Some place
-  pub own : (loader place : ℕ) (name : Name) → recorded_definer s.records loader name ≡ Some place → recorded_definer s.records place name ≡ Some place
+  pub homes : (loader place : ℕ) (name : Name) → recorded_definer s.records loader name ≡ Some place
+      → home w loader name ≡ Some place
+  pub own : (loader place : ℕ) (name : Name) → recorded_definer s.records loader name ≡ Some place
+      → recorded_definer s.records place name ≡ Some place
   pub good : (c : Class) → IsRecorded s c → IsGood w c
-  pub above : (c : Class) (f : File) → IsRecorded s c → HasFile w c f → AllAtHome w c (Keeps s c.loader) (supers f)
+  pub above : (c : Class) (f : File) → IsRecorded s c → HasFile w c f
+      → AllAtHome w c (Keeps s c.loader) (supers f)
 
 -- a settled reference is one of a recorded class, and is answered so (5.4.3)
 pub record IsSettled (g : Setting) (s : State) (d : Class) (i : ℕ) (v : Verdict) : Type 0 where
@@ -232,6 +243,7 @@ pub record IsAnswered (g : Setting) (s : State) (q : ℕ) (a : Answer) : Type 0 
 pub record IsSound (g : Setting) (s : State) : Type 0 where
   pub closed : IsClosed g.world s
   pub unviolated : Violated s → ⊥
-  pub settled : (d : Class) (i : ℕ) (v : Verdict) → settled_to s.settled d i ≡ Some v → IsSettled g s d i v
+  pub settled : (d : Class) (i : ℕ) (v : Verdict) → settled_to s.settled d i ≡ Some v
+      → IsSettled g s d i v
   pub prepared : (c : Class) → Contains s.prepared c → IsPreparable g s c
   pub answered : (q : ℕ) (a : Answer) → answer_to s.answers q ≡ Some a → IsAnswered g s q a

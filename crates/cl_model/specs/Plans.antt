@@ -85,7 +85,8 @@ pub record CitesClass (f : File) (index : ℕ) (name : Name) : Type 0 where
 
 -- the error of a class c that is not accessible to d (5.4.4)
 abbrev pub inaccessible : Kin → Kin → Option Error
-inaccessible d c = if class_accessible c.file.flags c.class d.class then None else Some (IllegalAccess c.class)
+inaccessible d c = if class_accessible c.file.flags c.class d.class then None else Some
+    (IllegalAccess c.class)
 
 -- the flags of a member that was found (4.5, 4.6)
 abbrev pub flags_of : Option Member → ℕ
@@ -95,7 +96,8 @@ flags_of (Some m) = m.flags
 -- what was found through c is accessible to d, and its classes are equal in both loaders (5.4.3.2, 5.4.3.3)
 abbrev pub resolve_found : Kin → Kin → Kin → Option Member → Key → Verdict → Work Verdict
 resolve_found d c owner found key verdict =
-    unless_wrong (if member_accessible d owner (flags_of found) c then None else Some (IllegalAccess owner.class))
+    unless_wrong (if member_accessible d owner (flags_of found) c then None else Some
+    (IllegalAccess owner.class))
     >>= λ a. need (equals_of key owner.class.loader d.class.loader)
     >>= λ b. end_with verdict
 
@@ -108,9 +110,11 @@ resolve_field d key c =
 -- an interface's method is asked of an interface, another's of a class (5.4.3.3, 5.4.3.4)
 abbrev pub resolve_method : Bool → Kin → Key → Kin → Work Verdict
 resolve_method interface d key c =
-    unless_wrong (if interface then (if is_interface c.file then None else Some (IncompatibleClassChange c.class))
+    unless_wrong (if interface then (if is_interface c.file then None else Some
+    (IncompatibleClassChange c.class))
     else (if is_interface c.file then Some (IncompatibleClassChange c.class) else None))
-    >>= λ a. or_fail (NoSuchMethod c.class) (if interface then lookup_interface_method c key else lookup_method c key)
+    >>= λ a. or_fail (NoSuchMethod c.class) (if interface then lookup_interface_method c key else
+    lookup_method c key)
     >>= λ owner. resolve_found d c owner (method_of owner key) key (IsMethod owner.class key)
 
 -- what d's reference is resolved to where the class that it names is c, and is accessible (5.4.3.1 to 5.4.3.4)
@@ -165,7 +169,8 @@ loaded_by (Link loader name) = record { loader = loader; name = name }
 abbrev pub go_on_with : World → ℕ → Request → Kin → Work Verdict
 go_on_with w n (Load loader name) k = end_with (IsClass k.class)
 go_on_with w n (Resolve loader name i) k = resolve w n k i
-go_on_with w n (Link loader name) k = need (flat_map constraints_of (lineage k)) >>= λ a. end_with (IsLinked k.class)
+go_on_with w n (Link loader name) k = need (flat_map constraints_of (lineage k)) >>= λ a. end_with
+    (IsLinked k.class)
 
 -- a request's needs: those of its own load, and those that follow; the class that it reaches, and its end (5.3 to 5.4.3)
 pub record Plan : Type 0 where
@@ -182,18 +187,21 @@ ending_verdict (Err e) = Wrong e
 
 -- the plan of a load that ends in a class, and of what follows it (5.3 to 5.4.3)
 abbrev pub plan_after : Made Kin → Kin → Made Verdict → Plan
-plan_after m k r = record { own = m.needs; more = r.needs; asked = m.asked ++ r.asked; reached = Some k.class; ends = ending_verdict r.ends }
+plan_after m k r = record { own = m.needs; more = r.needs; asked = m.asked
+    ++ r.asked; reached = Some k.class; ends = ending_verdict r.ends }
 
 -- the plan of a request, from what its load made (5.3 to 5.4.3)
 abbrev pub plan_from : World → ℕ → Request → Made Kin → Option Plan
 plan_from w n q m = elim (m.ends) [
-  | Err e ↦ Some (record { own = m.needs; more = []; asked = m.asked; reached = None; ends = Wrong e })
+  | Err e ↦ Some
+      (record { own = m.needs; more = []; asked = m.asked; reached = None; ends = Wrong e })
   | Ok k ↦ option_map (plan_after m k) (go_on_with w n q k)
 ]
 
 -- the plan of a request, where a height suffices (5.3 to 5.4.3)
 abbrev pub plan : World → ℕ → Request → Option Plan
-plan w n q = option_and_then (plan_from w n q) (load w n ClassNotFound (loaded_by q).loader (loaded_by q).name)
+plan w n q = option_and_then (plan_from w n q)
+    (load w n ClassNotFound (loaded_by q).loader (loaded_by q).name)
 
 -- all needs of a plan (5.3 to 5.4.3)
 abbrev pub plan_needs : Plan → List Need
@@ -208,7 +216,8 @@ same_ask a b = (a.loader == b.loader) && same_name a.name b.name
 -- each at its last place alone
 abbrev pub distinct : List Ask → List Ask
 distinct [] = []
-distinct (a ∷ others) = if list_any (same_ask a) others then distinct others else a ∷ distinct others
+distinct (a ∷ others) = if list_any (same_ask a) others then distinct others else a
+    ∷ distinct others
 
 -- the home of what was asked, as what is asked of that home (5.3.2)
 abbrev pub asked_at_home : World → Ask → List Ask

@@ -21,7 +21,8 @@ takes_part key k = not (begins_with_angle key.name) && is_offered key k
 abbrev pub overrides_directly : Key → Kin → Kin → Bool
 overrides_directly key c a =
     takes_part key c && takes_part key a
-    && (if_declared (method_of a key) (λ x. is_public x || is_protected x) || same_package a.class c.class)
+    && (if_declared (method_of a key) (λ x. is_public x || is_protected x)
+    || same_package a.class c.class)
 
 -- a place in a list
 pub record Split : Type 0 where
@@ -43,7 +44,8 @@ abbrev pub overrides_over : Key → ℕ → Kin → List Kin → Kin → Bool
 overrides_over key zero c between a = overrides_directly key c a
 overrides_over key (suc n) c between a =
     overrides_directly key c a
-    || list_any (λ s. overrides_over key n c s.before s.at && overrides_over key n s.at s.after a) (splits between)
+    || list_any (λ s. overrides_over key n c s.before s.at && overrides_over key n s.at s.after a)
+    (splits between)
 
 -- the method of c overrides the one of its superclass a, over the classes between (5.4.5)
 abbrev pub overrides : Key → Kin → List Kin → Kin → Bool
@@ -51,7 +53,8 @@ overrides key c between a = overrides_over key (length between) c between a
 
 -- the superclasses whose method that of c overrides, nearest first (5.4.5; the order is an own choice)
 abbrev pub overridden_superclasses : Key → Kin → List Kin
-overridden_superclasses key c = map (λ s. s.at) (filter (λ s. overrides key c s.before s.at) (splits (superclasses c)))
+overridden_superclasses key c = map (λ s. s.at)
+    (filter (λ s. overrides key c s.before s.at) (splits (superclasses c)))
 
 -- the classes that a descriptor names, the return type first (5.4.2, 5.4.3)
 abbrev pub class_names : Descriptor → List Name
@@ -75,7 +78,8 @@ equals_with key loader ks = flat_map (λ k. equals_of key loader k.class.loader)
 abbrev pub for_declared : Kin → Member → List Need
 for_declared c m =
     if takes_part m.key c
-    then (if is_interface c.file then [] else equals_with m.key c.class.loader (overridden_superclasses m.key c))
+    then (if is_interface c.file then [] else equals_with m.key c.class.loader
+    (overridden_superclasses m.key c))
     ++ equals_with m.key c.class.loader (filter (takes_part m.key) (superinterfaces c))
     else []
 
@@ -100,4 +104,5 @@ for_inherited c j m =
 abbrev pub constraints_of : Kin → List Need
 constraints_of c =
     flat_map (for_declared c) c.file.methods
-    ++ (if is_interface c.file then [] else flat_map (λ j. flat_map (for_inherited c j) j.file.methods) (superinterfaces c))
+    ++ (if is_interface c.file then [] else flat_map
+    (λ j. flat_map (for_inherited c j) j.file.methods) (superinterfaces c))

@@ -22,7 +22,8 @@ pub record GoesThrough (w : World) (s : State) (d : Class) (i : ℕ) (m : Made V
 
 -- a request's plan reaches the class c, all needs of its load and the first that follow are met; these are the others,
 -- and so it ends (5.3 to 5.4.3)
-pub record PlanGoesOn (w : World) (s : State) (r : Request) (c : Class) (needs : List Need) (v : Verdict) : Type 0 where
+pub record PlanGoesOn (w : World) (s : State) (r : Request) (c : Class) (needs : List Need)
+    (v : Verdict) : Type 0 where
   pub plan : Plan
   pub planned : IsPlan w r plan
   pub past : IsPastLoad s plan c

@@ -58,7 +58,8 @@ abbrev pub WantsPast : World → Request → Plan → Option Class → List Want
 WantsPast w (Load loader name) p reached wants = wants ≡ to_stand p.more
 WantsPast w (Resolve loader name i) p reached wants = wants ≡ to_stand p.more
 WantsPast w (Link loader name) p None wants = wants ≡ to_stand p.more
-WantsPast w (Link loader name) p (Some c) wants = (k : Kin) × HasLineage w c k × (wants ≡ flat_map to_link (lineage k))
+WantsPast w (Link loader name) p (Some c) wants = (k : Kin) × HasLineage w c k
+    × (wants ≡ flat_map to_link (lineage k))
 
 -- what a request with this plan wants in turn: the needs of its load, and what is wanted past it (5.3 to 5.4.3)
 pub record HasWants (w : World) (r : Request) (p : Plan) (wants : List Want) : Type 0 where
@@ -72,7 +73,8 @@ pub record HasWants (w : World) (r : Request) (p : Plan) (wants : List Want) : T
 -- the reference that a request reached past its load may be settled, and is: also where one of its own needs is refused (5.4.3)
 abbrev pub SettlesByStep : Setting → State → Request → Plan → Step → Type 0
 SettlesByStep g s (Load loader name) p e = ⊥
-SettlesByStep g s (Resolve loader name i) p e = (d : Class) × IsPastLoad s p d × ((v : Verdict) × MaySettle g s d i v × (e ≡ Settle d i v))
+SettlesByStep g s (Resolve loader name i) p e = (d : Class) × IsPastLoad s p d
+    × ((v : Verdict) × MaySettle g s d i v × (e ≡ Settle d i v))
 SettlesByStep g s (Link loader name) p e = ⊥
 
 -- the step fulfils the first want that is not fulfilled
@@ -137,7 +139,8 @@ PassesRounds g s (e ∷ es) = (e ≡ NextRound) × MayGoOn g s × PassesRounds g
 abbrev pub AllServed : Setting → ℕ → State → List Scheduled → List Step → Type 0
 AllServed g q s [] es = PassesRounds g s es
 AllServed g q s (r ∷ rs) es =
-    (rounds : List Step) × (one : List Step) × (others : List Step) × (es ≡ rounds ++ (one ++ others))
+    (rounds : List Step) × (one : List Step) × (others : List Step)
+    × (es ≡ rounds ++ (one ++ others))
     × PassesRounds g s rounds
     × Serves g q r.request (state_after s rounds) one
     × AllServed g (suc q) (state_after (state_after s rounds) one) rs others

@@ -63,7 +63,8 @@ pub record State : Type 0 where
 
 -- nothing yet, in the first round
 abbrev pub start : State
-start = record { records = []; equalities = []; settled = []; prepared = []; answers = []; round = 0 }
+start = record { records = []; equalities = []; settled = []; prepared = []; answers = []; round = 0
+    }
 
 -- of an answer with a verdict P holds of that; memory and the source are answers of their request alone
 abbrev pub IfSaid : (Verdict → Type 0) → Answer → Type 0
@@ -82,11 +83,13 @@ IsLinkageError v = (n : Need) × (v ≡ Linkage n)
 
 -- who defined the class that a loader records for a name (5.3)
 abbrev pub recorded_definer : List Record → ℕ → Name → Option ℕ
-recorded_definer rs loader name = option_map (λ r. r.place) (find (λ r. (r.loader == loader) && same_name r.name name) rs)
+recorded_definer rs loader name = option_map (λ r. r.place)
+    (find (λ r. (r.loader == loader) && same_name r.name name) rs)
 
 -- what a reference is settled to: later attempts give the same (5.4.3)
 abbrev pub settled_to : List Settled → Class → ℕ → Option Verdict
-settled_to rs c i = option_map (λ r. r.verdict) (find (λ r. same_class r.class c && (r.index == i)) rs)
+settled_to rs c i = option_map (λ r. r.verdict)
+    (find (λ r. same_class r.class c && (r.index == i)) rs)
 
 -- what a request is answered, if it is
 abbrev pub answer_to : List Posted → ℕ → Option Answer
@@ -97,7 +100,8 @@ pub record Linked (ks : List Equality) (name : Name) (a b : ℕ) : Type 0 where
   pub equality : Equality
   pub imposed : Contains ks equality
   pub named : equality.name ≡ name
-  pub ends : ((equality.one ≡ a) × (equality.other ≡ b)) ⊎ ((equality.one ≡ b) × (equality.other ≡ a))
+  pub ends : ((equality.one ≡ a) × (equality.other ≡ b))
+      ⊎ ((equality.one ≡ b) × (equality.other ≡ a))
 
 -- a path of equalities from one loader over these to another (5.3.4)
 abbrev pub IsPathBetween : List Equality → Name → ℕ → List ℕ → ℕ → Type 0
@@ -128,8 +132,10 @@ IsRecorded s c = Keeps s c.loader c
 
 -- a need is added (5.3, 5.3.4)
 abbrev pub with_need : State → Need → State
-with_need s (Entry loader name place) = record s { records = s.records ++ record { loader = loader; name = name; place = place } ∷ [] }
-with_need s (Equal name a b) = record s { equalities = s.equalities ++ record { name = name; one = a; other = b } ∷ [] }
+with_need s (Entry loader name place) = record s
+    { records = s.records ++ record { loader = loader; name = name; place = place } ∷ [] }
+with_need s (Equal name a b) = record s { equalities = s.equalities
+    ++ record { name = name; one = a; other = b } ∷ [] }
 
 -- no record stands where the need would put one (5.3)
 abbrev pub IsFresh : State → Need → Type 0
@@ -154,8 +160,10 @@ pub record Divides (home : ℕ → Option ℕ) (joins : ℕ → ℕ → Type 0) 
 
 -- adding a need would violate an equality (5.3.4)
 abbrev pub Clashes : State → Need → Type 0
-Clashes s (Entry loader name place) = Differs (λ l. recorded_definer s.records l name) (Joined s.equalities name) loader place
-Clashes s (Equal name a b) = Divides (λ l. recorded_definer s.records l name) (Joined s.equalities name) a b
+Clashes s (Entry loader name place) = Differs (λ l. recorded_definer s.records l name)
+    (Joined s.equalities name) loader place
+Clashes s (Equal name a b) = Divides (λ l. recorded_definer s.records l name)
+    (Joined s.equalities name) a b
 
 -- a record that stands clashes: two joined loaders record different classes for a name (5.3.4)
 pub record Violated (s : State) : Type 0 where

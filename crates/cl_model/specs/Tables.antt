@@ -19,8 +19,10 @@ Records s loader name c = (c.name ≡ name) × (recorded_definer s.records loade
 -- reference is settled so, or its entry is none that is settled; a class that is linked is recorded and prepared (5.3, 5.4.2, 5.4.3)
 abbrev pub Bears : State → Request → Verdict → Type 0
 Bears s (Load loader name) v = (c : Class) → v ≡ IsClass c → Records s loader name c
-Bears s (Resolve loader name i) v = (d : Class) → Records s loader name d → (v ≡ BadEntry) ⊎ (v ≡ ArrayMember) ⊎ (settled_to s.settled d i ≡ Some v)
-Bears s (Link loader name) v = (c : Class) → v ≡ IsLinked c → Records s loader name c × Contains s.prepared c
+Bears s (Resolve loader name i) v = (d : Class) → Records s loader name d → (v ≡ BadEntry)
+    ⊎ (v ≡ ArrayMember) ⊎ (settled_to s.settled d i ≡ Some v)
+Bears s (Link loader name) v = (c : Class) → v ≡ IsLinked c → Records s loader name c
+    × Contains s.prepared c
 
 -- they bear an answer: with a verdict where they bear that
 abbrev pub BearsAnswer : State → Request → Answer → Type 0
@@ -33,7 +35,8 @@ MayTell script s q a = IsPostable script s q (λ r. BearsAnswer s r a)
 -- the tables allow a step (5.3 to 5.4.3)
 abbrev pub Allows : List Scheduled → ℕ → State → Step → Type 0
 Allows script rounds s (Define c) = MayRecord s c.loader c.loader c.name
-Allows script rounds s (Initiate name place loader) = Met s (Entry place name place) × MayRecord s loader place name
+Allows script rounds s (Initiate name place loader) = Met s (Entry place name place)
+    × MayRecord s loader place name
 Allows script rounds s (Constrain name a b) = MayAdd s (Equal name a b)
 Allows script rounds s (Settle d i v) = MayKeep s d i v
 Allows script rounds s (Prepare c) = IsRecorded s c × (Contains s.prepared c → ⊥)
@@ -56,7 +59,8 @@ EachNew IsNew before (x ∷ xs) = IsNew before x × EachNew IsNew (before ++ x �
 
 -- none of these has its loader and name among those before it: no loader records a name twice (5.3.5, step 1)
 abbrev pub NoneRecordedTwice : List Record → List Record → Type 0
-NoneRecordedTwice before rs = EachNew (λ front r. recorded_definer front r.loader r.name ≡ None) before rs
+NoneRecordedTwice before rs = EachNew (λ front r. recorded_definer front r.loader r.name ≡ None)
+    before rs
 
 -- none of these answers a request that is answered before it
 abbrev pub NoneAnsweredTwice : List Posted → List Posted → Type 0
@@ -66,7 +70,8 @@ NoneAnsweredTwice before ps = EachNew (λ front p. answer_to front p.request ≡
 -- and no request is answered twice (5.3, 5.3.4)
 pub record IsConsistent (s : State) : Type 0 where
   pub recorded_once : NoneRecordedTwice [] s.records
-  pub own : (loader place : ℕ) (name : Name) → recorded_definer s.records loader name ≡ Some place → recorded_definer s.records place name ≡ Some place
+  pub own : (loader place : ℕ) (name : Name) → recorded_definer s.records loader name ≡ Some place
+      → recorded_definer s.records place name ≡ Some place
   pub unviolated : Violated s → ⊥
   pub answered_once : NoneAnsweredTwice [] s.answers
 

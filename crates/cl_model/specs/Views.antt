@@ -55,7 +55,8 @@ need_of (needs.TheVariants.Equal e) = Equal e.name e.one e.other
 abbrev pub verdict_of : verdicts.Verdict → Verdict
 verdict_of (verdicts.TheVariants.Class c) = IsClass c
 verdict_of (verdicts.TheVariants.Array dimensions c) = IsArrayOf dimensions c
-verdict_of (verdicts.TheVariants.PrimitiveArray dimensions base) = IsArrayOfBase dimensions (letter_of base)
+verdict_of (verdicts.TheVariants.PrimitiveArray dimensions base) = IsArrayOfBase dimensions
+    (letter_of base)
 verdict_of (verdicts.TheVariants.Field c key) = IsField c key
 verdict_of (verdicts.TheVariants.Method c key) = IsMethod c key
 verdict_of (verdicts.TheVariants.Linked c) = IsLinked c
@@ -95,7 +96,8 @@ abbrev pub step_of : List (Option Answer) → events.Event → Step
 step_of given (events.TheVariants.Define c) = Define c
 step_of given (events.TheVariants.Initiate c loader) = Initiate c.name c.loader loader
 step_of given (events.TheVariants.Constrain e) = Constrain e.name e.one e.other
-step_of given (events.TheVariants.Settle s) = Settle s.value.class s.value.index (verdict_of s.value.verdict)
+step_of given (events.TheVariants.Settle s) = Settle s.value.class s.value.index
+    (verdict_of s.value.verdict)
 step_of given (events.TheVariants.Prepare c) = Prepare c
 step_of given events.TheVariants.NextRound = NextRound
 step_of given (events.TheVariants.Post q) = post_of q (answer_at given q)

@@ -42,4 +42,5 @@ RefusedFor workers config script faults.Memory = WorkersMayServe workers
 RefusedFor workers config script faults.Workers = WorkersMayServe workers → ⊥
 RefusedFor workers config script faults.NoThread = WorkersMayServe workers
 RefusedFor workers config script faults.Stray = WorkersMayServe workers
-RefusedFor workers config script (faults.Unanswered x) = WorkersMayServe workers × IsUnanswered config script x
+RefusedFor workers config script (faults.Unanswered x) = WorkersMayServe workers
+    × IsUnanswered config script x

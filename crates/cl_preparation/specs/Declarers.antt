@@ -45,7 +45,8 @@ abbrev pub is_known : Option Declarers → Bool → ℕ → Bool
 is_known known named l = option_map_or (λ d. admits d named l) known false
 
 -- these are those that were known with such a class
-pub record AddsDeclarer (known : Option Declarers) (named : Bool) (l : ℕ) (d : Declarers) : Type 0 where
+pub record AddsDeclarer (known : Option Declarers) (named : Bool) (l : ℕ)
+    (d : Declarers) : Type 0 where
   pub here : admits d named l ≡ true
   pub kept : (n : Bool) (a : ℕ) → is_known known n a ≡ true → admits d n a ≡ true
 
@@ -59,7 +60,8 @@ abbrev pub is_noted : {S : Type 0} → IndexMap MethodTexts Declarers S → Meth
 is_noted declared t named l = is_known (get same_texts declared t) named l
 
 -- those that are noted of the method with this key, if some are, pass a test
-abbrev pub NotedPass : {S : Type 0} → IndexMap MethodTexts Declarers S → Key → (Declarers → Bool) → Type 0
+abbrev pub NotedPass : {S : Type 0} → IndexMap MethodTexts Declarers S → Key → (Declarers → Bool)
+    → Type 0
 NotedPass declared key test =
     (t : MethodTexts) → method_of t.name t.descriptor ≡ Some key
     → option_map_or test (get same_texts declared t) true ≡ true

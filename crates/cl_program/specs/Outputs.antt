@@ -10,8 +10,10 @@ pub record Outputs : Type 0 where
   pub err : Stream
 
 -- what two writers hold before and after
-abbrev pub outputs : {W E : Type 0} → (W → Option (List ℕ)) → W → W → (E → Option (List ℕ)) → E → E → Outputs
-outputs on_out old_out new_out on_err old_err new_err = record { out = stream on_out old_out new_out; err = stream on_err old_err new_err }
+abbrev pub outputs : {W E : Type 0} → (W → Option (List ℕ)) → W → W → (E → Option (List ℕ)) → E → E
+    → Outputs
+outputs on_out old_out new_out on_err old_err new_err = record
+    { out = stream on_out old_out new_out; err = stream on_err old_err new_err }
 
 -- such lines are written
 pub record PrintsLines (AreLines : List ℕ → Type 0) (out : Stream) : Type 0 where

@@ -33,8 +33,10 @@ pub record IsNoClass (gives : Giving) (fault : ClassFault) : Type 0 where
 
 -- when a reading ends by a fault, and what is on its output
 abbrev pub FailsToRead : Giving → List ℕ → Stream → Fault → Type 0
-FailsToRead gives path out (Path p) = WritesNothing out (IsUnread gives MOST_CLASS_BYTES path (Path p))
-FailsToRead gives path out TooLarge = WritesNothing out (IsUnread gives MOST_CLASS_BYTES path TooLarge)
+FailsToRead gives path out (Path p) = WritesNothing out
+    (IsUnread gives MOST_CLASS_BYTES path (Path p))
+FailsToRead gives path out TooLarge = WritesNothing out
+    (IsUnread gives MOST_CLASS_BYTES path TooLarge)
 FailsToRead gives path out (File (errors.Fault fault)) = WritesNothing out (IsNoClass gives fault)
 FailsToRead gives path out (File errors.Memory) = WritesNothing out ⊤
 FailsToRead gives path out Write = BreaksOff (AreLinesOf gives) out

@@ -27,7 +27,8 @@ pub record IsInput (input : Option (List ℕ)) (text : List ℕ) : Type 0 where
 -- what so many workers make of a script over a content: one serves in order, with no fault of the source; several in any order of
 -- their steps (JVMS SE 8, 5.3)
 abbrev pub IsServedBy : ℕ → Option Content → Configured → Scripted → Report → Type 0
-IsServedBy workers told config script r = ByWorkers workers (IsServedAlone told config script r) (IsServed told config script r)
+IsServedBy workers told config script r = ByWorkers workers (IsServedAlone told config script r)
+    (IsServed told config script r)
 
 -- the input is a bundle, and this holds of what it tells
 pub record IsOfBundle (input : Option (List ℕ)) (P : Configured → Content → Scripted → Type 0)
@@ -61,7 +62,8 @@ abbrev pub EndsBy : Option (List ℕ) → Options → Stream → Fault → Type 
 EndsBy input o out Input = WritesNothing out ⊤
 EndsBy input o out TooLarge = WritesNothing out (GivesOver input MOST_INPUT_BYTES)
 EndsBy input o out NotUtf8 = WritesNothing out (IfSome input (λ bytes. AreNoText bytes))
-EndsBy input o out (Bundle wrong) = WritesNothing out (UnlessMemory wrong (IsNoBundleIn input wrong))
+EndsBy input o out (Bundle wrong) = WritesNothing out
+    (UnlessMemory wrong (IsNoBundleIn input wrong))
 EndsBy input o out (Serve wrong) = WritesNothing out (IsUnservedFor input o (Serve wrong))
 EndsBy input o out (Threads wrong) = WritesNothing out (IsUnservedFor input o (Threads wrong))
 EndsBy input o out Write = BreaksOff (AreLinesFor input o) out

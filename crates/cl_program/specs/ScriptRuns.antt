@@ -26,7 +26,8 @@ pub record IsConfigAt (gives : Giving) (result : Result Configured ConfigFault) 
   pub read : config_of text ≡ result
 
 -- what the text that a file gives is read as for a script under a configuration: it, or its first fault
-pub record IsScriptAt (gives : Giving) (config : Configured) (result : Result Scripted ScriptFault) : Type 0 where
+pub record IsScriptAt (gives : Giving) (config : Configured)
+    (result : Result Scripted ScriptFault) : Type 0 where
   pub text : List ℕ
   pub given : GivesText gives text
   pub read : script_of (names_of config) text result
@@ -46,7 +47,8 @@ LacksScript gives config path fault = LacksText gives path fault
 -- what so many workers make of a script over directories: one serves in order, several in any order of their steps. Of directories no
 -- content is told, so this is what holds under any source (JVMS SE 8, 5.3)
 abbrev pub IsServedOver : ℕ → Configured → Scripted → Report → Type 0
-IsServedOver workers config script r = ByWorkers workers (IsServedInOrder None config script r) (IsServed None config script r)
+IsServedOver workers config script r = ByWorkers workers (IsServedInOrder None config script r)
+    (IsServed None config script r)
 
 -- the configuration was read, and this holds under it
 pub record IsUnder (gives : List ℕ → Giving) (w : Wanted) (P : Configured → Type 0) : Type 0 where
@@ -76,7 +78,8 @@ IsOfOne gives w P = P (gives w.config) ⊎ IsUnder gives w (λ config. P (gives 
 
 -- the path is the configuration's, which cannot be read; or the configuration was read, and it is the script's, which cannot
 abbrev pub IsUnreadPath : (List ℕ → Giving) → Wanted → List ℕ → Type 0
-IsUnreadPath gives w path = ((path ≡ w.config) × IsUnreadable (gives w.config)) ⊎ IsUnder gives w (λ config. (path ≡ w.script) × IsUnreadable (gives w.script))
+IsUnreadPath gives w path = ((path ≡ w.config) × IsUnreadable (gives w.config))
+    ⊎ IsUnder gives w (λ config. (path ≡ w.script) × IsUnreadable (gives w.script))
 
 -- the configuration and then the script were read, and the script was not served for this reason
 abbrev pub IsUnservedUnder : (List ℕ → Giving) → Wanted → Fault → Type 0
@@ -86,10 +89,12 @@ IsUnservedUnder gives w f = IsUnderBoth gives w (λ config script. IsUnserved w.
 -- is taken at its word
 abbrev pub EndsFrom : (List ℕ → Giving) → Wanted → Stream → Fault → Type 0
 EndsFrom gives w out (Path p) = WritesNothing out (IsUnreadPath gives w (string_bytes p))
-EndsFrom gives w out TooLarge = WritesNothing out (IsOfOne gives w (λ g. IsTooLarge g MOST_INPUT_BYTES))
+EndsFrom gives w out TooLarge = WritesNothing out
+    (IsOfOne gives w (λ g. IsTooLarge g MOST_INPUT_BYTES))
 EndsFrom gives w out NotUtf8 = WritesNothing out (IsOfOne gives w IsNoText)
 EndsFrom gives w out (Config fault) = WritesNothing out (IsConfigAt (gives w.config) (Err fault))
-EndsFrom gives w out (Script fault) = WritesNothing out (IsUnder gives w (λ config. IsScriptAt (gives w.script) config (Err fault)))
+EndsFrom gives w out (Script fault) = WritesNothing out
+    (IsUnder gives w (λ config. IsScriptAt (gives w.script) config (Err fault)))
 EndsFrom gives w out (Serve wrong) = WritesNothing out (IsUnservedUnder gives w (Serve wrong))
 EndsFrom gives w out (Threads wrong) = WritesNothing out (IsUnservedUnder gives w (Threads wrong))
 EndsFrom gives w out Write = BreaksOff (AreLinesFrom gives w) out

@@ -21,7 +21,8 @@ pub record ByWorkers (workers : ℕ) (One Several : Type 0) : Type 0 where
   pub together : ¬ (workers ≡ 1) → Several
 
 -- the report of a script that was served in order under a configuration, with no fault of the source (5.3)
-pub record IsServedAlone (told : Option Content) (config : Configured) (script : Scripted) (r : Report) : Type 0 where
+pub record IsServedAlone (told : Option Content) (config : Configured) (script : Scripted)
+    (r : Report) : Type 0 where
   pub in_order : IsServedInOrder told config script r
   pub no_source_faults : faults (reported_registry config r).answers ≡ 0
 

@@ -69,7 +69,8 @@ with_constrain x e = with_event x (events.Constrain e)
 abbrev pub Constrains : Shown → Shown → Equality → Type 0
 Constrains old new e =
     (Met (state_of old) (equal_need e) × (new ≡ old))
-    ⊎ ((Met (state_of old) (equal_need e) → ⊥) × (Refused (state_of old) (equal_need e) → ⊥) × (new ≡ with_constrain old e))
+    ⊎ ((Met (state_of old) (equal_need e) → ⊥) × (Refused (state_of old) (equal_need e) → ⊥)
+    × (new ≡ with_constrain old e))
 
 -- the equality at this place of a list stands from now on (5.3.4)
 abbrev pub Imposes : Shown → Shown → Listed → ℕ → Type 0
@@ -135,7 +136,8 @@ IsNotedAt old place e new = (new ≡ old) ⊎ (new ≡ take place old ++ e ∷ [
 abbrev pub MayConstrainAs : Option Content → Shown → Equality → Type 0
 MayConstrainAs None x e = Unit {0}
 MayConstrainAs (Some content) x e =
-    (Refused (state_of x) (equal_need e) → ⊥) → MayConstrain (machine x content) (state_of x) e.name e.one e.other
+    (Refused (state_of x) (equal_need e) → ⊥) → MayConstrain (machine x content)
+    (state_of x) e.name e.one e.other
 
 -- where a content is told, the machine may prepare a class (5.4.2)
 abbrev pub MayPrepareAs : Option Content → Shown → Class → Type 0
@@ -152,14 +154,17 @@ AreOfConfig config (OfPreparation l given) = l.config ≡ config
 -- what is given for a list of a class's preparation holds in a state: its superclass, if it has one, is prepared (5.4.2)
 abbrev pub HoldsIn : World → State → Lined → Given → Type 0
 HoldsIn w s l givens.Nothing = Unit {0}
-HoldsIn w s l givens.Superclass = AllAtHome w l.own.class (Contains s.prepared) (superclass_of (file_of l.own.file))
+HoldsIn w s l givens.Superclass = AllAtHome w l.own.class (Contains s.prepared)
+    (superclass_of (file_of l.own.file))
 
 -- the machine's own list for what a list was made from: the needs of a reference of a recorded class, which names the class c
 -- with its home; of a recorded class's preparation, one that stands for all of its constraints, where what is given for it holds
 -- (5.4.2, 5.4.3)
 abbrev pub IsListOf : World → State → Sprung → List Need → Type 0
 IsListOf w s (OfPreparation l given) needs =
-    IsRecorded s l.own.class × HoldsIn w s l given × AreEnough (known_by given (kin_of l)) (constraints_of (kin_of l)) needs
+    IsRecorded s l.own.class × HoldsIn w s l given
+    × AreEnough (known_by given (kin_of l)) (constraints_of (kin_of l)) needs
 IsListOf w s (OfReference d c index) needs =
-    IsRecorded s d.own.class × (home w d.own.class.loader c.own.class.name ≡ Some c.own.class.loader)
+    IsRecorded s d.own.class × (home w d.own.class.loader c.own.class.name ≡ Some
+    c.own.class.loader)
     × ((m : Made Verdict) × IsResolution w d.own.class index m × (needs ≡ m.needs))

@@ -42,7 +42,8 @@ pub record Fields : Type 0 where
 -- the tables are what the history leads to, the book of constraints stands for it, the equalities that are kept as met are so, each
 -- loader has its part of the rows, of each round it is known how many have no answer, and there is room for what is still to be
 -- posted and for the rounds to come
-pub record IsRegistry (told : Option Content) (x : Shown) (f : Fields) (stands : State → Type 0) : Type 0 where
+pub record IsRegistry (told : Option Content) (x : Shown) (f : Fields)
+    (stands : State → Type 0) : Type 0 where
   pub kept : IsKept told x
   pub script : IsScript x.script
   pub width : f.parts ≡ length x.config.loaders
@@ -52,7 +53,8 @@ pub record IsRegistry (told : Option Content) (x : Shown) (f : Fields) (stands :
   pub prepared : f.prepared ≡ (state_of x).prepared
   pub met : AllMet (state_of x) (needs_of f.met)
   pub left : f.left ≡ left_in x.answers
-  pub counts : (round : ℕ) (n : ℕ) → slice_get f.unanswered round ≡ Some n → n ≡ open_in round x.script.rounds_of x.answers
+  pub counts : (round : ℕ) (n : ℕ) → slice_get f.unanswered round ≡ Some n
+      → n ≡ open_in round x.script.rounds_of x.answers
   pub each_round : length f.unanswered ≡ x.script.rounds
   pub round : f.round ≡ round_of x
   pub begun : f.round ≤ x.script.rounds

@@ -12,12 +12,16 @@ use Rattle.cl_hierarchy.specs.Drafts.{Drafted}
 use Rattle.cl_hierarchy.specs.Rows.{Rowed}
 
 -- a table, of two keys, has this where a test tells so of the keys, and elsewhere what it had
-abbrev pub IsPutWhere : {K L R : Type 0} → (K → L → Bool) → (K → L → Option R) → (K → L → Option R) → R → Type 0
-IsPutWhere {K} {L} is_there old new r = (k : K) (l : L) → new k l ≡ (if is_there k l then Some r else old k l)
+abbrev pub IsPutWhere : {K L R : Type 0} → (K → L → Bool) → (K → L → Option R) → (K → L → Option R)
+    → R → Type 0
+IsPutWhere {K} {L} is_there old new r = (k : K) (l : L)
+    → new k l ≡ (if is_there k l then Some r else old k l)
 
 -- a table has this row for a loader and a name, and for others what it had (5.3)
-abbrev pub IsPut : {R : Type 0} → (ℕ → List ℕ → Option R) → (ℕ → List ℕ → Option R) → ℕ → List ℕ → R → Type 0
-IsPut old new loader name row = IsPutWhere (λ l n. (loader == l) && pointwise nat_eq name n) old new row
+abbrev pub IsPut : {R : Type 0} → (ℕ → List ℕ → Option R) → (ℕ → List ℕ → Option R) → ℕ → List ℕ → R
+    → Type 0
+IsPut old new loader name row = IsPutWhere (λ l n. (loader == l) && pointwise nat_eq name n) old new
+    row
 
 -- two tables have the same
 abbrev pub HasSame : {K L R : Type 0} → (K → L → Option R) → (K → L → Option R) → Type 0
@@ -60,4 +64,5 @@ place_there place (Some a) = place_by place a
 
 -- the row of a draft's class, by a table of places (5.3.5, step 5)
 abbrev pub row_by : (List ℕ → Option ℕ) → Drafted → Rowed
-row_by place d = record { class = d.class; file = d.file; places = map (place_by place) (supers (file_of d.file)) }
+row_by place d = record { class = d.class; file = d.file; places = map (place_by place)
+    (supers (file_of d.file)) }

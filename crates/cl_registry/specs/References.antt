@@ -22,7 +22,9 @@ pub record Cited : Type 0 where
 -- the entry that a request resolves: of the class that the loader which is asked has recorded (5.4.3)
 abbrev pub cited_by : Shown → Request → Option Cited
 cited_by x (requests.Load loader name) = None
-cited_by x (requests.Resolve loader name index) = option_map (λ place. record { class = class name place; index = index }) (recorded_definer (records_of x) loader name)
+cited_by x (requests.Resolve loader name index) = option_map
+    (λ place. record { class = class name place; index = index })
+    (recorded_definer (records_of x) loader name)
 cited_by x (requests.Link loader name) = None
 
 -- what the entry that a request resolves is settled to, if it is (5.4.3)
@@ -44,7 +46,8 @@ pub record IsUnsettled (x : Shown) (c : Class) (i : ℕ) : Type 0 where
 -- ---- tables
 
 -- a table has this for an entry of a class, and for others what it had
-abbrev pub IsReferencePut : {R : Type 0} → (Class → ℕ → Option R) → (Class → ℕ → Option R) → Class → ℕ → R → Type 0
+abbrev pub IsReferencePut : {R : Type 0} → (Class → ℕ → Option R) → (Class → ℕ → Option R) → Class
+    → ℕ → R → Type 0
 IsReferencePut old new c index r = IsPutWhere (λ d i. same_class c d && (index == i)) old new r
 
 -- a history has an event more, by which a reference is settled to this (5.4.3)

@@ -62,7 +62,8 @@ DefineRefusedFor x d fault = RecordRefusedFor x (IsNew x d) (MayEnter x d) (own_
 
 -- and the record of a home's class by the loader that was asked (5.3, 5.3.4)
 abbrev pub InitiateRefusedFor : Shown → Located → RegistryFault → Type 0
-InitiateRefusedFor x h fault = RecordRefusedFor x (LacksRecord x h.asked h.name) (MayJoin x h) (asked_record h) fault
+InitiateRefusedFor x h fault = RecordRefusedFor x (LacksRecord x h.asked h.name) (MayJoin x h)
+    (asked_record h) fault
 
 -- what is so is refused for memory alone, and what is not is refused as Stray
 abbrev pub MemoryOrStray : Type 0 → RegistryFault → Type 0
@@ -82,7 +83,8 @@ ImposeRefusedFor x e k AlreadyPosted = ⊥
 ImposeRefusedFor x e k NotYet = ⊥
 
 -- an equality of a list was to be imposed: it was, and is met from then on, or nothing changed, and why (5.3.4)
-pub record ImposeSays (told : Option Content) (old new : Shown) (e : Listed) (k : ℕ) (result : Result (Unit {0}) RegistryFault) : Type 0 where
+pub record ImposeSays (told : Option Content) (old new : Shown) (e : Listed) (k : ℕ)
+    (result : Result (Unit {0}) RegistryFault) : Type 0 where
   pub imposed : OnOk result (Imposes old new e k)
   pub met : OnOk result (IsNextOf e k (Met (state_of new)))
   pub refused : IfErr result (λ fault. ImposeRefusedFor old e k fault)

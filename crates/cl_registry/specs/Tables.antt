@@ -43,7 +43,8 @@ pub record Shown : Type 0 where
 -- no class, no event, and no answer to any request
 abbrev pub empty_of : Configured → Scripted → Shown
 empty_of config script =
-    record { config = config; script = script; rows = []; history = []; answers = replicate (length script.requests) None }
+    record { config = config; script = script; rows = []; history = []; answers = replicate
+    (length script.requests) None }
 
 -- the steps of the linkage machine that the history tells
 abbrev pub steps : Shown → List Step
@@ -99,9 +100,11 @@ settlements (events.Post q ∷ es) = settlements es
 pub record IsTrusted (x : Shown) : Type 0 where
   pub script : IsScript x.script
   pub tables : tables.AreTrusted (schedule_of x.script) x.script.rounds (steps x)
-  pub posted : (q : ℕ) → list_any (nat_eq q) (posts x.history) ≡ is_some (answer_at (answers_of x.answers) q)
+  pub posted : (q : ℕ) → list_any (nat_eq q) (posts x.history) ≡ is_some
+      (answer_at (answers_of x.answers) q)
   pub whole : length x.answers ≡ length x.script.requests
-  pub earlier : (q round : ℕ) → slice_get x.script.rounds_of q ≡ Some round → round < round_of x → IsSome (answer_at (answers_of x.answers) q)
+  pub earlier : (q round : ℕ) → slice_get x.script.rounds_of q ≡ Some round → round < round_of x
+      → IsSome (answer_at (answers_of x.answers) q)
 
 -- the machine that the history is one of, where this content is told (5.3)
 abbrev pub machine : Shown → Content → Setting
@@ -120,7 +123,8 @@ pub record NamesLoaders (x : Shown) : Type 0 where
 
 -- each direct supertype of a class is recorded by a loader as the class that this one defined (5.3; 5.3.5, steps 3 and 4)
 abbrev pub ArePlaced : List Record → ℕ → List Above → List ℕ → Type 0
-ArePlaced records loader above places = AllZip (λ a place. recorded_definer records loader a.name ≡ Some place) above places
+ArePlaced records loader above places = AllZip
+    (λ a place. recorded_definer records loader a.name ≡ Some place) above places
 
 -- the direct supertypes of a row are recorded by its class's loader (5.3; 5.3.5, steps 3 and 4)
 abbrev pub IsPlaced : List Record → Rowed → Type 0
@@ -141,7 +145,8 @@ pub record IsKept (told : Option Content) (x : Shown) : Type 0 where
 
 -- the row of the class that a loader has recorded for a name (5.3)
 abbrev pub looked_row : Shown → ℕ → List ℕ → Option Rowed
-looked_row x loader name = option_and_then (λ place. row_of x.rows (class name place)) (recorded_definer (records_of x) loader name)
+looked_row x loader name = option_and_then (λ place. row_of x.rows (class name place))
+    (recorded_definer (records_of x) loader name)
 
 -- which loader defined the class that a loader has recorded for a name (5.3); nothing is asked where none is
 abbrev pub recorded_place : List Record → ℕ → Above → ℕ
@@ -153,10 +158,12 @@ row_for x d = row_by (recorded_definer (records_of x) d.class.loader) d
 
 -- the row in a table of each loader (5.3)
 abbrev pub table_row : {R S : Type 0} → List (HashMap (List ℕ) R S) → ℕ → List ℕ → Option R
-table_row rows loader name = option_and_then (λ m. get (pointwise nat_eq) m name) (slice_get rows loader)
+table_row rows loader name = option_and_then (λ m. get (pointwise nat_eq) m name)
+    (slice_get rows loader)
 
 -- which loader defined the class that a table has for a loader and a name (5.3)
-abbrev pub placed_at : {S : Type 0} → List (HashMap (List ℕ) (Arc Rowed Global) S) → ℕ → List ℕ → Option ℕ
+abbrev pub placed_at : {S : Type 0} → List (HashMap (List ℕ) (Arc Rowed Global) S) → ℕ → List ℕ
+    → Option ℕ
 placed_at rows loader name = option_map (λ r. r.value.class.loader) (table_row rows loader name)
 
 -- the entry in a table of the settled references of each class (5.4.3)
@@ -165,7 +172,8 @@ reference_in table c index = option_and_then (λ m. get nat_eq m index) (get sam
 
 -- what a reference is settled to, with its class and index, if it is settled (5.4.3)
 abbrev pub settled_at : Shown → Class → ℕ → Option Settled
-settled_at x c index = find (λ s. same_class s.class c && (s.index == index)) (settlements x.history)
+settled_at x c index = find (λ s. same_class s.class c && (s.index == index))
+    (settlements x.history)
 
 -- ---- calls
 
@@ -179,14 +187,16 @@ IsNew x d = LacksRecord x d.class.loader d.class.name
 
 -- each direct supertype of a draft that has a row in this table fits (5.3.5, steps 3 and 4)
 abbrev pub SupertypesFit : (ℕ → List ℕ → Option Rowed) → Drafted → Type 0
-SupertypesFit table d = AllByRecursion (λ (a : Above). IfSome (table d.class.loader a.name) (FitsAs d.class a)) (supers (file_of d.file))
+SupertypesFit table d = AllByRecursion (λ (a : Above). IfSome (table d.class.loader a.name)
+    (FitsAs d.class a)) (supers (file_of d.file))
 
 -- a class may be defined: its home was found under this configuration, its loader is one of these, and records each of its
 -- direct supertypes, which fit (5.3.5, steps 1, 3 and 4)
 pub record MayEnter (x : Shown) (d : Drafted) : Type 0 where
   pub config : d.home.config ≡ x.config
   pub loader : d.class.loader < length x.config.loaders
-  pub above : AllByRecursion (λ (a : Above). IsSome (recorded_definer (records_of x) d.class.loader a.name)) (supers (file_of d.file))
+  pub above : AllByRecursion (λ (a : Above). IsSome
+      (recorded_definer (records_of x) d.class.loader a.name)) (supers (file_of d.file))
   pub fit : SupertypesFit (looked_row x) d
 
 -- an event more
@@ -195,18 +205,22 @@ with_event x e = record x { history = x.history ++ e ∷ [] }
 
 -- a class and its row more, and the event (5.3.5, step 5)
 abbrev pub with_define : Shown → Drafted → Shown
-with_define x d = record (with_event x (events.Define d.class)) { rows = x.rows ++ row_for x d ∷ [] }
+with_define x d = record (with_event x (events.Define d.class))
+    { rows = x.rows ++ row_for x d ∷ [] }
 
 -- an event more with its row, where its record is not refused; or no event and the row that stands, where the loader has
 -- recorded the name (5.3.4, 5.3.5)
 abbrev pub DefinedAs : Shown → Shown → Drafted → Rowed → Option ℕ → Type 0
 DefinedAs old new d row None =
-    MayEnter old d × (Refused (state_of old) (own_record d) → ⊥) × (new ≡ with_define old d) × (row ≡ row_for old d)
-DefinedAs old new d row (Some place) = (new ≡ old) × (looked_row old d.class.loader d.class.name ≡ Some row)
+    MayEnter old d × (Refused (state_of old) (own_record d) → ⊥) × (new ≡ with_define old d)
+    × (row ≡ row_for old d)
+DefinedAs old new d row (Some place) = (new ≡ old)
+    × (looked_row old d.class.loader d.class.name ≡ Some row)
 
 -- the class is recorded, by an event more unless its loader has recorded the name before (5.3.5)
 abbrev pub Defines : Shown → Shown → Drafted → Rowed → Type 0
-Defines old new d row = DefinedAs old new d row (recorded_definer (records_of old) d.class.loader d.class.name)
+Defines old new d row = DefinedAs old new d row
+    (recorded_definer (records_of old) d.class.loader d.class.name)
 
 -- a loader may be recorded as initiating: the home was found under this configuration, the loader is one of these, and the
 -- home has defined the class (5.3)
@@ -229,7 +243,8 @@ InitiatedAs old new h row (Some place) = (new ≡ old) × (looked_row old h.aske
 
 -- the loader that was asked is recorded, by an event more unless it has recorded the name before (5.3)
 abbrev pub Initiates : Shown → Shown → Located → Rowed → Type 0
-Initiates old new h row = InitiatedAs old new h row (recorded_definer (records_of old) h.asked h.name)
+Initiates old new h row = InitiatedAs old new h row
+    (recorded_definer (records_of old) h.asked h.name)
 
 -- an answer more, and its event
 abbrev pub with_post : Shown → ℕ → Answer → Shown

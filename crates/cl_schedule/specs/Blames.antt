@@ -16,9 +16,11 @@ use Rattle.cl_tasks.specs.Blames.{AnswerBlames}
 -- or of the class that its reference names (5.3.5, 5.4.3)
 abbrev pub IsAskedFor : Option Content → Configured → Request → Ask → Type 0
 IsAskedFor None c r a = Unit {0}
-IsAskedFor (Some content) c r a = (p : Plan) × IsPlan (world_of c content) (request_of r) p × Contains p.asked a
+IsAskedFor (Some content) c r a = (p : Plan) × IsPlan (world_of c content) (request_of r) p
+    × Contains p.asked a
 
 -- each answer that is a fault of the source blames whom the search for such a name asks (5.3.2)
 abbrev pub EachBlames : Option Content → Shown → Type 0
 EachBlames told x =
-    (q : ℕ) (r : Request) (a : Answer) → slice_get x.script.requests q ≡ Some r → slice_get x.answers q ≡ Some (Some a) → AnswerBlames x.config (IsAskedFor told x.config r) a
+    (q : ℕ) (r : Request) (a : Answer) → slice_get x.script.requests q ≡ Some r
+    → slice_get x.answers q ≡ Some (Some a) → AnswerBlames x.config (IsAskedFor told x.config r) a

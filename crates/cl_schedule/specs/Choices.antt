@@ -22,7 +22,8 @@ is_waiting s q r = nat_eq r.round s.round && is_none (answer_to s.answers q)
 -- of these requests, the first of which has this number, the numbers of those that wait
 abbrev pub waiting_from : State → ℕ → List Scheduled → List ℕ
 waiting_from s q [] = []
-waiting_from s q (r ∷ rs) = if is_waiting s q r then q ∷ waiting_from s (suc q) rs else waiting_from s (suc q) rs
+waiting_from s q (r ∷ rs) = if is_waiting s q r then q
+    ∷ waiting_from s (suc q) rs else waiting_from s (suc q) rs
 
 -- the numbers of the requests of the round that have no answer yet, in order
 abbrev pub waiting_requests : List Scheduled → State → List ℕ
@@ -32,7 +33,8 @@ waiting_requests script s = waiting_from s 0 script
 
 -- whom a choice takes: of k requests that wait, the one at the place which the choice leaves modulo k
 abbrev pub taken_by : List Scheduled → State → ℕ → Option ℕ
-taken_by script s choice = slice_get (waiting_requests script s) (choice % length (waiting_requests script s))
+taken_by script s choice = slice_get (waiting_requests script s)
+    (choice % length (waiting_requests script s))
 
 -- a choice takes this request
 pub record Takes (g : Setting) (s : State) (choice q : ℕ) (r : Scheduled) : Type 0 where
@@ -42,7 +44,8 @@ pub record Takes (g : Setting) (s : State) (choice q : ℕ) (r : Scheduled) : Ty
 -- a choice makes no step, or one piece of the service of the request that it takes: the next step of it, or its post
 abbrev pub Chooses : Setting → State → ℕ → List Step → Type 0
 Chooses g s choice [] = Unit {0}
-Chooses g s choice (e ∷ []) = (q : ℕ) × (r : Scheduled) × Takes g s choice q r × IsPiece g s q r.request e
+Chooses g s choice (e ∷ []) = (q : ℕ) × (r : Scheduled) × Takes g s choice q r
+    × IsPiece g s q r.request e
 Chooses g s choice (e ∷ more) = ⊥
 
 -- ---- pieces
@@ -57,7 +60,8 @@ pub record Piece : Type 0 where
 
 -- the piece of a choice in a state, with these steps and these rounds
 abbrev pub piece : List Scheduled → State → ℕ → List Step → List Step → Piece
-piece script s choice made rounds = record { taken = taken_by script s choice; state = s; made = made; rounds = rounds }
+piece script s choice made rounds = record { taken = taken_by script s choice; state = s;
+    made = made; rounds = rounds }
 
 -- it is what a choice may do in a state: what it makes, and then the rounds that may begin
 pub record IsPieceOf (g : Setting) (s : State) (choice : ℕ) (p : Piece) : Type 0 where
@@ -70,7 +74,8 @@ abbrev pub Plays : Setting → State → List ℕ → List Piece → Type 0
 Plays g s [] [] = Unit {0}
 Plays g s [] (p ∷ ps) = ⊥
 Plays g s (choice ∷ choices) [] = ⊥
-Plays g s (choice ∷ choices) (p ∷ ps) = IsPieceOf g s choice p × Plays g (state_after (state_after s p.made) p.rounds) choices ps
+Plays g s (choice ∷ choices) (p ∷ ps) = IsPieceOf g s choice p
+    × Plays g (state_after (state_after s p.made) p.rounds) choices ps
 
 -- the steps of pieces, in order
 abbrev pub steps_in : List Piece → List Step
@@ -99,12 +104,14 @@ first_taken q (p ∷ ps) = if is_of q p.taken then Some p.state else first_taken
 abbrev pub IsPrompt : List Scheduled → List Piece → Piece → Type 0
 IsPrompt script before p =
     (q : ℕ) (r : Scheduled) (s : State) (v : Verdict)
-    → p.taken ≡ Some q → 2 ≤ takings q before → slice_get script q ≡ Some r → first_taken q before ≡ Some s → HasVerdict s r.request v
+    → p.taken ≡ Some q → 2 ≤ takings q before → slice_get script q ≡ Some r
+    → first_taken q before ≡ Some s → HasVerdict s r.request v
     → (a : Answer) × SaysOrLacks v a × (p.made ≡ Post q a ∷ [])
 
 -- so it is with each piece: a request whose verdict the tables have when it is taken first has its answer by its third taking
 abbrev pub ArePrompt : List Scheduled → List Piece → Type 0
-ArePrompt script pieces = (before behind : List Piece) (p : Piece) → pieces ≡ before ++ p ∷ behind → IsPrompt script before p
+ArePrompt script pieces = (before behind : List Piece) (p : Piece) → pieces ≡ before ++ p ∷ behind
+    → IsPrompt script before p
 
 -- ---- a request that is taken as often as it costs
 
@@ -112,18 +119,21 @@ ArePrompt script pieces = (before behind : List Piece) (p : Piece) → pieces �
 abbrev pub IsInTime : Setting → List Piece → Piece → Type 0
 IsInTime g before p =
     (q : ℕ) (r : Scheduled) (plan : Plan)
-    → p.taken ≡ Some q → slice_get g.script q ≡ Some r → IsPlan g.world r.request plan → cost g.world plan ≤ takings q before + 1
+    → p.taken ≡ Some q → slice_get g.script q ≡ Some r → IsPlan g.world r.request plan
+    → cost g.world plan ≤ takings q before + 1
     → (a : Answer) × (p.made ≡ Post q a ∷ [])
 
 -- so it is with each piece: a request that was taken as often as its plan costs has its answer by then, whatever the others did between
 abbrev pub AreInTime : Setting → List Piece → Type 0
-AreInTime g pieces = (before behind : List Piece) (p : Piece) → pieces ≡ before ++ p ∷ behind → IsInTime g before p
+AreInTime g pieces = (before behind : List Piece) (p : Piece) → pieces ≡ before ++ p ∷ behind
+    → IsInTime g before p
 
 -- ---- the history of a schedule
 
 -- a history is that of these choices: the rounds that may begin, then the pieces of the choices. A request whose verdict the tables
 -- have when it is taken first has its answer by its third taking, and each has its own once it was taken as often as its plan costs
-pub record IsPlayedBy (g : Setting) (choices : List ℕ) (es rounds : List Step) (pieces : List Piece) : Type 0 where
+pub record IsPlayedBy (g : Setting) (choices : List ℕ) (es rounds : List Step)
+    (pieces : List Piece) : Type 0 where
   pub whole : es ≡ rounds ++ steps_in pieces
   pub passed : PassesRounds g start rounds
   pub played : Plays g (state_after start rounds) choices pieces
@@ -147,7 +157,8 @@ PlayedAs (Some content) x schedule = IsPlayed (machine x content) schedule (step
 
 -- the report of a script that was served as a schedule chose: the headline, the way that its history went, and whom a fault of the source
 -- blames (5.3 to 5.4.3)
-pub record IsSimulated (told : Option Content) (config : Configured) (script : Scripted) (schedule : List ℕ) (r : Report) : Type 0 where
+pub record IsSimulated (told : Option Content) (config : Configured) (script : Scripted)
+    (schedule : List ℕ) (r : Report) : Type 0 where
   pub served : IsServed told config script r
   pub played : PlayedAs told (reported_registry config r) schedule
   pub blames : EachBlames told (reported_registry config r)

@@ -51,13 +51,15 @@ ReferencesAlike (Some content) x =
 -- else (5.3.5)
 pub record CircleAnswer (w : World) (loader : ℕ) (name : List ℕ) (v : Verdict) : Type 0 where
   pub only : (c : Class) → v ≡ Wrong (ClassCircularity c) → EndsInCircle w loader name c
-  pub there : (c : Class) → EndsInCircle w loader name c → (v ≡ Wrong (ClassCircularity c)) ⊎ IsLinkageError v
+  pub there : (c : Class) → EndsInCircle w loader name c → (v ≡ Wrong (ClassCircularity c))
+      ⊎ IsLinkageError v
 
 -- each load that is answered with a verdict is answered so (5.3.5)
 abbrev pub CirclesExact : Option Content → Shown → Type 0
 CirclesExact None x = Unit {0}
 CirclesExact (Some content) x =
-    (q loader : ℕ) (name : List ℕ) (v : Verdict) → AnswersSo x q (requests.TheVariants.Load loader name) v
+    (q loader : ℕ) (name : List ℕ) (v : Verdict)
+    → AnswersSo x q (requests.TheVariants.Load loader name) v
     → CircleAnswer (machine x content).world loader name v
 
 -- the report of a script that was served in some order, or by threads, under a configuration. Where a content is told, the history is a run of the
@@ -65,7 +67,8 @@ CirclesExact (Some content) x =
 -- point, or with a failure; each class is spelled by its defining loader's bytes, equal requests and equal references are
 -- answered alike, and circles are told exactly. Under any source each request has one post, the last round has begun, the
 -- tables can be trusted, no loader records a name twice and no constraint is violated (5.3 to 5.4.3)
-pub record IsServed (told : Option Content) (config : Configured) (script : Scripted) (r : Report) : Type 0 where
+pub record IsServed (told : Option Content) (config : Configured) (script : Scripted)
+    (r : Report) : Type 0 where
   pub of_script : r.script.value ≡ script
   pub each_once : HasEachBelow (length script.requests) (posts r.history)
   pub named : IsNamed (length config.loaders) r
@@ -81,7 +84,8 @@ pub record IsServed (told : Option Content) (config : Configured) (script : Scri
 -- the report of a script that was served in order under a configuration: each request is posted in the script's order. Where a content is told,
 -- each one is served alone, and the next round begins as soon as it may. Under any source what the tables have of a request is its answer,
 -- and a fault of the source blames whom the search for a name asks, a name that its request asks for where a content is told (5.3 to 5.4.3)
-pub record IsServedInOrder (told : Option Content) (config : Configured) (script : Scripted) (r : Report) : Type 0 where
+pub record IsServedInOrder (told : Option Content) (config : Configured) (script : Scripted)
+    (r : Report) : Type 0 where
   pub served : IsServed told config script r
   pub posted : posts r.history ≡ range_with_len 0 (length script.requests)
   pub known : KnownStays (reported_registry config r)

@@ -27,7 +27,8 @@ abbrev pub SaysOrLacks : Verdict → Answer → Type 0
 SaysOrLacks v a = (a ≡ Said v) ⊎ (a ≡ OutOfMemory)
 
 -- a request was answered this verdict, or out of memory, by its post alone, and the source was left alone
-pub record IsToldAtOnce {S : Type 0} (old new : Shown) (q : ℕ) (v : Verdict) (source later : S) : Type 0 where
+pub record IsToldAtOnce {S : Type 0} (old new : Shown) (q : ℕ) (v : Verdict)
+    (source later : S) : Type 0 where
   pub answer : rust.Answer
   pub is : SaysOrLacks v (answer_of answer)
   pub posted : new ≡ with_post old q answer
@@ -36,12 +37,14 @@ pub record IsToldAtOnce {S : Type 0} (old new : Shown) (q : ℕ) (v : Verdict) (
 -- where the tables have a request's verdict it is answered so at once (5.3, 5.4.2, 5.4.3)
 abbrev pub TellsKnown : {S : Type 0} → Shown → Shown → ℕ → requests.Request → S → S → Type 0
 TellsKnown old new q r source later =
-    (v : Verdict) → HasVerdict (state_of old) (request_of r) v → IsToldAtOnce old new q v source later
+    (v : Verdict) → HasVerdict (state_of old) (request_of r) v
+    → IsToldAtOnce old new q v source later
 
 -- where the tables have a request's verdict when another one is posted, the request is answered so after that, or that memory
 -- ran out, under any source (5.3, 5.4.2, 5.4.3)
 abbrev pub KnownStays : Shown → Type 0
 KnownStays x =
     (before between behind : List Step) (p q : ℕ) (b a : Answer) (r : Scheduled) (v : Verdict)
-    → steps x ≡ before ++ Post p b ∷ (between ++ Post q a ∷ behind) → slice_get (schedule_of x.script) q ≡ Some r
+    → steps x ≡ before ++ Post p b ∷ (between ++ Post q a ∷ behind)
+    → slice_get (schedule_of x.script) q ≡ Some r
     → HasVerdict (state_after start before) r.request v → SaysOrLacks v a

@@ -19,7 +19,8 @@ use Rattle.cl_schedule.specs.Takings.{Measure}
 -- ---- a request that was begun
 
 -- where a content is told, this is the plan of a request in the world that it is of (5.3 to 5.4.3)
-pub record IsPlanIn (told : Option Content) (c : Configured) (r : plans.Request) (w : World) (p : Plan) : Type 0 where
+pub record IsPlanIn (told : Option Content) (c : Configured) (r : plans.Request) (w : World)
+    (p : Plan) : Type 0 where
   pub content : Content
   pub told_so : told ≡ Some content
   pub world : w ≡ world_of c content
@@ -31,7 +32,8 @@ HasFew w p s n t = calls_in t.calls w p s ≤ n
 
 -- a request that begins has no more calls left than it costs (5.3 to 5.4.3)
 abbrev pub StartsWithin : Option Content → Shown → Request → Tasked → Type 0
-StartsWithin told x r t = (w : World) (p : Plan) → IsPlanIn told x.config (request_of r) w p → HasFew w p (state_of x) (cost w p) t
+StartsWithin told x r t = (w : World) (p : Plan) → IsPlanIn told x.config (request_of r) w p
+    → HasFew w p (state_of x) (cost w p) t
 
 -- the call that a task waited for and those that it has left later are no more than it had left (5.3 to 5.4.3)
 abbrev pub PaysFor : Option Content → Shown → Request → Tasked → Tasked → Type 0

@@ -6,7 +6,8 @@ use Rattle.cl_schedule.specs.declared.choices.Room.{Room}
 use Rattle.cl_schedule.specs.declared.seats.Seat.{Seat}
 
 -- the task and the call of a place are a seat
-abbrev pub seat_of : {A : Type 0} → Option (Option Tasked) → Option (Option (Turn A)) → Option (Seat A)
+abbrev pub seat_of : {A : Type 0} → Option (Option Tasked) → Option (Option (Turn A))
+    → Option (Seat A)
 seat_of (Some (Some t)) (Some (Some u)) = Some (record { task = t; call = u })
 seat_of task call = None
 

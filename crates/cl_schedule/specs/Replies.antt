@@ -45,7 +45,8 @@ IsOfTables other = Unit {0}
 abbrev pub Shows : {A : Type 0} → Shown → Waits → Reply A → Type 0
 Shows x (Looking l n) (reply.Looked None) = LacksRecord x l n
 Shows x (Looking l n) reply.Memory = IsSome (recorded_definer (records_of x) l n)
-Shows x (LookingReference c i) (reply.LookedReference None) = settled_to (state_of x).settled c i ≡ None
+Shows x (LookingReference c i) (reply.LookedReference None) = settled_to
+    (state_of x).settled c i ≡ None
 Shows x (LookingReference c i) reply.Memory = IsSome (settled_to (state_of x).settled c i)
 Shows x (LookingPrepared c) (reply.LookedPrepared false) = Contains (state_of x).prepared c → ⊥
 Shows x (LookingPrepared c) reply.Memory = ⊥
@@ -68,7 +69,8 @@ PreparesBy (OfPreparation l given) e = e ≡ Prepare l.own.class
 
 -- a finding settles its reference by this step (5.4.3)
 abbrev pub SettlesBy : Shown → Answered → Step → Type 0
-SettlesBy x f e = (s : Settled) × IsToSettle x f s × (e ≡ Settle s.class s.index (verdict_of s.verdict))
+SettlesBy x f e = (s : Settled) × IsToSettle x f s
+    × (e ≡ Settle s.class s.index (verdict_of s.verdict))
 
 -- the equality at a place of a list is imposed by this step (5.3.4)
 abbrev pub ImposesBy : Listed → ℕ → Step → Type 0
@@ -102,7 +104,8 @@ reply_of (faults.Violates n) = Some (reply.Refused n)
 reply_of other = None
 
 -- a call was made: what it did, and what the task is told of it; a source is read by a read alone (5.3 to 5.4.3)
-pub record CallSays {A S : Type 0} (told : Option Content) (x new : Shown) (u : Turn A) (given : Reply A) (count later : ℕ) (since source : S) : Type 0 where
+pub record CallSays {A S : Type 0} (told : Option Content) (x new : Shown) (u : Turn A)
+    (given : Reply A) (count later : ℕ) (since source : S) : Type 0 where
   pub call : IsCall u
   pub replied : IsReplied new (call_of u) given
   pub did : Did x new (IsStepOf x u)

@@ -26,7 +26,8 @@ use Rattle.cl_schedule.specs.Takings.{ComesNearer, ChoiceKeeps}
 
 -- each request that has a seat waits with its task and its call
 abbrev pub AllSeated : {A : Type 0} → Option Content → Shown → Room A → Type 0
-AllSeated {A} told x room = (q : ℕ) (s : Seat A) (r : Request) → seat_at room q ≡ Some s → slice_get x.script.requests q ≡ Some r → IsSeated told x s.task s.call q r
+AllSeated {A} told x room = (q : ℕ) (s : Seat A) (r : Request) → seat_at room q ≡ Some s
+    → slice_get x.script.requests q ≡ Some r → IsSeated told x s.task s.call q r
 
 -- a place for each request, those that were begun in theirs, and who waits
 pub record IsRoom {A : Type 0} (told : Option Content) (x : Shown) (room : Room A) : Type 0 where
@@ -41,7 +42,8 @@ OpenSeats {A} x room = (q : ℕ) (s : Seat A) → seat_at room q ≡ Some s → 
 
 -- a request was taken from its place, and all else stayed
 pub record HasTaken {A : Type 0} (old new : Room A) (q : ℕ) : Type 0 where
-  pub tasks : (new.tasks.items ≡ old.tasks.items) ⊎ (new.tasks.items ≡ slice_set old.tasks.items q None)
+  pub tasks : (new.tasks.items ≡ old.tasks.items)
+      ⊎ (new.tasks.items ≡ slice_set old.tasks.items q None)
   pub calls : new.calls.items ≡ slice_set old.calls.items q None
   pub waiting : new.waiting.items ≡ old.waiting.items
   pub next : new.next ≡ old.next
@@ -71,7 +73,8 @@ PlaysIn (Some content) old new choice =
 -- the choices so far, after the rounds that began at first
 abbrev pub PlayedTo : Option Content → Shown → List ℕ → Type 0
 PlayedTo None x cs = Unit {0}
-PlayedTo (Some content) x cs = (rounds : List Step) × (pieces : List Piece) × IsPlayedBy (machine x content) cs (steps x) rounds pieces
+PlayedTo (Some content) x cs = (rounds : List Step) × (pieces : List Piece)
+    × IsPlayedBy (machine x content) cs (steps x) rounds pieces
 
 -- after the schedule the first request that waits was taken so often
 abbrev pub PlayedPast : Option Content → Shown → List ℕ → Type 0
@@ -81,7 +84,8 @@ PlayedPast told x cs = (more : ℕ) × PlayedTo told x (cs ++ replicate more 0)
 abbrev pub ChoosesIn : Option Content → Shown → Shown → ℕ → Type 0
 ChoosesIn None old new choice = Unit {0}
 ChoosesIn (Some content) old new choice =
-    (one : List Step) × (steps new ≡ steps old ++ one) × Chooses (machine old content) (state_of old) choice one
+    (one : List Step) × (steps new ≡ steps old ++ one)
+    × Chooses (machine old content) (state_of old) choice one
 
 -- turns that are left at most of a request that has this seat, or was not begun
 abbrev pub left_of : {A : Type 0} → Option (Seat A) → ℕ
@@ -110,16 +114,19 @@ abbrev pub TakesFirst : {A : Type 0} → ℕ → Room A → Room A → Type 0
 TakesFirst choice old new =
     choice ≡ 0 → (old.waiting.items ≡ [] → ⊥)
     → (room_sum new + 1 ≡ room_sum old)
-    ⊎ ((room_sum new ≡ room_sum old) × (new.waiting.items ≡ old.waiting.items) × (first_left new new.waiting.items < first_left old old.waiting.items))
+    ⊎ ((room_sum new ≡ room_sum old) × (new.waiting.items ≡ old.waiting.items)
+    × (first_left new new.waiting.items < first_left old old.waiting.items))
 
 -- the number fell, if the choice was the first request, and one waited
 abbrev pub FirstFalls : {A : Type 0} → ℕ → Room A → Room A → Type 0
-FirstFalls choice old new = choice ≡ 0 → (old.waiting.items ≡ [] → ⊥) → room_left new < room_left old
+FirstFalls choice old new = choice ≡ 0 → (old.waiting.items ≡ [] → ⊥)
+    → room_left new < room_left old
 
 -- ---- what is served
 
 -- a script is served by a registry and a room
-pub record IsServing {A : Type 0} (told : Option Content) (config : Configured) (script : Scripted) (x : Shown) (room : Room A) : Type 0 where
+pub record IsServing {A : Type 0} (told : Option Content) (config : Configured) (script : Scripted)
+    (x : Shown) (room : Room A) : Type 0 where
   -- the registry is of this configuration
   pub configured : x.config ≡ config
   -- and of this script
@@ -136,14 +143,16 @@ pub record IsServing {A : Type 0} (told : Option Content) (config : Configured) 
   pub blames : EachBlames told x
 
 -- it is served on
-pub record ServesOn {A : Type 0} (told : Option Content) (config : Configured) (script : Scripted) (old new : Shown) (was now : Room A) (before after : ℕ) : Type 0 where
+pub record ServesOn {A : Type 0} (told : Option Content) (config : Configured) (script : Scripted)
+    (old new : Shown) (was now : Room A) (before after : ℕ) : Type 0 where
   -- as it was
   pub serves : IsServing told config script new now
   -- as many answers more are faults of the source, or will be by the posts that are asked for, as the source's count rose by
   pub faults : CountGrows (debt old was) (debt new now) before after
 
 -- no choice was made yet
-pub record RoomIsOpened {A : Type 0} (told : Option Content) (x : Shown) (room : Room A) : Type 0 where
+pub record RoomIsOpened {A : Type 0} (told : Option Content) (x : Shown)
+    (room : Room A) : Type 0 where
   -- the history is the rounds that begin at first
   pub begun : PlayedTo told x []
   -- and no other round may
@@ -163,7 +172,8 @@ pub record RoomIsOver {A : Type 0} (x : Shown) (room : Room A) : Type 0 where
 -- ---- what a choice does with the request that it takes
 
 -- a request's call was made, and it waits with the next one
-pub record WaitsAgain {A : Type 0} (told : Option Content) (old new : Shown) (q left : ℕ) (s : Seat A) : Type 0 where
+pub record WaitsAgain {A : Type 0} (told : Option Content) (old new : Shown) (q left : ℕ)
+    (s : Seat A) : Type 0 where
   -- nothing changed, or the next step of its service was made
   pub advanced : HasAdvanced told old new q
   -- its next call may be made, and is what comes next
@@ -172,16 +182,19 @@ pub record WaitsAgain {A : Type 0} (told : Option Content) (old new : Shown) (q 
   pub less : s.task.left < left
 
 -- a request that had this seat, or none, was taken, and has this one now, or its answer
-pub record HasTurned {A : Type 0} (told : Option Content) (old new : Shown) (q : ℕ) (before after : Option (Seat A)) : Type 0 where
+pub record HasTurned {A : Type 0} (told : Option Content) (old new : Shown) (q : ℕ)
+    (before after : Option (Seat A)) : Type 0 where
   -- its answer was posted, or its call was made
-  pub did : MatchOption after (HasPosted told old new q) (WaitsAgain told old new q (left_of before))
+  pub did : MatchOption after (HasPosted told old new q)
+      (WaitsAgain told old new q (left_of before))
   -- where the tables have its verdict it is nearer to that, or it is its answer, or out of memory
   pub known : ComesNearer by_verdict old new q before after
   -- by its plan it has one call fewer left, or its answer
   pub paid : ComesNearer (by_plan told old.config) old new q before after
 
 -- behind any pieces a choice keeps how often each request is taken at most
-pub record KeepsTakings {A : Type 0} (told : Option Content) (old new : Shown) (was now : Room A) (choice : ℕ) : Type 0 where
+pub record KeepsTakings {A : Type 0} (told : Option Content) (old new : Shown) (was now : Room A)
+    (choice : ℕ) : Type 0 where
   -- where the tables have its verdict
   pub known : ChoiceKeeps by_verdict old new was now choice
   -- by its plan

@@ -58,16 +58,19 @@ TurnIsFor t other r = t.request ≡ Some r
 
 -- a turn follows the plan in a registry, where a content is told (5.3 to 5.4.3)
 abbrev pub FollowsIn : {A : Type 0} → Option Content → Shown → Request → Turn A → Type 0
-FollowsIn told y r u = (content : Content) → told ≡ Some content → Follows (machine y content) (state_of y) r u
+FollowsIn told y r u = (content : Content) → told ≡ Some content
+    → Follows (machine y content) (state_of y) r u
 
 -- where a content is told the tables bear the answer, if it may be posted (5.3 to 5.4.3)
 abbrev pub PostsIn : {A : Type 0} → Option Content → Shown → ℕ → Request → Turn A → Type 0
-PostsIn told y q r (turn.Post f) = (content : Content) → told ≡ Some content → MayPostUnder y q r → IsBacked y f
+PostsIn told y q r (turn.Post f) = (content : Content) → told ≡ Some content → MayPostUnder y q r
+    → IsBacked y f
 PostsIn told y q r other = Unit {0}
 
 -- a request was begun and waits with this call, which is no read: wherever the registry goes on to, what its task was told holds, the call
 -- may be made, and it is what comes next; its post at least is left (5.3 to 5.4.3)
-pub record IsSeated {A : Type 0} (told : Option Content) (x : Shown) (t : Tasked) (u : Turn A) (q : ℕ) (r : Request) : Type 0 where
+pub record IsSeated {A : Type 0} (told : Option Content) (x : Shown) (t : Tasked) (u : Turn A)
+    (q : ℕ) (r : Request) : Type 0 where
   pub config : t.config ≡ x.config
   pub asks : Asks t u
   pub for_request : TurnIsFor t u r
@@ -88,11 +91,13 @@ IsSeatedAt told x t u q = (r : Request) × MayPostUnder x q r × IsSeated told x
 
 -- a step is the next one of a request's service, where a content is told (5.3 to 5.4.3)
 abbrev pub NextIn : Option Content → Shown → Request → Step → Type 0
-NextIn told x r e = (content : Content) → told ≡ Some content → IsNextStep (machine x content) (state_of x) (request_of r) e
+NextIn told x r e = (content : Content) → told ≡ Some content
+    → IsNextStep (machine x content) (state_of x) (request_of r) e
 
 -- a request's service may end with an answer, where a content is told (5.3 to 5.4.3)
 abbrev pub EndsIn : Option Content → Shown → Request → Answer → Type 0
-EndsIn told x r a = (content : Content) → told ≡ Some content → MayEnd (machine x content) (state_of x) (request_of r) (answer_of a)
+EndsIn told x r a = (content : Content) → told ≡ Some content
+    → MayEnd (machine x content) (state_of x) (request_of r) (answer_of a)
 
 -- a request's call was made: nothing changed, or the next step of its service was made (5.3 to 5.4.3)
 pub record HasAdvanced (told : Option Content) (old new : Shown) (q : ℕ) : Type 0 where
@@ -116,7 +121,8 @@ IsCitedFor x (Settling r) (reply.Settled s) = (e : Cited) × (cited_by x r ≡ S
 IsCitedFor x waits other = Unit {0}
 
 -- what a task was told before a turn holds, and the turn is one for this request (5.3 to 5.4.3)
-pub record TaskIsReady {A : Type 0} (told : Option Content) (x : Shown) (t : Tasked) (given : Reply A) (r : Request) : Type 0 where
+pub record TaskIsReady {A : Type 0} (told : Option Content) (x : Shown) (t : Tasked)
+    (given : Reply A) (r : Request) : Type 0 where
   pub kept : IsKept told x
   pub config : t.config ≡ x.config
   pub request : t.request ≡ Some r
@@ -149,4 +155,5 @@ pub record AreOfRound (s : Scripted) (first : ℕ) (ws : List ℕ) (next : ℕ) 
   pub until : next ≡ first + length ws
   pub within : next ≤ length s.requests
   pub alike : (p : ℕ) → first ≤ p → p < next → slice_get s.rounds_of p ≡ slice_get s.rounds_of first
-  pub apart : next < length s.requests → slice_get s.rounds_of next ≡ slice_get s.rounds_of first → ⊥
+  pub apart : next < length s.requests → slice_get s.rounds_of next ≡ slice_get s.rounds_of first
+      → ⊥

@@ -26,41 +26,51 @@ pub record Measure (A : Type 0) : Type 1 where
   pub Says : Known → Answer → Type 0
 
 -- a request that has this seat, or was not begun, is taken at most so often from then on
-abbrev pub IsTakenWithin : {A : Type 0} (m : Measure A) → State → Request → m.Known → ℕ → Option (Seat A) → Type 0
+abbrev pub IsTakenWithin : {A : Type 0} (m : Measure A) → State → Request → m.Known → ℕ
+    → Option (Seat A) → Type 0
 IsTakenWithin m s r k n seat = MatchOption seat (m.all k ≤ n) (m.Within s r k n)
 
 -- the answer of the request of this number was posted, and rounds may have begun behind it
 abbrev pub PostsAnswerOf : {A : Type 0} (m : Measure A) → Shown → Shown → ℕ → m.Known → Type 0
-PostsAnswerOf m old new q k = (a : Answer) × (rounds : List Step) × m.Says k a × (steps new ≡ steps old ++ Post q a ∷ rounds)
+PostsAnswerOf m old new q k = (a : Answer) × (rounds : List Step) × m.Says k a
+    × (steps new ≡ steps old ++ Post q a ∷ rounds)
 
 -- a request that had this seat, or none, was taken: it has its answer, or is taken once less from then on
-abbrev pub ComesNearer : {A : Type 0} → Measure A → Shown → Shown → ℕ → Option (Seat A) → Option (Seat A) → Type 0
+abbrev pub ComesNearer : {A : Type 0} → Measure A → Shown → Shown → ℕ → Option (Seat A)
+    → Option (Seat A) → Type 0
 ComesNearer m old new q before after =
     (r : Request) (k : m.Known) (n : ℕ)
-    → slice_get old.script.requests q ≡ Some r → m.Fits (state_of old) (request_of r) k → IsTakenWithin m (state_of old) r k (suc n) before
+    → slice_get old.script.requests q ≡ Some r → m.Fits (state_of old) (request_of r) k
+    → IsTakenWithin m (state_of old) r k (suc n) before
     → MatchOption after (PostsAnswerOf m old new q k) (m.Within (state_of new) r k n)
 
 -- behind these pieces each request is taken no more often in all than was known of it when it was taken first
-pub record AreWithin {A : Type 0} (m : Measure A) (x : Shown) (room : Room A) (ps : List Piece) : Type 0 where
+pub record AreWithin {A : Type 0} (m : Measure A) (x : Shown) (room : Room A)
+    (ps : List Piece) : Type 0 where
   -- who was never taken was not begun
   pub untaken : (q : ℕ) → first_taken q ps ≡ None → seat_at room q ≡ None
   -- what was known of a request when it was taken first holds of it still
-  pub fits : (q : ℕ) (r : plans.Request) (k : m.Known) (s : State) → first_taken q ps ≡ Some s → m.Fits s r k → m.Fits (state_of x) r k
+  pub fits : (q : ℕ) (r : plans.Request) (k : m.Known) (s : State) → first_taken q ps ≡ Some s
+      → m.Fits s r k → m.Fits (state_of x) r k
   -- and where it has no answer it is taken at most as often as by that, but for the times that it was
   pub within : (q : ℕ) (r : Request) (k : m.Known) (s : State) (n : ℕ)
-      → slice_get x.script.requests q ≡ Some r → IsOpen x q → first_taken q ps ≡ Some s → m.Fits s (request_of r) k → m.all k ≤ takings q ps + n
+      → slice_get x.script.requests q ≡ Some r → IsOpen x q → first_taken q ps ≡ Some s
+      → m.Fits s (request_of r) k → m.all k ≤ takings q ps + n
       → IsTakenWithin m (state_of x) r k n (seat_at room q)
 
 -- the answer of whom a choice takes is posted, where by what is known of it it is taken no more often behind this
 abbrev pub PostsInTime : {A : Type 0} → Measure A → Shown → Shown → ℕ → List Piece → Type 0
 PostsInTime m old new choice ps =
     (q : ℕ) (r : Scheduled) (k : m.Known)
-    → taken_by (schedule_of old.script) (state_of old) choice ≡ Some q → slice_get (schedule_of old.script) q ≡ Some r
-    → m.Fits (unwrap_or (first_taken q ps) (state_of old)) r.request k → m.all k ≤ takings q ps + 1 → PostsAnswerOf m old new q k
+    → taken_by (schedule_of old.script) (state_of old) choice ≡ Some q
+    → slice_get (schedule_of old.script) q ≡ Some r
+    → m.Fits (unwrap_or (first_taken q ps) (state_of old)) r.request k → m.all k ≤ takings q ps + 1
+    → PostsAnswerOf m old new q k
 
 -- behind any pieces a choice keeps that so
 abbrev pub ChoiceKeeps : {A : Type 0} → Measure A → Shown → Shown → Room A → Room A → ℕ → Type 0
 ChoiceKeeps m old new was now choice =
     (ps : List Piece) → AreWithin m old was ps
     → PostsInTime m old new choice ps
-    × ((made rounds : List Step) → AreWithin m new now (ps ++ piece (schedule_of old.script) (state_of old) choice made rounds ∷ []))
+    × ((made rounds : List Step) → AreWithin m new now
+    (ps ++ piece (schedule_of old.script) (state_of old) choice made rounds ∷ []))

@@ -51,7 +51,8 @@ is_unrecorded s a = elim (recorded_definer s.records a.loader a.name) [
 
 -- what is still to be recorded, other than what is in hand; these were told to be unrecorded, and count so whatever was recorded since (5.3)
 abbrev pub is_to_record : State → List Ask → List Ask → Ask → Bool
-is_to_record s absent hand a = (list_any (same_ask a) absent || is_unrecorded s a) && not (list_any (same_ask a) hand)
+is_to_record s absent hand a = (list_any (same_ask a) absent || is_unrecorded s a)
+    && not (list_any (same_ask a) hand)
 
 -- a number, if this is so
 abbrev pub if_so : Bool → ℕ → ℕ
@@ -78,7 +79,8 @@ in_hand loader (x ∷ xs) = ask_of x.class.name loader ∷ ask_for x.class ∷ i
 abbrev pub hand_calls : ℕ → List Frame → ℕ
 hand_calls loader [] = 0
 hand_calls loader (x ∷ xs) =
-    (1 + away_calls loader x.class.loader) + (length (supers x.file) - (length x.accepted + 1)) + hand_calls x.class.loader xs
+    (1 + away_calls loader x.class.loader) + (length (supers x.file) - (length x.accepted + 1)) +
+    hand_calls x.class.loader xs
 
 -- ---- calls
 
@@ -100,7 +102,8 @@ calls_in n w p s =
 
 -- the same where no class is loaded any more
 abbrev pub past_loads : ℕ → ℕ → ℕ → Calls
-past_loads homes equalities more = record { opens = false; absent = []; hand = []; homes = homes; equalities = equalities; more = more }
+past_loads homes equalities more = record { opens = false; absent = []; hand = []; homes = homes;
+    equalities = equalities; more = more }
 
 -- past the load of a reference's class: two lineages, the equalities, that the reference is settled, and the post (5.4.3)
 abbrev pub reference_calls : Calls
@@ -116,7 +119,8 @@ own_calls (requests.Link loader name) = past_loads 2 1 4
 
 -- so many more before that, while classes are loaded; these were told to be unrecorded, and those are in hand
 abbrev pub while_loading : List Ask → List Ask → ℕ → Calls → Calls
-while_loading absent hand more n = record n { opens = true; absent = absent; hand = hand; more = more + n.more }
+while_loading absent hand more n = record n { opens = true; absent = absent; hand = hand;
+    more = more + n.more }
 
 -- from the beginning: a look for the class, and all that is to be recorded
 abbrev pub all_calls : Request → Calls

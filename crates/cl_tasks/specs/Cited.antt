@@ -15,7 +15,8 @@ use Rattle.cl_tasks.specs.declared.cited.Kind.TheVariants as kinds
 abbrev pub TellsReference : Reference → Asked → Type 0
 TellsReference r asked.Nothing = ⊥
 TellsReference r asked.ArrayMember = (class_named r ≡ None) × (nameless r ≡ states.ArrayMember)
-TellsReference r (asked.PrimitiveArray dims p) = (class_named r ≡ None) × (nameless r ≡ states.IsArrayOfBase dims (letter_of p))
+TellsReference r (asked.PrimitiveArray dims p) = (class_named r ≡ None)
+    × (nameless r ≡ states.IsArrayOfBase dims (letter_of p))
 TellsReference r (asked.Class name) = class_named r ≡ Some name
 
 -- what an entry asks for, if it is a reference (5.4.3)

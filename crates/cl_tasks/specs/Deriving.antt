@@ -16,9 +16,11 @@ use Rattle.cl_tasks.specs.Turns.{AreDerived}
 abbrev pub LoadDerives : {A : Type 0} → (Class → Type 0) → List Frame → Load A → Type 0
 LoadDerives absent before (loads.Fresh j) = AreDerived absent before (frames_of j.path)
 LoadDerives absent before (loads.Looking j) = AreDerived absent before (frames_of j.path)
-LoadDerives absent before (loads.Searching j s) = AreDerived absent before (frames_of j.path) × absent (sought_class j.path)
+LoadDerives absent before (loads.Searching j s) = AreDerived absent before (frames_of j.path)
+    × absent (sought_class j.path)
 LoadDerives absent before (loads.Homing j h) = AreDerived absent before (frames_of j.path)
-LoadDerives absent before (loads.Defining j x) = AreDerived absent before (frames_of j.path ++ frame_of x ∷ [])
+LoadDerives absent before (loads.Defining j x) = AreDerived absent before
+    (frames_of j.path ++ frame_of x ∷ [])
 LoadDerives absent before (loads.Initiating j h) = AreDerived absent before (frames_of j.path)
 
 -- the same of each stage: past the loads nothing is derived (5.3 to 5.4.3)

@@ -41,7 +41,8 @@ abbrev pub IsNoResolution : Request → Type 0
 IsNoResolution r = ResolvesReference r → ⊥
 
 -- the request's class is looked for once more
-pub record IsCheck {A : Type 0} (j : Job A) (r : Request) (loader : ℕ) (name : List ℕ) : Type 0 where
+pub record IsCheck {A : Type 0} (j : Job A) (r : Request) (loader : ℕ)
+    (name : List ℕ) : Type 0 where
   pub own : IsOwnTarget j.target
   pub same : r ≡ j.request
   pub index : ℕ
@@ -66,8 +67,10 @@ IsAftermath j (aftermaths.Settle e) = IsForEntry j e
 abbrev pub ConcludesBy : {A : Type 0} → ℕ → Aftermath A → Answered → Next A → Type 0
 ConcludesBy q aftermaths.Answer f n = n ≡ record { stage = stages.Done q; turn = turn.Post f }
 ConcludesBy q (aftermaths.Check r loader name) f n =
-    n ≡ record { stage = stages.Resolve (resolutions.Checking (record { q = q; request = r; finding = f })); turn = turn.Look loader name }
-ConcludesBy q (aftermaths.Settle e) f n = n ≡ record { stage = stages.Resolve (resolutions.Settling e); turn = turn.Settle f }
+    n ≡ record { stage = stages.Resolve (resolutions.Checking
+    (record { q = q; request = r; finding = f })); turn = turn.Look loader name }
+ConcludesBy q (aftermaths.Settle e) f n = n ≡ record
+    { stage = stages.Resolve (resolutions.Settling e); turn = turn.Settle f }
 
 -- the record that comes next is refused, and what it needs before it stands (5.3.4)
 pub record RefusedOn {A B : Type 0} (j : Job A) (n : NextRecord B) (x : Shown) : Type 0 where
@@ -84,7 +87,8 @@ EndRests {A} told p e =
 -- the refusal of the record that comes next on a path is that of each request that the path is for (5.3.4)
 abbrev pub NextRests : {A : Type 0} → Option Content → Pathed → NextRecord A → Type 0
 NextRests {A} told p n =
-    (r : Request) (t : Target A) (need : needs.Need) → IsFor r t p → IsSpeltIn told t → need_of need ≡ next_need n
+    (r : Request) (t : Target A) (need : needs.Need) → IsFor r t p → IsSpeltIn told t
+    → need_of need ≡ next_need n
     → Rests told (grounded_answer r (verdicts.Linkage need) (refused_at r t p n))
 
 -- the loader whose record comes next is one of so many: that of the class, or the one that was asked (5.3, 5.3.5)

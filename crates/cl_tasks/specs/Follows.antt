@@ -45,7 +45,8 @@ use Rattle.cl_findings.specs.Loads.{asked_record, own_record}
 
 -- the reference of a request is settled to this, where its loader records the class (5.4.3)
 abbrev pub IsSettledOf : Shown → Request → Settled → Type 0
-IsSettledOf x r s = (d : Class) → Records (state_of x) (loader_of r) (name_of r) d → IsSettledIn x d (resolved_index r) s
+IsSettledOf x r s = (d : Class) → Records (state_of x) (loader_of r) (name_of r) d
+    → IsSettledIn x d (resolved_index r) s
 
 -- what a call was answered holds: a class is recorded, a lineage is of the tables, a reference is settled, an equality is imposed,
 -- a class is prepared, or what was to stand is refused (5.3 to 5.4.3)
@@ -93,7 +94,8 @@ Backed x other = Unit {0}
 
 -- the tables of this configuration, which are consistent and name its loaders alone, bear a turn wherever what the task was told holds of them (5.3)
 abbrev pub BackedWhere : {A : Type 0} → Configured → (Shown → Type 0) → Turn A → Type 0
-BackedWhere c holds t = (x : Shown) → x.config ≡ c → NamesLoaders x → IsConsistent (state_of x) → holds x → Backed x t
+BackedWhere c holds t = (x : Shown) → x.config ≡ c → NamesLoaders x → IsConsistent (state_of x)
+    → holds x → Backed x t
 
 -- ---- the plan, where the source tells a content
 
@@ -105,7 +107,8 @@ pub record IsWanted (g : Setting) (s : State) (r : Request) (n : Need) : Type 0 
 -- the preparation of a class is the next step of the request's service, unless it is prepared (5.4.2)
 abbrev pub IsPreparedNext : Setting → State → Request → Sprung → Type 0
 IsPreparedNext g s r (OfReference d c index) = ⊥
-IsPreparedNext g s r (OfPreparation l given) = (Contains s.prepared l.own.class → ⊥) → IsNextStep g s (request_of r) (Prepare l.own.class)
+IsPreparedNext g s r (OfPreparation l given) = (Contains s.prepared l.own.class → ⊥)
+    → IsNextStep g s (request_of r) (Prepare l.own.class)
 
 -- what the reference of the request's class is settled to is the next step of its service, unless it is settled (5.4.3)
 pub record IsSettledNext (g : Setting) (s : State) (r : Request) (f : Answered) : Type 0 where
@@ -113,12 +116,14 @@ pub record IsSettledNext (g : Setting) (s : State) (r : Request) (f : Answered) 
   pub kept : Records s (loader_of r) (name_of r) class
   pub verdict : verdict.Verdict
   pub said : f.answer ≡ answers.Said verdict
-  pub step : settled_to s.settled class (resolved_index r) ≡ None → IsNextStep g s (request_of r) (Settle class (resolved_index r) (verdict_of verdict))
+  pub step : settled_to s.settled class (resolved_index r) ≡ None
+      → IsNextStep g s (request_of r) (Settle class (resolved_index r) (verdict_of verdict))
 
 -- the request's service has come to an answer, failures apart (5.3 to 5.4.3)
 abbrev pub AnswerFollows : Setting → State → Request → Answer → Type 0
 AnswerFollows g s r (answers.Said v) = ComesTo g s (request_of r) (verdict_of v)
-AnswerFollows g s r (answers.Shared settled) = ComesTo g s (request_of r) (verdict_of settled.value.verdict)
+AnswerFollows g s r (answers.Shared settled) = ComesTo g s (request_of r)
+    (verdict_of settled.value.verdict)
 AnswerFollows g s r answers.Memory = Unit {0}
 AnswerFollows g s r (answers.SourceFault name loader) = Unit {0}
 
@@ -126,7 +131,8 @@ AnswerFollows g s r (answers.SourceFault name loader) = Unit {0}
 -- preparation, what a reference is settled to, or the answer (5.3 to 5.4.3)
 abbrev pub Follows : {A : Type 0} → Setting → State → Request → Turn A → Type 0
 Follows g s r (turn.Define d) = IsWanted g s r (own_record d)
-Follows g s r (turn.Initiate h) = IsWanted g s r (asked_record h.value) × (h.value.asked ≡ h.value.place → ⊥)
+Follows g s r (turn.Initiate h) = IsWanted g s r (asked_record h.value)
+    × (h.value.asked ≡ h.value.place → ⊥)
 Follows g s r (turn.Settle f) = IsSettledNext g s r f
 Follows g s r (turn.Impose e k) = IsNextOf e.value k (IsWanted g s r)
 Follows g s r (turn.Mark e) = IsPreparedNext g s r e.value.origin
@@ -135,7 +141,8 @@ Follows g s r other = Unit {0}
 
 -- where a request is served: the setting is that of the content that is told, of this configuration and of a script, and all that the tables
 -- hold is as it should be in it (5.3 to 5.4.3)
-pub record ServedIn (told : Option Content) (c : Configured) (g : Setting) (s : State) : Type 0 where
+pub record ServedIn (told : Option Content) (c : Configured) (g : Setting)
+    (s : State) : Type 0 where
   pub content : Content
   pub script : Scripted
   pub told_so : told ≡ Some content
@@ -143,8 +150,10 @@ pub record ServedIn (told : Option Content) (c : Configured) (g : Setting) (s : 
   pub sound : IsSound g s
 
 -- a turn follows the plan wherever the request is served and this holds (5.3 to 5.4.3)
-abbrev pub FollowsWhere : {A : Type 0} → Option Content → Configured → (Shown → Type 0) → Request → Turn A → Type 0
-FollowsWhere told c holds r t = (g : Setting) (x : Shown) → ServedIn told c g (state_of x) → holds x → Follows g (state_of x) r t
+abbrev pub FollowsWhere : {A : Type 0} → Option Content → Configured → (Shown → Type 0) → Request
+    → Turn A → Type 0
+FollowsWhere told c holds r t = (g : Setting) (x : Shown) → ServedIn told c g (state_of x) → holds x
+    → Follows g (state_of x) r t
 
 -- ---- calls
 
@@ -155,9 +164,11 @@ made_by (Reading l n) = 0
 made_by waits = 1
 
 -- where the request is served, and this is its plan, so many calls are left at most, beside those made (5.3 to 5.4.3)
-abbrev pub CallsWithin : Option Content → Configured → (Shown → Type 0) → Request → ℕ → Calls → Calls → Type 0
+abbrev pub CallsWithin : Option Content → Configured → (Shown → Type 0) → Request → ℕ → Calls
+    → Calls → Type 0
 CallsWithin told c holds r made left room =
-    (g : Setting) (x : Shown) (p : Plan) → ServedIn told c g (state_of x) → IsPlan g.world (request_of r) p → holds x
+    (g : Setting) (x : Shown) (p : Plan) → ServedIn told c g (state_of x)
+    → IsPlan g.world (request_of r) p → holds x
     → made + calls_in left g.world p (state_of x) ≤ calls_in room g.world p (state_of x)
 
 -- no more calls are left than a request costs (5.3 to 5.4.3)
@@ -167,7 +178,9 @@ IsWithinCost n = (w : World) (p : Plan) (s : State) → calls_in n w p s ≤ cos
 -- the post is always left, and no more calls are where more is recorded
 pub record AreLeft (n : Calls) : Type 0 where
   pub post : (w : World) (p : Plan) (s : State) → 1 ≤ calls_in n w p s
-  pub fewer : (w : World) (p : Plan) (s t : State) → ((l : ℕ) (name : List ℕ) → recorded_definer t.records l name ≡ None → recorded_definer s.records l name ≡ None) → calls_in n w p t ≤ calls_in n w p s
+  pub fewer : (w : World) (p : Plan) (s t : State)
+      → ((l : ℕ) (name : List ℕ) → recorded_definer t.records l name ≡ None
+      → recorded_definer s.records l name ≡ None) → calls_in n w p t ≤ calls_in n w p s
 
 -- ---- faults
 
@@ -234,7 +247,8 @@ LooksAgain loader name (requests.Link l n) = ⊥
 -- a refused need is the answer, or what the reference is settled to, unless memory runs out; before a resolution is answered so, its class
 -- is looked for once more (5.3.4)
 abbrev pub EndsAsRefused : {A : Type 0} → Request → needs.Need → Turn A → Type 0
-EndsAsRefused {A} r n (turn.Post f) = PostsOr {A = A} (answers.Said (verdicts.Linkage n)) (turn.Post f)
+EndsAsRefused {A} r n (turn.Post f) = PostsOr {A = A} (answers.Said (verdicts.Linkage n))
+    (turn.Post f)
 EndsAsRefused {A} r n (turn.Settle f) = f.answer ≡ answers.Said (verdicts.Linkage n)
 EndsAsRefused {A} r n (turn.Look loader name) = LooksAgain loader name r
 EndsAsRefused {A} r n other = ⊥

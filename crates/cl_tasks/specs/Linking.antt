@@ -48,7 +48,8 @@ abbrev pub ListTold : {A : Type 0} → Chain A → Listed → ℕ → Shown → 
 ListTold k e place x = AreSo x (chain_facts k ++ (traced_facts e ++ imposed_facts e place))
 
 -- and the next one is refused (5.3.4)
-pub record RefusedTold {A : Type 0} (k : Chain A) (e : Listed) (place : ℕ) (need : Need) (x : Shown) : Type 0 where
+pub record RefusedTold {A : Type 0} (k : Chain A) (e : Listed) (place : ℕ) (need : Need)
+    (x : Shown) : Type 0 where
   pub before : ListTold k e place x
   pub now : Refused (state_of x) need
 

@@ -8,7 +8,8 @@ use Rattle.cl_hierarchy.specs.Repeats.{AcceptsAgain, CompletesAgain}
 -- the last class of a path accepted again what it had accepted before, as often as it came next, and wants another (5.3.5, steps 3 and 4)
 pub data PathGoesOn (told : Option Content) (old : Pathed) : Pathed → Type 0 where
   Here : PathGoesOn told old old
-  Again : (mid new : Pathed) → PathGoesOn told old mid → IsPath told mid → AcceptsAgain mid new → PathGoesOn told old new
+  Again : (mid new : Pathed) → PathGoesOn told old mid → IsPath told mid → AcceptsAgain mid new
+      → PathGoesOn told old new
 
 -- and so up to the last of its supertypes: its whole frame (5.3.5, step 5)
 pub record EndsAgain (told : Option Content) (old new : Pathed) (whole : Framed) : Type 0 where

@@ -34,7 +34,8 @@ abbrev pub EntryTold : {A : Type 0} → entries.Entry A → Shown → Type 0
 EntryTold e x = AreSo x (entry_facts e)
 
 -- what its entry was found to be settled to, if it was (5.4.3)
-pub record SettledTold {A : Type 0} (e : entries.Entry A) (settled : Option (Arc Settled Global)) (x : Shown) : Type 0 where
+pub record SettledTold {A : Type 0} (e : entries.Entry A) (settled : Option (Arc Settled Global))
+    (x : Shown) : Type 0 where
   pub before : EntryTold e x
   pub now : IfSome settled (λ s. IsSettledIn x e.d.value.class e.index s.value)
 
@@ -43,13 +44,16 @@ abbrev pub NamedTold : {A : Type 0} → entries.Entry A → Rowed → Shown → 
 NamedTold e c x = AreSo x (named_facts e.request e.d.value.class c.class)
 
 -- and this is the lineage of the class whose pool has the entry (5.3.5)
-pub record OwnTold {A : Type 0} (e : entries.Entry A) (c : Rowed) (own : Lined) (x : Shown) : Type 0 where
+pub record OwnTold {A : Type 0} (e : entries.Entry A) (c : Rowed) (own : Lined)
+    (x : Shown) : Type 0 where
   pub before : NamedTold e c x
   pub now : IsTraced x e.d.value.class own
 
 -- and this that of the class which it names (5.3.5)
-pub record TracedTold {A : Type 0} (e : entries.Entry A) (own named : Lined) (x : Shown) : Type 0 where
-  pub before : AreSo x (named_facts e.request e.d.value.class named.own.class ++ HasLineage own ∷ [])
+pub record TracedTold {A : Type 0} (e : entries.Entry A) (own named : Lined)
+    (x : Shown) : Type 0 where
+  pub before : AreSo x (named_facts e.request e.d.value.class named.own.class ++ HasLineage own
+      ∷ [])
   pub now : IsTraced x named.own.class named
 
 -- the first so many equalities of a member are imposed (5.3.4)
@@ -57,7 +61,8 @@ abbrev pub ImposedTold : {A : Type 0} → Member A → ℕ → Shown → Type 0
 ImposedTold m place x = AreSo x (member_facts m ++ imposed_facts m.equalities.value place)
 
 -- and the next one is refused (5.3.4)
-pub record MemberRefusedTold {A : Type 0} (m : Member A) (place : ℕ) (need : Need) (x : Shown) : Type 0 where
+pub record MemberRefusedTold {A : Type 0} (m : Member A) (place : ℕ) (need : Need)
+    (x : Shown) : Type 0 where
   pub before : ImposedTold m place x
   pub now : Refused (state_of x) need
 
@@ -85,11 +90,13 @@ HasNamed e name = CitesClass (file_of e.d.value.file) e.index name
 -- the entry is the class of a name, or an array of it of so many dimensions (5.4.3.1)
 pub record HasItself {A : Type 0} (e : entries.Entry A) (name : List ℕ) (dims : ℕ) : Type 0 where
   pub named : HasNamed e name
-  pub itself : (r : Reference) → reference (file_of e.d.value.file) e.index ≡ Some r → IsToClass dims r
+  pub itself : (r : Reference) → reference (file_of e.d.value.file) e.index ≡ Some r
+      → IsToClass dims r
 
 -- what such an entry of the class of a row d is resolved to by the class of a row c (5.4.3.1, 5.4.4)
 pub record IsItself (d c : Rowed) (dims : ℕ) (v : verdict.Verdict) : Type 0 where
-  pub ends : (r : Reference) → IsToClass dims r → EndsAtClass (row_accessible c d.class) r c.class (verdict_of v)
+  pub ends : (r : Reference) → IsToClass dims r
+      → EndsAtClass (row_accessible c d.class) r c.class (verdict_of v)
   pub settled : IsSettledKind v
 
 -- the entry at an index of the class of one lineage names that of the other (5.4.3.1)
@@ -102,7 +109,8 @@ pub record IsRefusedAccess {A : Type 0} (e : entries.Entry A) (own named : Lined
   pub refused : row_accessible named.own own.own.class ≡ false
 
 -- the IllegalAccessError of the class of one lineage, with the rows of both (5.4.4)
-pub record IsInaccessible {A : Type 0} (config : Configured) (own named : Lined) (end : Inaccessible A) : Type 0 where
+pub record IsInaccessible {A : Type 0} (config : Configured) (own named : Lined)
+    (end : Inaccessible A) : Type 0 where
   pub config_is : end.config.value ≡ config
   pub own_is : end.d.value ≡ own.own
   pub named_is : end.named.value ≡ named.own

@@ -43,8 +43,10 @@ abbrev pub calls_at : {A : Type 0} → Phase → Job A → ℕ → Calls
 calls_at Fresh j place = job_calls [] [] 1 j
 calls_at Looking j place = job_calls (sought_ask j.path ∷ []) [] 0 j
 calls_at Reading j place = job_calls (sought_ask j.path ∷ []) [] 0 j
-calls_at Homing j place = job_calls (ask_of (at_name j.path) place ∷ []) (away_hand j.path place) (away_calls (at_loader j.path) place) j
-calls_at Defining j place = job_calls [] (away_hand j.path place) (away_calls (at_loader j.path) place) j
+calls_at Homing j place = job_calls (ask_of (at_name j.path) place ∷ []) (away_hand j.path place)
+    (away_calls (at_loader j.path) place) j
+calls_at Defining j place = job_calls [] (away_hand j.path place)
+    (away_calls (at_loader j.path) place) j
 calls_at Initiating j place = job_calls [] [] 0 j
 
 -- a job whose look at this home was answered: it found nothing, or what it looked for (5.3)
@@ -76,7 +78,8 @@ tracing_named_room = room_of tracing_named_left (past_loads 0 1 2)
 -- the equalities of a member before a place are imposed (5.4.3)
 abbrev pub imposing_room : {A : Type 0} → Member A → ℕ → Room
 imposing_room m place =
-    room_of (imposing_left (length m.equalities.value.needs - place) + 1) (past_loads 0 0 ((length m.equalities.value.needs - place) + 2))
+    room_of (imposing_left (length m.equalities.value.needs - place) + 1)
+    (past_loads 0 0 ((length m.equalities.value.needs - place) + 2))
 
 -- ---- links
 
@@ -90,11 +93,13 @@ whole_room = room_of whole_left (past_loads 2 1 2)
 
 -- the classes of the lineage before a place are linked, and were all prepared before (5.4)
 abbrev pub asking_room : {A : Type 0} → Chain A → Room
-asking_room k = room_of (chain_left (behind k) + 2) (past_loads 0 0 (chain_calls k.whole k.place + 2))
+asking_room k = room_of (chain_left (behind k) + 2)
+    (past_loads 0 0 (chain_calls k.whole k.place + 2))
 
 -- the same where that at the place is not (5.4)
 abbrev pub chain_room : {A : Type 0} → Chain A → Room
-chain_room k = room_of (chain_left (behind k) + 1) (past_loads 0 0 (chain_calls k.whole k.place + 1))
+chain_room k = room_of (chain_left (behind k) + 1)
+    (past_loads 0 0 (chain_calls k.whole k.place + 1))
 
 -- and the lineage of the class at the place was had (5.4.2)
 abbrev pub listed_room : {A : Type 0} → Chain A → Room
@@ -103,8 +108,10 @@ listed_room k = room_of (chain_left (behind k)) (past_loads 0 0 (chain_calls k.w
 -- and its equalities before a place are imposed (5.4.2)
 abbrev pub linking_room : {A : Type 0} → Chain A → Listed → ℕ → Room
 linking_room k e place =
-    room_of (linking_left (behind k - 1) (length e.needs - place) + 1) (past_loads 0 0 (list_calls k.whole k.place (length e.needs - place)))
+    room_of (linking_left (behind k - 1) (length e.needs - place) + 1)
+    (past_loads 0 0 (list_calls k.whole k.place (length e.needs - place)))
 
 -- and it was prepared (5.4.2)
 abbrev pub marked_room : {A : Type 0} → Chain A → Room
-marked_room k = room_of (linking_left (behind k - 1) 0) (past_loads 0 0 (chain_calls k.whole (k.place + 1) + 1))
+marked_room k = room_of (linking_left (behind k - 1) 0)
+    (past_loads 0 0 (chain_calls k.whole (k.place + 1) + 1))

@@ -81,7 +81,8 @@ sought_ask p = ask_of (at_name p) (at_loader p)
 -- follows its load (5.3 to 5.4.3)
 abbrev pub job_calls : {A : Type 0} → List Ask → List Ask → ℕ → Job A → Calls
 job_calls absent beside more j =
-    while_loading absent (beside ++ in_hand j.path.loader (frames_of j.path)) (hand_calls j.path.loader (frames_of j.path) + more) (past_calls j.request j.target)
+    while_loading absent (beside ++ in_hand j.path.loader (frames_of j.path))
+    (hand_calls j.path.loader (frames_of j.path) + more) (past_calls j.request j.target)
 
 -- a task that loads a class
 abbrev pub at_work : {A : Type 0} → Configured → Waits → Phase → ℕ → Calls → Job A → Tasked
@@ -100,20 +101,30 @@ at_work c w phase probes calls j = record {
 -- what contracts see of a load; a class that is being recorded is the last of those that are derived
 abbrev pub loading_at : {A : Type 0} → Configured → Load A → Tasked
 loading_at c (loads.Fresh j) = at_work c waits.Beginning Fresh 0 (job_calls [] [] 1 j) j
-loading_at c (loads.Looking j) = at_work c (waits.Looking (at_loader j.path) (at_name j.path)) Looking 0 (job_calls [] [] 1 j) j
+loading_at c (loads.Looking j) = at_work c (waits.Looking (at_loader j.path) (at_name j.path))
+    Looking 0 (job_calls [] [] 1 j) j
 loading_at c (loads.Searching j s) =
-    record (at_work c (waits.Reading (next_loader s) (at_name j.path)) Reading (probes_left s) (job_calls (sought_ask j.path ∷ []) [] 0 j) j) { absent = Some (sought_class j.path) }
-loading_at c (loads.Homing j h) = at_work c (waits.Looking h.place (at_name j.path)) Homing 0 (job_calls [] (sought_ask j.path ∷ []) 2 j) j
+    record (at_work c (waits.Reading (next_loader s) (at_name j.path)) Reading (probes_left s)
+    (job_calls (sought_ask j.path ∷ []) [] 0 j) j) { absent = Some (sought_class j.path) }
+loading_at c (loads.Homing j h) = at_work c (waits.Looking h.place (at_name j.path)) Homing 0
+    (job_calls [] (sought_ask j.path ∷ []) 2 j) j
 loading_at c (loads.Defining j x) =
-    record (at_work c (waits.Defining x.draft) Defining 0 (job_calls [] (sought_ask j.path ∷ ask_for x.draft.class ∷ []) (1 + away_calls (at_loader j.path) x.draft.class.loader) j) j) { frames = frames_of j.path ++ frame_of x ∷ [] }
+    record (at_work c (waits.Defining x.draft) Defining 0
+    (job_calls [] (sought_ask j.path ∷ ask_for x.draft.class ∷ [])
+    (1 + away_calls (at_loader j.path) x.draft.class.loader) j) j)
+    { frames = frames_of j.path ++ frame_of x ∷ [] }
 loading_at c (loads.Initiating j h) =
-    record (at_work c (waits.Initiating h.value) Initiating 0 (job_calls [] (sought_ask j.path ∷ []) 1 j) j) { facts = Stands (home_record h.value) ∷ target_facts j.request j.target }
+    record (at_work c (waits.Initiating h.value) Initiating 0
+    (job_calls [] (sought_ask j.path ∷ []) 1 j) j)
+    { facts = Stands (home_record h.value) ∷ target_facts j.request j.target }
 
 -- ---- resolutions
 
 -- a task whose request's class is recorded, or cannot be
 abbrev pub settled_down : Configured → ℕ → Request → Waits → List Fact → ℕ → Calls → Tasked
-settled_down c q r w facts left calls = record { config = c; q = q; request = Some r; waits = w; frames = []; absent = None; facts = facts; left = left; calls = calls }
+settled_down c q r w facts left calls = record
+    { config = c; q = q; request = Some r; waits = w; frames = []; absent = None; facts = facts;
+    left = left; calls = calls }
 
 -- the need that is refused, if one is (5.3.4)
 abbrev pub refused_facts : Option Need → List Fact
@@ -140,20 +151,31 @@ imposed_facts e k = map (λ n. Stands n) (take k (needs_of e.needs))
 -- of a member the two classes are recorded, and these are their lineages (5.4.3.2 to 5.4.3.4)
 abbrev pub member_facts : {A : Type 0} → Member A → List Fact
 member_facts m =
-    named_facts m.entry.request m.found.d.own.class m.found.c.own.class ++ HasLineage m.found.d ∷ HasLineage m.found.c ∷ []
+    named_facts m.entry.request m.found.d.own.class m.found.c.own.class ++ HasLineage m.found.d
+    ∷ HasLineage m.found.c ∷ []
 
 -- what contracts see of a resolution
 abbrev pub resolving_at : {A : Type 0} → Configured → Resolution A → Tasked
 resolving_at c (resolutions.Checking f) =
-    settled_down c f.q f.request (waits.Looking (loader_of f.request) (name_of f.request)) (basis_facts f.finding.basis) checking_left (past_loads 0 0 2)
-resolving_at c (resolutions.LookingReference e) = settled_down c e.q e.request (waits.LookingReference e.d.value.class e.index) (entry_facts e) reference_left (while_loading [] [] 2 reference_calls)
+    settled_down c f.q f.request (waits.Looking (loader_of f.request) (name_of f.request))
+    (basis_facts f.finding.basis) checking_left (past_loads 0 0 2)
+resolving_at c (resolutions.LookingReference e) = settled_down c e.q e.request
+    (waits.LookingReference e.d.value.class e.index) (entry_facts e) reference_left
+    (while_loading [] [] 2 reference_calls)
 resolving_at c (resolutions.TracingOwn e k) =
-    settled_down c e.q e.request (waits.Tracing e.d.value.class) (named_facts e.request e.d.value.class k.value.class) tracing_own_left reference_calls
+    settled_down c e.q e.request (waits.Tracing e.d.value.class)
+    (named_facts e.request e.d.value.class k.value.class) tracing_own_left reference_calls
 resolving_at c (resolutions.TracingNamed e l k) =
-    settled_down c e.q e.request (waits.Tracing k.value.class) (named_facts e.request e.d.value.class k.value.class ++ HasLineage l ∷ []) tracing_named_left (past_loads 0 1 3)
+    settled_down c e.q e.request (waits.Tracing k.value.class)
+    (named_facts e.request e.d.value.class k.value.class ++ HasLineage l ∷ []) tracing_named_left
+    (past_loads 0 1 3)
 resolving_at c (resolutions.Imposing m k) =
-    settled_down c m.entry.q m.entry.request (waits.Imposing m.equalities.value k) (member_facts m ++ imposed_facts m.equalities.value k) (imposing_left (length m.equalities.value.needs - k)) (past_loads 0 0 ((length m.equalities.value.needs - k) + 2))
-resolving_at c (resolutions.Settling e) = settled_down c e.q e.request (waits.Settling e.request) (entry_facts e) settling_left (past_loads 0 0 2)
+    settled_down c m.entry.q m.entry.request (waits.Imposing m.equalities.value k)
+    (member_facts m ++ imposed_facts m.equalities.value k)
+    (imposing_left (length m.equalities.value.needs - k))
+    (past_loads 0 0 ((length m.equalities.value.needs - k) + 2))
+resolving_at c (resolutions.Settling e) = settled_down c e.q e.request (waits.Settling e.request)
+    (entry_facts e) settling_left (past_loads 0 0 2)
 
 -- ---- links
 
@@ -167,7 +189,8 @@ classes_in l = map (λ r. r.class) (rows_in l)
 
 -- this is the lineage of the class that is linked, and those before a place in it are prepared (5.4)
 abbrev pub chain_facts : {A : Type 0} → Chain A → List Fact
-chain_facts c = goal_facts c.goal ++ (HasLineage c.whole ∷ map (λ k. IsPrepared k) (take c.place (classes_in c.whole)))
+chain_facts c = goal_facts c.goal ++ (HasLineage c.whole
+    ∷ map (λ k. IsPrepared k) (take c.place (classes_in c.whole)))
 
 -- the class at a place of a lineage; the last one past the end
 abbrev pub class_in : Lined → ℕ → Class
@@ -196,21 +219,30 @@ list_calls l place equalities = chain_calls l (place + 1) + (equalities + 2)
 
 -- what contracts see of a link
 abbrev pub linking_at : {A : Type 0} → Configured → Link A → Tasked
-linking_at c (links.LookingPrepared g) = settled_down c g.q g.request (waits.LookingPrepared g.class.value.class) (goal_facts g) prepared_left (past_loads 2 1 4)
-linking_at c (links.TracingWhole g) = settled_down c g.q g.request (waits.Tracing g.class.value.class) (goal_facts g) whole_left (past_loads 2 1 3)
-linking_at c (links.Asking k) = settled_down c k.goal.q k.goal.request (waits.LookingPrepared (class_in k.whole k.place)) (chain_facts k) (chain_left (behind k) + 1) (past_loads 0 0 (chain_calls k.whole k.place + 2))
+linking_at c (links.LookingPrepared g) = settled_down c g.q g.request
+    (waits.LookingPrepared g.class.value.class) (goal_facts g) prepared_left (past_loads 2 1 4)
+linking_at c (links.TracingWhole g) = settled_down c g.q g.request
+    (waits.Tracing g.class.value.class) (goal_facts g) whole_left (past_loads 2 1 3)
+linking_at c (links.Asking k) = settled_down c k.goal.q k.goal.request
+    (waits.LookingPrepared (class_in k.whole k.place)) (chain_facts k) (chain_left (behind k) + 1)
+    (past_loads 0 0 (chain_calls k.whole k.place + 2))
 linking_at c (links.Imposing k e i) =
-    settled_down c k.goal.q k.goal.request (waits.Imposing e.value i) (chain_facts k ++ (traced_facts e.value ++ imposed_facts e.value i)) (linking_left (behind k - 1) (length e.value.needs - i))
+    settled_down c k.goal.q k.goal.request (waits.Imposing e.value i)
+    (chain_facts k ++ (traced_facts e.value ++ imposed_facts e.value i))
+    (linking_left (behind k - 1) (length e.value.needs - i))
     (past_loads 0 0 (list_calls k.whole k.place (length e.value.needs - i)))
 linking_at c (links.Marking k e) =
-    settled_down c k.goal.q k.goal.request (waits.Marking e.value) (chain_facts k ++ (traced_facts e.value ++ imposed_facts e.value (length e.value.needs))) (linking_left (behind k - 1) 0)
+    settled_down c k.goal.q k.goal.request (waits.Marking e.value)
+    (chain_facts k ++ (traced_facts e.value ++ imposed_facts e.value (length e.value.needs)))
+    (linking_left (behind k - 1) 0)
     (past_loads 0 0 (list_calls k.whole k.place 0))
 
 -- ---- all
 
 -- a task whose request has its answer
 abbrev pub done_at : Configured → ℕ → Tasked
-done_at c q = record { config = c; q = q; request = None; waits = waits.Ended; frames = []; absent = None; facts = []; left = 0; calls = past_loads 0 0 1 }
+done_at c q = record { config = c; q = q; request = None; waits = waits.Ended; frames = [];
+    absent = None; facts = []; left = 0; calls = past_loads 0 0 1 }
 
 -- what contracts see of each stage
 abbrev pub task_at : {A : Type 0} → Configured → Stage A → Tasked
@@ -274,7 +306,8 @@ IsFailure (verdicts.Linkage n) = Unit {0}
 IsFailure other = ⊥
 
 -- the load of the class of a resolution ends in a verdict, whatever the request asks past it (5.3, 5.4.3)
-pub record IsFailed {A : Type 0} (told : Option Content) (c : Configured) (f : Failed A) : Type 0 where
+pub record IsFailed {A : Type 0} (told : Option Content) (c : Configured)
+    (f : Failed A) : Type 0 where
   pub index : ℕ
   pub resolves : Resolves f.request (name_of f.request) index
   pub same : f.finding.request ≡ f.request

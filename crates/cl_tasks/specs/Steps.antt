@@ -33,7 +33,8 @@ use Rattle.cl_tasks.specs.declared.turn.Turn.TheVariants as turn
 
 -- where this holds, and now this, the request of this number goes on with this turn and stage, and fewer turns are left than there is room for, and
 -- no more calls (5.3 to 5.4.3)
-pub record LeadsOn {A : Type 0} (told : Option Content) (c : Configured) (q : ℕ) (r : Request) (room : Room) (holds now : Shown → Type 0) (n : Next A) : Type 0 where
+pub record LeadsOn {A : Type 0} (told : Option Content) (c : Configured) (q : ℕ) (r : Request)
+    (room : Room) (holds now : Shown → Type 0) (n : Next A) : Type 0 where
   pub kept : IsStage told c n.stage
   pub number : (task_at c n.stage).q ≡ q
   pub asks : Asks (task_at c n.stage) n.turn
@@ -45,7 +46,8 @@ pub record LeadsOn {A : Type 0} (told : Option Content) (c : Configured) (q : �
   pub follows : FollowsWhere told c holds r n.turn
 
 -- the same where what holds now is no more (5.3 to 5.4.3)
-abbrev pub LeadsBy : {A : Type 0} → Option Content → Configured → ℕ → Request → Room → (Shown → Type 0) → Next A → Type 0
+abbrev pub LeadsBy : {A : Type 0} → Option Content → Configured → ℕ → Request → Room
+    → (Shown → Type 0) → Next A → Type 0
 LeadsBy told c q r room holds n = LeadsOn told c q r room holds holds n
 
 -- the same of a job (5.3.5)
@@ -53,20 +55,27 @@ abbrev pub Leads : {A : Type 0} → Option Content → Job A → Room → (Shown
 Leads told j room holds n = LeadsBy told j.path.config j.q j.request room holds n
 
 -- a job that is in this phase leads on (5.3.5)
-abbrev pub LeadsAt : {A : Type 0} → Option Content → Phase → Job A → (Shown → Type 0) → Next A → Type 0
-LeadsAt told phase j holds n = Leads told j (room_of (room_at phase j 0) (calls_at phase j 0)) holds n
+abbrev pub LeadsAt : {A : Type 0} → Option Content → Phase → Job A → (Shown → Type 0) → Next A
+    → Type 0
+LeadsAt told phase j holds n = Leads told j (room_of (room_at phase j 0) (calls_at phase j 0)) holds
+    n
 
 -- the same where this is the home of what is looked for (5.3.2, 5.3.5)
-abbrev pub LeadsFrom : {A : Type 0} → Option Content → Phase → Job A → ℕ → (Shown → Type 0) → Next A → Type 0
-LeadsFrom told phase j place holds n = Leads told j (room_of (room_at phase j 0) (calls_at phase j place)) holds n
+abbrev pub LeadsFrom : {A : Type 0} → Option Content → Phase → Job A → ℕ → (Shown → Type 0) → Next A
+    → Type 0
+LeadsFrom told phase j place holds n = Leads told j
+    (room_of (room_at phase j 0) (calls_at phase j place)) holds n
 
 -- the same of what a look at its home found (5.3, 5.3.2)
-abbrev pub LeadsHome : {A B : Type 0} → Option Content → Job A → ℕ → Option B → (Shown → Type 0) → Next A → Type 0
-LeadsHome told j place found holds n = Leads told j (room_of (room_at Homing j 0) (calls_found j place found)) holds n
+abbrev pub LeadsHome : {A B : Type 0} → Option Content → Job A → ℕ → Option B → (Shown → Type 0)
+    → Next A → Type 0
+LeadsHome told j place found holds n = Leads told j
+    (room_of (room_at Homing j 0) (calls_found j place found)) holds n
 
 -- a job that has so many probes left leads on (5.3.2, 5.3.5)
 abbrev pub ReadsOn : {A : Type 0} → Option Content → ℕ → Job A → (Shown → Type 0) → Next A → Type 0
-ReadsOn told probes j holds n = Leads told j (room_of (room_at Reading j probes) (calls_at Reading j 0)) holds n
+ReadsOn told probes j holds n = Leads told j (room_of (room_at Reading j probes)
+    (calls_at Reading j 0)) holds n
 
 -- the room of a task
 abbrev pub task_room : Tasked → Room
@@ -74,7 +83,8 @@ task_room t = record { turns = t.left; made = made_by t.waits; calls = t.calls }
 
 -- the same of a task that is told this (5.3 to 5.4.3)
 abbrev pub StepsOn : {A : Type 0} → Option Content → Tasked → Reply A → Next A → Type 0
-StepsOn told t reply n = IfSome t.request (λ r. LeadsOn told t.config t.q r (task_room t) (λ x. Tells x t reply) (λ x. TellsNow x t reply) n)
+StepsOn told t reply n = IfSome t.request (λ r. LeadsOn told t.config t.q r (task_room t)
+    (λ x. Tells x t reply) (λ x. TellsNow x t reply) n)
 
 -- what a job was told holds: the same as at its beginning (5.3, 5.3.5, 5.4.3)
 abbrev pub HoldsOn : {A : Type 0} → Job A → Shown → Type 0
@@ -142,12 +152,14 @@ ReadsAt p is other = Unit {0}
 
 -- memory ran out
 abbrev pub memory_ends : {A : Type 0} → ℕ → Request → Next A
-memory_ends q r = record { stage = stages.Done q; turn = turn.Post (ungrounded_answer r answers.Memory) }
+memory_ends q r = record { stage = stages.Done q; turn = turn.Post
+    (ungrounded_answer r answers.Memory) }
 
 -- a class is being recorded, whose frame is kept, or memory ran out (5.3.5, step 5)
 abbrev pub DefinesBy : {A : Type 0} → Job A → Framed → Next A → Type 0
 DefinesBy j whole n =
-    (n ≡ memory_ends j.q j.request) ⊎ (n ≡ record { stage = stages.Load (loads.Defining j whole); turn = turn.Define whole.draft })
+    (n ≡ memory_ends j.q j.request) ⊎ (n ≡ record
+    { stage = stages.Load (loads.Defining j whole); turn = turn.Define whole.draft })
 
 -- what is looked for is looked up where it is asked for, or memory ran out (5.3)
 abbrev pub LooksBy : {A : Type 0} → Job A → Stage A → Turn A → Type 0
@@ -156,7 +168,8 @@ LooksBy j s (turn.Post f) = f.answer ≡ answers.Memory
 LooksBy j s other = ⊥
 
 -- what a task does on a reply: it leads on, and refusals, memory, reads, what is derived and its own class are dealt with as they are to be (5.3 to 5.4.3)
-pub record Steps {A : Type 0} (told : Option Content) (t : Tasked) (reply : Reply A) (n : Next A) : Type 0 where
+pub record Steps {A : Type 0} (told : Option Content) (t : Tasked) (reply : Reply A)
+    (n : Next A) : Type 0 where
   pub leads : StepsOn told t reply n
   pub refused : Refuses (refusal t reply) n.turn
   pub linkage : EndsRefused t.request reply n.turn

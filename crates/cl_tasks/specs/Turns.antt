@@ -52,7 +52,8 @@ IsReplyTo config (Defining d) (reply.Defined row) = Unit {0}
 IsReplyTo config (Initiating h) (reply.Initiated row) = Unit {0}
 IsReplyTo config (Tracing c) (reply.Lineage l) = IsOf config c l
 IsReplyTo config (LookingReference c i) (reply.LookedReference None) = Unit {0}
-IsReplyTo config (LookingReference c i) (reply.LookedReference (Some s)) = (s.value.class ≡ c) × (s.value.index ≡ i)
+IsReplyTo config (LookingReference c i) (reply.LookedReference (Some s)) = (s.value.class ≡ c)
+    × (s.value.index ≡ i)
 IsReplyTo config (Settling r) (reply.Settled s) = IsSettledFor r s.value
 IsReplyTo config (Imposing e k) reply.Imposed = Unit {0}
 IsReplyTo config (LookingPrepared c) (reply.LookedPrepared b) = Unit {0}
@@ -113,7 +114,8 @@ AsksDerived t (turn.Define d) = IsDerived t.frames d.class
 AsksDerived t other = Unit {0}
 
 -- a task reads for a class, and derives it, only after it was told that the class's loader has no record (5.3, 5.3.5)
-pub record DerivesUnrecorded {A : Type 0} (old new : Tasked) (r : Reply A) (t : Turn A) : Type 0 where
+pub record DerivesUnrecorded {A : Type 0} (old new : Tasked) (r : Reply A)
+    (t : Turn A) : Type 0 where
   pub absent : (c : Class) → new.absent ≡ Some c → WasAbsent old r c
   pub derived : AreDerived (WasAbsent old r) old.frames new.frames
   pub asked : AsksDerived new t
@@ -137,7 +139,8 @@ IsReadNext way other loader = ⊥
 
 -- a task reads the name of a class of which it was told that its loader has no record: along the way of the class, while each loader lacks it (5.3, 5.3.2)
 abbrev pub ReadsUnrecorded : {A : Type 0} → Tasked → Reply A → Turn A → Type 0
-ReadsUnrecorded t r (turn.Read l n) = (c : Class) × WasAbsent t r c × (c.name ≡ n) × IsReadNext (way_of t.config c) r l
+ReadsUnrecorded t r (turn.Read l n) = (c : Class) × WasAbsent t r c × (c.name ≡ n)
+    × IsReadNext (way_of t.config c) r l
 ReadsUnrecorded t r other = Unit {0}
 
 -- a turn posts this answer, or that memory ran out
@@ -163,13 +166,20 @@ GoesOnWith r c new other = ⊥
 -- settled is answered so; a class that is prepared is linked, where the task was told nothing but that it is recorded; memory may run out
 -- (5.3, 5.4, 5.4.3)
 abbrev pub AnswersOwn : {A : Type 0} → Tasked → Tasked → Reply A → Turn A → Type 0
-AnswersOwn old new reply.Start (turn.Look l n) = (new.frames ≡ []) × (new.facts ≡ []) × ((r : Request) → old.request ≡ Some r → (l ≡ loader_of r) × (n ≡ name_of r))
+AnswersOwn old new reply.Start (turn.Look l n) = (new.frames ≡ []) × (new.facts ≡ [])
+    × ((r : Request) → old.request ≡ Some r → (l ≡ loader_of r) × (n ≡ name_of r))
 AnswersOwn old new reply.Start (turn.Post f) = f.answer ≡ answers.Memory
 AnswersOwn old new reply.Start t = ⊥
-AnswersOwn old new (reply.Looked (Some row)) t = (r : Request) → old.request ≡ Some r → old.waits ≡ Looking (loader_of r) (name_of r) → old.frames ≡ [] → old.facts ≡ [] → GoesOnWith r row.value.class new t
-AnswersOwn old new (reply.Initiated row) t = (r : Request) → old.request ≡ Some r → old.frames ≡ [] → KnowsOne old → GoesOnWith r row.value.class new t
-AnswersOwn old new (reply.Defined row) t = (r : Request) (f : Frame) → old.request ≡ Some r → old.frames ≡ f ∷ [] → f.class.loader ≡ loader_of r → old.facts ≡ [] → GoesOnWith r row.value.class new t
+AnswersOwn old new (reply.Looked (Some row)) t = (r : Request) → old.request ≡ Some r
+    → old.waits ≡ Looking (loader_of r) (name_of r) → old.frames ≡ [] → old.facts ≡ []
+    → GoesOnWith r row.value.class new t
+AnswersOwn old new (reply.Initiated row) t = (r : Request) → old.request ≡ Some r → old.frames ≡ []
+    → KnowsOne old → GoesOnWith r row.value.class new t
+AnswersOwn old new (reply.Defined row) t = (r : Request) (f : Frame) → old.request ≡ Some r
+    → old.frames ≡ f ∷ [] → f.class.loader ≡ loader_of r → old.facts ≡ []
+    → GoesOnWith r row.value.class new t
 AnswersOwn old new (reply.LookedReference (Some s)) t = PostsOr (answers.Shared s) t
-AnswersOwn old new (reply.LookedPrepared true) t = (c : Class) → old.waits ≡ LookingPrepared c → KnowsOne old → PostsOr (answers.Said (verdicts.Linked c)) t
+AnswersOwn old new (reply.LookedPrepared true) t = (c : Class) → old.waits ≡ LookingPrepared c
+    → KnowsOne old → PostsOr (answers.Said (verdicts.Linked c)) t
 AnswersOwn old new (reply.Settled s) t = PostsOr (answers.Shared s) t
 AnswersOwn old new other t = Unit {0}

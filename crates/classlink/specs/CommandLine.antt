@@ -53,7 +53,8 @@ wanting = with_required (with_version (new_app (codes "classlink")))
 
 -- the program: `bundle`, `run` or `read`
 abbrev pub program : App
-program = with_subcommand (with_subcommand (with_subcommand wanting bundle.top) running.top) reading.top
+program = with_subcommand (with_subcommand (with_subcommand wanting bundle.top) running.top)
+    reading.top
 
 -- a command is this one, for what is built on it
 abbrev pub IsCommand : App → Command → Type 0
@@ -83,8 +84,10 @@ is_plain_word (c ∷ d ∷ rest) = not (c == 0x2d)
 -- alone are wanted. The options stand before, between or behind the paths, in either order, and each path is plain or behind `--`
 pub data AreWordsOf : List (List ℕ) → Option (List ℕ) → Bool → List (List ℕ) → Type 0 where
   End : AreWordsOf [] None false []
-  Path : {paths : List (List ℕ)} {count : Option (List ℕ)} {only_answers : Bool} {words : List (List ℕ)} (path : List ℕ) → is_plain_word path ≡ true
-      → AreWordsOf paths count only_answers words → AreWordsOf (path ∷ paths) count only_answers (path ∷ words)
+  Path : {paths : List (List ℕ)} {count : Option (List ℕ)} {only_answers : Bool}
+      {words : List (List ℕ)} (path : List ℕ) → is_plain_word path ≡ true
+      → AreWordsOf paths count only_answers words
+      → AreWordsOf (path ∷ paths) count only_answers (path ∷ words)
   Workers : {paths : List (List ℕ)} {only_answers : Bool} {words : List (List ℕ)} (count : List ℕ)
       → AreWordsOf paths None only_answers words → AreWordsOf paths (Some count) only_answers (codes "--workers" ∷ count ∷ words)
   Answers : {paths : List (List ℕ)} {count : Option (List ℕ)} {words : List (List ℕ)}

@@ -24,10 +24,14 @@ pub record LacksMemory (o : Outputs) (status : ℕ) : Type 0 where
 
 -- what `clap` finds in words that it takes is done: the file of `read` is read, a script is run, or a bundle with its options;
 -- or memory ran out
-pub data IsTaken (entered : Option (Text × List Row)) (input : Option (List ℕ)) (gives : List ℕ → Giving) (o : Outputs) (status : ℕ) : Type 0 where
-  Reads : IsToRead entered → IsReading (gives (file_to_read entered)) (file_to_read entered) o status → IsTaken entered input gives o status
-  RunsScript : (w : Wanted) → IsToRun entered → RunWants entered w → IsScriptRun gives w o status → IsTaken entered input gives o status
-  Runs : (options : Options) → IsForBundle entered → HasOptions entered options → IsRun input options o status → IsTaken entered input gives o status
+pub data IsTaken (entered : Option (Text × List Row)) (input : Option (List ℕ))
+    (gives : List ℕ → Giving) (o : Outputs) (status : ℕ) : Type 0 where
+  Reads : IsToRead entered → IsReading (gives (file_to_read entered))
+      (file_to_read entered) o status → IsTaken entered input gives o status
+  RunsScript : (w : Wanted) → IsToRun entered → RunWants entered w → IsScriptRun gives w o status
+      → IsTaken entered input gives o status
+  Runs : (options : Options) → IsForBundle entered → HasOptions entered options
+      → IsRun input options o status → IsTaken entered input gives o status
   Lacks : LacksMemory o status → IsTaken entered input gives o status
 
 -- ---- words that it does not take, and those that ask for help

@@ -5,7 +5,8 @@ use Rattle.cl_model.specs.Examples.{boot, app, plug, kid, fifth, four, root, und
 
 -- T in app and in plug, which also has a root of its own (5.3, 5.3.2)
 abbrev pub copies : World
-copies = world_with_files ((boot, root) ∷ (plug, root) ∷ (app, plain "p/T") ∷ (plug, plain "p/T") ∷ [])
+copies = world_with_files ((boot, root) ∷ (plug, root) ∷ (app, plain "p/T") ∷ (plug, plain "p/T")
+    ∷ [])
 
 -- the same, with other bytes for T in app before its own (5.3)
 abbrev pub twice : World
@@ -17,7 +18,8 @@ bad = with_bytes app "p/B" (9 ∷ []) (world_with_files ((boot, root) ∷ (kid, 
 
 -- p/A under p/B, p/B under p/A, p/C under p/A (5.3.5, step 3)
 abbrev pub circle : World
-circle = world_with_files ((boot, root) ∷ (app, under "p/A" "p/B") ∷ (app, under "p/B" "p/A") ∷ (app, under "p/C" "p/A") ∷ [])
+circle = world_with_files ((boot, root) ∷ (app, under "p/A" "p/B") ∷ (app, under "p/B" "p/A")
+    ∷ (app, under "p/C" "p/A") ∷ [])
 
 -- p/A has the interfaces p/I, which nobody has, and p/J, which is its own (5.3.5, step 4)
 abbrev pub missing : World
@@ -37,15 +39,18 @@ over_app order imports = record { parents = app ∷ []; order = order; imports =
 
 -- a fifth loader takes names that begin with q/ from boot alone, though it has q/Y of its own (5.3.2)
 abbrev pub importing : World
-importing = with_loaders (four ++ over_app ChildFirst (importing_from (codes "q/") boot ∷ []) ∷ []) (
-    (boot, root) ∷ (boot, plain "q/X") ∷ (app, plain "p/T") ∷ (fifth, plain "q/Y") ∷ (fifth, root) ∷ (fifth, plain "p/T") ∷ [])
+importing = with_loaders (four ++ over_app ChildFirst (importing_from (codes "q/") boot ∷ []) ∷ [])
+    (
+    (boot, root) ∷ (boot, plain "q/X") ∷ (app, plain "p/T") ∷ (fifth, plain "q/Y") ∷ (fifth, root)
+    ∷ (fifth, plain "p/T") ∷ [])
 
 -- a fifth loader takes p/ from boot, p/T from app and java/ from app, of which the first counts and the last
 -- is never asked; app has p/T, java/x/Y, q/B whose bytes are of q/C, and q/V of another version (5.3.1, 5.3.2; 5.3.5, step 2)
 abbrev pub imports : World
 imports = with_bytes app "q/V" [] (with_bytes app "q/B" (3 ∷ []) (
     with_loaders
-    (four ++ over_app ParentFirst (importing_from (codes "p/") boot ∷ importing_from (codes "p/T") app ∷ importing_from (codes "java/") app ∷ []) ∷ [])
+    (four ++ over_app ParentFirst (importing_from (codes "p/") boot
+    ∷ importing_from (codes "p/T") app ∷ importing_from (codes "java/") app ∷ []) ∷ [])
     ((boot, root) ∷ (app, plain "p/T") ∷ (app, plain "java/x/Y") ∷ (app, plain "q/C") ∷ [])))
 
 -- app has p/H of package access, p/L under the interface p/J, p/N which implements the class p/S, and the
@@ -67,4 +72,5 @@ misfits = world_with_files (
 abbrev pub two_parents : World
 two_parents = with_loaders (four ++ record { parents = app ∷ plug
     ∷ []; order = ParentFirst; imports = [] } ∷ [])
-    ((boot, root) ∷ (app, plain "p/T") ∷ (plug, plain "p/T") ∷ (plug, plain "p/V") ∷ (app, plain "javax/T") ∷ [])
+    ((boot, root) ∷ (app, plain "p/T") ∷ (plug, plain "p/T") ∷ (plug, plain "p/V")
+    ∷ (app, plain "javax/T") ∷ [])

@@ -17,15 +17,18 @@ use_of_svc = referring_file (ToMethod (a_class "p/Svc") (taking_t "m") ∷ []) (
 
 -- T and Svc in app; T and Use in plug (5.3.4, 5.4.3.3)
 abbrev pub service : World
-service = world_with_files ((boot, root) ∷ (app, plain "p/T") ∷ (app, svc) ∷ (plug, plain "p/T") ∷ (plug, use_of_svc) ∷ [])
+service = world_with_files ((boot, root) ∷ (app, plain "p/T") ∷ (app, svc) ∷ (plug, plain "p/T")
+    ∷ (plug, use_of_svc) ∷ [])
 
 -- Svc in app; T and Use in plug and in kid (5.3.4)
 abbrev pub three_users : World
-three_users = world_with_files ((boot, root) ∷ (app, svc) ∷ (plug, plain "p/T") ∷ (plug, use_of_svc) ∷ (kid, plain "p/T") ∷ (kid, use_of_svc) ∷ [])
+three_users = world_with_files ((boot, root) ∷ (app, svc) ∷ (plug, plain "p/T") ∷ (plug, use_of_svc)
+    ∷ (kid, plain "p/T") ∷ (kid, use_of_svc) ∷ [])
 
 -- p/Hid in app is of package access, p/Peek in plug names it (5.4.4)
 abbrev pub hidden : World
-hidden = world_with_files ((boot, root) ∷ (app, of_package "p/Hid") ∷ (plug, referring_file (ToClass (a_class "p/Hid") ∷ []) (plain "p/Peek")) ∷ [])
+hidden = world_with_files ((boot, root) ∷ (app, of_package "p/Hid")
+    ∷ (plug, referring_file (ToClass (a_class "p/Hid") ∷ []) (plain "p/Peek")) ∷ [])
 
 -- p/X names a method of an array of a base type, an array of arrays of p/T, an array of a base type, a method and a field of
 -- an array of p/T, and p/T (5.3.3, 5.4.3.1)
@@ -36,7 +39,8 @@ arrays = world_with_files (
     ∷ (
       app,
       referring_file (
-          ToMethod (an_array_of 1 bases.Int) (method_key "clone" [] (Some (a_class "java/lang/Object")))
+          ToMethod (an_array_of 1 bases.Int) (method_key "clone" []
+          (Some (a_class "java/lang/Object")))
           ∷ ToClass (an_array_of 2 (bases.Class (codes "p/T")))
           ∷ ToClass (an_array_of 1 bases.Int)
           ∷ ToMethod (an_array_of 1 (bases.Class (codes "p/T"))) (taking_none "m")
@@ -51,7 +55,8 @@ arrays = world_with_files (
 abbrev pub references : World
 references = world_with_files (
     (boot, root)
-    ∷ (app, with_fields ((flag.public, an_array "x") ∷ []) (with_methods ((flag.public, taking_t "m") ∷ []) (plain "p/F")))
+    ∷ (app, with_fields ((flag.public, an_array "x") ∷ [])
+    (with_methods ((flag.public, taking_t "m") ∷ []) (plain "p/F")))
     ∷ (app, of_package "p/H")
     ∷ (app, with_methods ((flag.protected, taking_none "k") ∷ []) (plain "p/P"))
     ∷ (plug, under "q/G" "p/F")

@@ -57,13 +57,16 @@ across =
     Define the_root ∷ Initiate object boot plug ∷ Define (in_plug "p/Use")
     ∷ Initiate object boot app ∷ Define (in_app "p/Svc") ∷ Initiate (codes "p/Svc") app plug
     ∷ Constrain (codes "p/T") app plug ∷ Initiate object boot kid ∷ Define (in_kid "p/Use")
-    ∷ Initiate (codes "p/Svc") app kid ∷ Constrain (codes "p/T") app kid ∷ Define (in_plug "p/T") ∷ []
+    ∷ Initiate (codes "p/Svc") app kid ∷ Constrain (codes "p/T") app kid ∷ Define (in_plug "p/T")
+    ∷ []
 
 -- three requests in the first two of three rounds
 abbrev pub in_rounds : Setting
 in_rounds = record {
   world = service;
-  script = record { request = resolve_of plug "p/Use" 1; round = 0 } ∷ record { request = load_of app "p/T"; round = 1 } ∷ record { request = load_of plug "p/T"; round = 1 } ∷ [];
+  script = record { request = resolve_of plug "p/Use" 1; round = 0 }
+      ∷ record { request = load_of app "p/T"; round = 1 }
+      ∷ record { request = load_of plug "p/T"; round = 1 } ∷ [];
   rounds = 3;
 }
 
@@ -75,7 +78,8 @@ two_rounds = Post 0 OutOfMemory ∷ NextRound ∷ Post 1 OutOfMemory ∷ Post 2 
 
 -- a class under Svc, which overrides its method and names it (4.6, 5.4.3)
 abbrev pub user : File
-user = with_methods ((flag.public, taking_t "m") ∷ []) (referring_file (ToMethod (a_class "p/Svc") (taking_t "m") ∷ []) (under "p/Use" "p/Svc"))
+user = with_methods ((flag.public, taking_t "m") ∷ [])
+    (referring_file (ToMethod (a_class "p/Svc") (taking_t "m") ∷ []) (under "p/Use" "p/Svc"))
 
 -- Svc in app, and in plug Use under it (5.4.2, 5.4.3.3)
 abbrev pub overridden_service : World
@@ -85,13 +89,16 @@ overridden_service = world_with_files ((boot, root) ∷ (app, svc) ∷ (plug, us
 abbrev pub serving : Setting
 serving = record {
   world = overridden_service;
-  script = record { request = resolve_of plug "p/Use" 1; round = 0 } ∷ record { request = link_of plug "p/Use"; round = 1 } ∷ record { request = resolve_of plug "p/Use" 9; round = 1 } ∷ [];
+  script = record { request = resolve_of plug "p/Use" 1; round = 0 }
+      ∷ record { request = link_of plug "p/Use"; round = 1 }
+      ∷ record { request = resolve_of plug "p/Use" 9; round = 1 } ∷ [];
   rounds = 2;
 }
 
 -- the steps that load Use (5.3.5)
 abbrev pub loading : List Step
-loading = Define the_root ∷ Initiate object boot app ∷ Define (in_app "p/Svc") ∷ Initiate (codes "p/Svc") app plug ∷ Define (in_plug "p/Use") ∷ []
+loading = Define the_root ∷ Initiate object boot app ∷ Define (in_app "p/Svc")
+    ∷ Initiate (codes "p/Svc") app plug ∷ Define (in_plug "p/Use") ∷ []
 
 -- the method that its reference is resolved to (5.4.3.3)
 abbrev pub of_svc : Verdict
@@ -99,11 +106,13 @@ of_svc = IsMethod (in_app "p/Svc") (taking_t "m")
 
 -- the steps that resolve the reference (5.4.3)
 abbrev pub resolving : List Step
-resolving = Constrain (codes "p/T") app plug ∷ Settle (in_plug "p/Use") 1 of_svc ∷ Post 0 (Said of_svc) ∷ []
+resolving = Constrain (codes "p/T") app plug ∷ Settle (in_plug "p/Use") 1 of_svc
+    ∷ Post 0 (Said of_svc) ∷ []
 
 -- the steps that link Use (5.4)
 abbrev pub linking : List Step
-linking = NextRound ∷ Prepare the_root ∷ Prepare (in_app "p/Svc") ∷ Prepare (in_plug "p/Use") ∷ Post 1 (Said (IsLinked (in_plug "p/Use"))) ∷ Post 2 (Said BadEntry) ∷ []
+linking = NextRound ∷ Prepare the_root ∷ Prepare (in_app "p/Svc") ∷ Prepare (in_plug "p/Use")
+    ∷ Post 1 (Said (IsLinked (in_plug "p/Use"))) ∷ Post 2 (Said BadEntry) ∷ []
 
 -- what stands before the reference is settled (5.3.4)
 abbrev pub unsettled : State
@@ -111,7 +120,8 @@ unsettled = standing_after (loading ++ Constrain (codes "p/T") app plug ∷ [])
 
 -- what stands before Use is prepared, in the second round (5.4)
 abbrev pub unprepared : State
-unprepared = standing_after (loading ++ resolving ++ NextRound ∷ Prepare the_root ∷ Prepare (in_app "p/Svc") ∷ [])
+unprepared = standing_after (loading ++ resolving ++ NextRound ∷ Prepare the_root
+    ∷ Prepare (in_app "p/Svc") ∷ [])
 
 -- what stands before the reference is resolved, with the supertypes of Use prepared (5.4)
 abbrev pub unconstrained : State
@@ -123,16 +133,20 @@ end_state = standing_after (loading ++ resolving ++ linking)
 
 -- a class of kid's own is asked for an entry of its pool (5.4.3)
 abbrev pub resolved_in_kid : Setting
-resolved_in_kid = record { world = three_users; script = record { request = resolve_of kid "p/T" 1; round = 0 } ∷ []; rounds = 1 }
+resolved_in_kid = record { world = three_users; script = record
+    { request = resolve_of kid "p/T" 1; round = 0 } ∷ []; rounds = 1 }
 
 -- Svc in app, and in plug a class under it which overrides its method and names nothing (5.4.2)
 abbrev pub overridden_alone : World
-overridden_alone = world_with_files ((boot, root) ∷ (app, svc) ∷ (plug, with_methods ((flag.public, taking_t "m") ∷ []) (under "p/Use" "p/Svc")) ∷ [])
+overridden_alone = world_with_files ((boot, root) ∷ (app, svc)
+    ∷ (plug, with_methods ((flag.public, taking_t "m") ∷ []) (under "p/Use" "p/Svc")) ∷ [])
 
 -- the steps before a class under p/H, which is not accessible to it (5.3.5, step 3)
 abbrev pub below_hidden : List Step
-below_hidden = Define the_root ∷ Initiate object boot app ∷ Define (in_app "p/H") ∷ Initiate (codes "p/H") app plug ∷ []
+below_hidden = Define the_root ∷ Initiate object boot app ∷ Define (in_app "p/H")
+    ∷ Initiate (codes "p/H") app plug ∷ []
 
 -- T is defined in app, and is to be the same in kid (5.3.4)
 abbrev pub joined_with_kid : List Step
-joined_with_kid = Define the_root ∷ Initiate object boot app ∷ Define (in_app "p/T") ∷ Constrain (codes "p/T") app kid ∷ []
+joined_with_kid = Define the_root ∷ Initiate object boot app ∷ Define (in_app "p/T")
+    ∷ Constrain (codes "p/T") app kid ∷ []

@@ -19,7 +19,8 @@ Prints v text = verdict_text names v ≡ codes text
 
 -- an error is printed by this word and its subject (the words are those of 5.3 to 5.4.4)
 abbrev pub IsCalled : (Class → Error) → String → Type 0
-IsCalled kind word = verdict_text names (Wrong (kind (in_app "p/T"))) ≡ codes word ++ codes " p/T@app"
+IsCalled kind word = verdict_text names (Wrong (kind (in_app "p/T"))) ≡ codes word
+    ++ codes " p/T@app"
 
 -- an answer is printed so
 abbrev pub PrintsAnswer : Answer → String → Type 0

@@ -55,23 +55,28 @@ abbrev pub error_texts : List Text → Error → List Text
 error_texts names (ClassNotFound c) = codes "ClassNotFoundException" ∷ class_text names c ∷ []
 error_texts names (NoClassDef c) = codes "NoClassDefFoundError" ∷ class_text names c ∷ []
 error_texts names (ClassFormat c) = codes "ClassFormatError" ∷ class_text names c ∷ []
-error_texts names (UnsupportedVersion c) = codes "UnsupportedClassVersionError" ∷ class_text names c ∷ []
+error_texts names (UnsupportedVersion c) = codes "UnsupportedClassVersionError" ∷ class_text names c
+    ∷ []
 error_texts names (ClassCircularity c) = codes "ClassCircularityError" ∷ class_text names c ∷ []
-error_texts names (IncompatibleClassChange c) = codes "IncompatibleClassChangeError" ∷ class_text names c ∷ []
+error_texts names (IncompatibleClassChange c) = codes "IncompatibleClassChangeError"
+    ∷ class_text names c ∷ []
 error_texts names (IllegalAccess c) = codes "IllegalAccessError" ∷ class_text names c ∷ []
 error_texts names (NoSuchField c) = codes "NoSuchFieldError" ∷ class_text names c ∷ []
 error_texts names (NoSuchMethod c) = codes "NoSuchMethodError" ∷ class_text names c ∷ []
 
 -- the words of a refused need; a refused record names the loader that was asked (5.3.4)
 abbrev pub need_texts : List Text → Need → List Text
-need_texts names (Entry loader name place) = codes "record" ∷ class_text names (class name loader) ∷ []
+need_texts names (Entry loader name place) = codes "record" ∷ class_text names (class name loader)
+    ∷ []
 need_texts names (Equal name a b) = codes "equal" ∷ equality_texts names name a b
 
 -- the words of a verdict (5.4.3)
 abbrev pub verdict_texts : List Text → Verdict → List Text
 verdict_texts names (IsClass c) = codes "class" ∷ class_text names c ∷ []
-verdict_texts names (IsArrayOf dimensions c) = codes "array" ∷ decimal dimensions ∷ class_text names c ∷ []
-verdict_texts names (IsArrayOfBase dimensions letter) = codes "array" ∷ decimal dimensions ∷ (letter ∷ []) ∷ []
+verdict_texts names (IsArrayOf dimensions c) = codes "array" ∷ decimal dimensions
+    ∷ class_text names c ∷ []
+verdict_texts names (IsArrayOfBase dimensions letter) = codes "array" ∷ decimal dimensions
+    ∷ (letter ∷ []) ∷ []
 verdict_texts names (IsField c key) = codes "field" ∷ member_texts names c key
 verdict_texts names (IsMethod c key) = codes "method" ∷ member_texts names c key
 verdict_texts names (IsLinked c) = codes "linked" ∷ class_text names c ∷ []
@@ -88,7 +93,8 @@ verdict_text names v = words (verdict_texts names v)
 abbrev pub answer_text : List Text → Answer → Text
 answer_text names (Said v) = verdict_text names v
 answer_text names OutOfMemory = codes "OutOfMemory"
-answer_text names (SourceFault name loader) = words (codes "SourceFault" ∷ class_text names (class name loader) ∷ [])
+answer_text names (SourceFault name loader) = words
+    (codes "SourceFault" ∷ class_text names (class name loader) ∷ [])
 
 -- the line of an answer: the request's number, counted from 1, and the text
 abbrev pub answer_line : List Text → ℕ → Answer → Text
@@ -101,7 +107,9 @@ ended_line line = line ++ 0x0a ∷ []
 -- the line of a step, if it has one
 abbrev pub line : List Text → Step → Option Text
 line names (Define c) = Some (words (codes "define" ∷ class_text names c ∷ []))
-line names (Initiate name place loader) = Some (words (codes "initiate" ∷ escaped_text name ∷ loader_text names place ∷ codes "by" ∷ loader_text names loader ∷ []))
+line names (Initiate name place loader) = Some
+    (words (codes "initiate" ∷ escaped_text name ∷ loader_text names place ∷ codes "by"
+    ∷ loader_text names loader ∷ []))
 line names (Constrain name a b) = Some (words (codes "constrain" ∷ equality_texts names name a b))
 line names (Settle d i v) = None
 line names (Prepare c) = Some (words (codes "prepare" ∷ class_text names c ∷ []))

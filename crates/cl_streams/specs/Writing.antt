@@ -41,7 +41,8 @@ pub record Paged : Type 0 where
 
 -- what a writer holds before and after, and a text of what waits
 abbrev pub paged : {W S : Type 0} → (W → Option (List ℕ)) → W → W → (S → List ℕ) → S → S → Paged
-paged contents old new bytes waited waits = record { out = stream contents old new; waited = bytes waited; waits = bytes waits }
+paged contents old new bytes waited waits = record
+    { out = stream contents old new; waited = bytes waited; waits = bytes waits }
 
 -- these bytes are put behind what waits, of which a first part may be written
 abbrev pub PutsBehind : Paged → List ℕ → Type 0

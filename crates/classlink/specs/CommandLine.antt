@@ -17,11 +17,14 @@ use Rattle.cl_pool.specs.declared.limits.TheConstants.{MOST_WORKERS}
 
 -- the option `--workers`, from 1 to the most, and 1 where it is left out
 abbrev pub workers : Rule
-workers = record (new_rule (codes "workers")) { long = Some (codes "workers"); value_names = 1; defaults = codes "1" ∷ []; parser = Some (Unsigned 1 MOST_WORKERS) }
+workers = record (new_rule (codes "workers"))
+    { long = Some (codes "workers"); value_names = 1; defaults = codes "1"
+    ∷ []; parser = Some (Unsigned 1 MOST_WORKERS) }
 
 -- the flag `--answers`
 abbrev pub answers : Rule
-answers = record (new_rule (codes "answers")) { long = Some (codes "answers"); action = Some SetTrue }
+answers = record (new_rule (codes "answers"))
+    { long = Some (codes "answers"); action = Some SetTrue }
 
 -- `bundle`, with its options
 abbrev pub bundle : App
@@ -37,7 +40,9 @@ reading = with_rule (new_app (codes "read")) (file (codes "FILE"))
 
 -- `run`, with its files and its options
 abbrev pub running : App
-running = with_rule (with_rule (with_rule (with_rule (new_app (codes "run")) (file (codes "CONFIG"))) (file (codes "SCRIPT"))) workers) answers
+running = with_rule
+    (with_rule (with_rule (with_rule (new_app (codes "run")) (file (codes "CONFIG")))
+    (file (codes "SCRIPT"))) workers) answers
 
 -- the command, with one of its subcommands wanted
 abbrev pub with_required : App → App
@@ -89,7 +94,8 @@ pub data AreWordsOf : List (List ℕ) → Option (List ℕ) → Bool → List (L
       → AreWordsOf paths count only_answers words
       → AreWordsOf (path ∷ paths) count only_answers (path ∷ words)
   Workers : {paths : List (List ℕ)} {only_answers : Bool} {words : List (List ℕ)} (count : List ℕ)
-      → AreWordsOf paths None only_answers words → AreWordsOf paths (Some count) only_answers (codes "--workers" ∷ count ∷ words)
+      → AreWordsOf paths None only_answers words → AreWordsOf paths (Some count) only_answers
+      (codes "--workers" ∷ count ∷ words)
   Answers : {paths : List (List ℕ)} {count : Option (List ℕ)} {words : List (List ℕ)}
       → AreWordsOf paths count false words → AreWordsOf paths count true (codes "--answers" ∷ words)
   Dashes : (paths : List (List ℕ)) → AreWordsOf paths None false (codes "--" ∷ paths)
@@ -110,7 +116,8 @@ AskFor words o = AskBy (codes "bundle") [] words o
 -- the words, of which the first is the program's name, ask for the lines of the file at a path, which is plain or stands behind `--`
 abbrev pub AskToRead : List (List ℕ) → List ℕ → Type 0
 AskToRead words path =
-    ((drop 1 words ≡ codes "read" ∷ path ∷ []) × (is_plain_word path ≡ true)) ⊎ (drop 1 words ≡ codes "read" ∷ codes "--" ∷ path ∷ [])
+    ((drop 1 words ≡ codes "read" ∷ path ∷ []) × (is_plain_word path ≡ true))
+    ⊎ (drop 1 words ≡ codes "read" ∷ codes "--" ∷ path ∷ [])
 
 -- the words ask so for a script's run
 abbrev pub AskToRun : List (List ℕ) → Wanted → Type 0

@@ -5,7 +5,7 @@ ghost use Rattle.std.specs.Prelude.{◌≤◌, length};
 use crate::access::{MEMBERS, PACKAGES, SEEN, ask_members, ask_seen};
 use crate::given::{Told, record, registry};
 use cl_config::Config;
-use cl_given::{APP, BOOT, LOADERS, Named, bytes_of, class_name, config, put, telling};
+use cl_given::{APP, BOOT, LOADERS, Named, bytes_of, class_name, config, put, telling_source};
 use cl_hierarchy::{ClassRow, Lineage, Lineages};
 use cl_model::{Class, LoaderId, Untold};
 use cl_names::Name;

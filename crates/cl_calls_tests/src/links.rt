@@ -5,7 +5,7 @@ use crate::given::{
 };
 use cl_config::Config;
 use cl_findings::Finding;
-use cl_given::{APP, BOOT, LOADERS, Named, PLUG, bytes_of, class_name, config, telling};
+use cl_given::{APP, BOOT, LOADERS, Named, PLUG, bytes_of, class_name, config, telling_source};
 use cl_hierarchy::{Equalities, Given, Lineage};
 use cl_model::{Class, LoaderId, Request, Untold};
 use cl_preparation::{Preparations, constraints_of, fewer_constraints_of};

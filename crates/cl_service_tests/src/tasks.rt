@@ -1,6 +1,6 @@
 //! A task and its replies.
 
-use cl_given::{APP, BOOT, LOADERS, Named, bytes_of, class_name, config, telling};
+use cl_given::{APP, BOOT, LOADERS, Named, bytes_of, class_name, config, telling_source};
 use cl_model::{Answer, LoaderId, Request, Untold};
 use cl_source::{Source, SourceFault, Telling};
 use cl_tasks::{Reply, Task, Turn};

@@ -3,7 +3,7 @@
 use Named::{T, Top};
 use cl_given::{
     APP, BOOT, LOADERS, Named, SHARED, config, count_events, is_class, script, settles_once,
-    telling, thousand_resolutions,
+    telling_source, thousand_resolutions,
 };
 use cl_model::{Answer, LoaderId, Untold, Verdict};
 use cl_names::Name;

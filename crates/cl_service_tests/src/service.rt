@@ -4,7 +4,7 @@
 use Named::{T, Top};
 use cl_given::{
     APP, BOOT, LOADERS, Named, PLUG, SHARED, bytes_of, config, is_class, put, script, settles_once,
-    source, telling, thousand_resolutions,
+    source, telling_source, thousand_resolutions,
 };
 use cl_model::{Answer, Class, ErrorKind, LoaderId, Untold, Verdict};
 use cl_registry::Report;

@@ -181,8 +181,11 @@ plain_tour t =
 -- a row is told
 abbrev pub after_telling : Bool → Toured → Rowed → Toured
 after_telling false t r = t
-after_telling true t r = record t { told = with_row t.seen t.told r; seen = with_class t.seen
-    r.class }
+after_telling true t r = record t {
+  told = with_row t.seen t.told r;
+  seen = with_class t.seen
+      r.class;
+}
 
 -- these rows are told, one after another
 abbrev pub telling_all : Toured → List Rowed → Toured
@@ -192,8 +195,10 @@ telling_all t (r ∷ rs) = telling_all (after_telling true t r) rs
 -- what is left to do, once the tour came to a class that it left before, or not
 abbrev pub opening_unless_left : TourOrder → List Rowed → Toured → Rowed → Toured
 opening_unless_left o rows t r =
-    record t { stack = if is_among t.left r.class then t.stack else t.stack
-    ++ opening_steps o rows r }
+    record t {
+      stack = if is_among t.left r.class then t.stack else t.stack
+          ++ opening_steps o rows r;
+    }
 
 -- one step
 abbrev pub step : TourOrder → List Rowed → Toured → Rowed → TourStep → Toured

@@ -70,7 +70,11 @@ misfits = world_with_files (
 
 -- a fifth loader asks app and then plug; p/T is in both, p/V in plug alone; app has a name that begins like the platform's (5.3.2)
 abbrev pub two_parents : World
-two_parents = with_loaders (four ++ record { parents = app ∷ plug
-    ∷ []; order = ParentFirst; imports = [] } ∷ [])
+two_parents = with_loaders (four ++ record {
+  parents = app ∷ plug
+      ∷ [];
+  order = ParentFirst;
+  imports = [];
+} ∷ [])
     ((boot, root) ∷ (app, plain "p/T") ∷ (plug, plain "p/T") ∷ (plug, plain "p/V")
     ∷ (app, plain "javax/T") ∷ [])

@@ -23,12 +23,18 @@ several = world_with_files (
     ∷ (app, with_interfaces ("p/I" ∷ []) (under "p/C" "p/S"))
     ∷ (app, with_methods ((flag.public, taking_none "m") ∷ []) (interface_named "p/J1"))
     ∷ (app, with_methods ((flag.public, taking_none "m") ∷ []) (interface_named "p/J2"))
-    ∷ (app, with_methods ((flag.public + flag.abstract, taking_none "m") ∷ [])
-    (interface_named "p/J3"))
+    ∷ (
+      app,
+      with_methods ((flag.public + flag.abstract, taking_none "m") ∷ [])
+          (interface_named "p/J3"),
+    )
     ∷ (app, with_interfaces ("p/J3" ∷ "p/J1" ∷ "p/J2" ∷ []) (plain "p/D"))
     ∷ (app, with_interfaces ("p/J3" ∷ "p/J1" ∷ []) (plain "p/E"))
-    ∷ (app, with_methods ((flag.public + flag.abstract, taking_none "m") ∷ [])
-    (with_interfaces ("p/J3" ∷ []) (interface_named "p/J4")))
+    ∷ (
+      app,
+      with_methods ((flag.public + flag.abstract, taking_none "m") ∷ [])
+          (with_interfaces ("p/J3" ∷ []) (interface_named "p/J4")),
+    )
     ∷ (app, with_interfaces ("p/J3" ∷ "p/J4" ∷ []) (plain "p/F"))
     ∷ (app, with_interfaces ("p/J1" ∷ "p/I" ∷ []) (plain "p/G"))
     ∷ (app, with_interfaces ("p/J1" ∷ []) (interface_named "p/J5"))
@@ -57,23 +63,40 @@ chosen_method i = ends_at several (resolve_of app "p/U" i)
 -- implements p/N, where n is too; p/X is under p/V; p/Y implements p/I and p/J; the root has h and e public, f protected and s static;
 -- p/U names these (5.4.3.2 to 5.4.3.4)
 abbrev pub inherited : World
-inherited = world_with_files (
-    (boot, with_methods ((flag.public, taking_none "h") ∷ (flag.protected, taking_none "f")
-    ∷ (flag.public + flag.static, taking_none "s") ∷ (flag.public, taking_none "e") ∷ []) root)
-    ∷ (app, with_methods ((flag.public, taking_none "m") ∷ (flag.public, taking_none "f")
-    ∷ (flag.public, taking_none "e") ∷ []) (interface_named "p/I"))
-    ∷ (app, with_methods ((flag.public, taking_none "m") ∷ [])
-    (with_interfaces ("p/I" ∷ []) (interface_named "p/J")))
+inherited = world_with_files ((
+  boot,
+  with_methods ((flag.public, taking_none "h") ∷ (flag.protected, taking_none "f")
+      ∷ (flag.public + flag.static, taking_none "s") ∷ (flag.public, taking_none "e") ∷ []) root,
+)
+    ∷ (
+      app,
+      with_methods ((flag.public, taking_none "m") ∷ (flag.public, taking_none "f")
+          ∷ (flag.public, taking_none "e") ∷ []) (interface_named "p/I"),
+    )
+    ∷ (
+      app,
+      with_methods ((flag.public, taking_none "m") ∷ [])
+          (with_interfaces ("p/I" ∷ []) (interface_named "p/J")),
+    )
     ∷ (app, with_interfaces ("p/J" ∷ []) (interface_named "p/K"))
-    ∷ (app, with_fields ((flag.public, an_int "y") ∷ [])
-    (with_methods ((flag.public, taking_none "a") ∷ [])
-    (with_interfaces ("p/K" ∷ []) (plain "p/S"))))
+    ∷ (
+      app,
+      with_fields ((flag.public, an_int "y") ∷ [])
+          (with_methods ((flag.public, taking_none "a") ∷ [])
+          (with_interfaces ("p/K" ∷ []) (plain "p/S"))),
+    )
     ∷ (app, with_interfaces ("p/M" ∷ []) (under "p/C" "p/S"))
-    ∷ (app, with_methods ((flag.public + flag.abstract, taking_none "n")
-    ∷ (flag.private, taking_none "r") ∷ (flag.public + flag.static, taking_none "t")
-    ∷ (flag.public, taking_none "a") ∷ []) (interface_named "p/M"))
-    ∷ (app, with_methods ((flag.public + flag.abstract, taking_none "n") ∷ [])
-    (interface_named "p/N"))
+    ∷ (
+      app,
+      with_methods ((flag.public + flag.abstract, taking_none "n")
+          ∷ (flag.private, taking_none "r") ∷ (flag.public + flag.static, taking_none "t")
+          ∷ (flag.public, taking_none "a") ∷ []) (interface_named "p/M"),
+    )
+    ∷ (
+      app,
+      with_methods ((flag.public + flag.abstract, taking_none "n") ∷ [])
+          (interface_named "p/N"),
+    )
     ∷ (app, with_interfaces ("p/M" ∷ []) (under "p/V" "p/W"))
     ∷ (app, with_interfaces ("p/N" ∷ []) (plain "p/W"))
     ∷ (
@@ -111,9 +134,12 @@ lookup i = ends_at inherited (resolve_of app "p/U" i)
 abbrev pub accesses : World
 accesses = world_with_files (
     (boot, root)
-    ∷ (app, with_methods ((flag.protected, taking_none "m")
-    ∷ (flag.protected + flag.static, taking_none "s") ∷ (0, taking_none "k")
-    ∷ (flag.private, taking_none "v") ∷ []) (plain "p/P"))
+    ∷ (
+      app,
+      with_methods ((flag.protected, taking_none "m")
+          ∷ (flag.protected + flag.static, taking_none "s") ∷ (0, taking_none "k")
+          ∷ (flag.private, taking_none "v") ∷ []) (plain "p/P"),
+    )
     ∷ (app, under "p/Q" "p/P")
     ∷ (
       app,
@@ -134,7 +160,7 @@ accesses = world_with_files (
     ∷ (
       app,
       with_methods ((flag.protected, taking_none "m")
-      ∷ (flag.protected + flag.static, taking_none "s") ∷ []) (referring_file (
+          ∷ (flag.protected + flag.static, taking_none "s") ∷ []) (referring_file (
           ToMethod (a_class "p/P") (taking_none "k")
           ∷ ToMethod (a_class "p/P") (taking_none "v")
           ∷ ToMethod (a_class "q/D") (taking_none "m")

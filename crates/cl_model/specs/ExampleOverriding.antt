@@ -25,29 +25,53 @@ overriding = world_with_files (
 abbrev pub declared : World
 declared = world_with_files (
     (boot, with_methods ((flag.public, taking_t "o") ∷ []) root)
-    ∷ (app, with_methods ((flag.public + flag.abstract, giving_v "m")
-    ∷ (flag.public + flag.static, taking_t "s") ∷ (flag.private, taking_t "r") ∷ [])
-    (interface_named "p/I"))
-    ∷ (app, with_methods ((flag.protected, giving_v "m") ∷ (flag.public + flag.static, taking_t "s")
-    ∷ (flag.private, taking_t "r") ∷ (flag.public, taking_t "<init>") ∷ []) (plain "p/S"))
+    ∷ (
+      app,
+      with_methods ((flag.public + flag.abstract, giving_v "m")
+          ∷ (flag.public + flag.static, taking_t "s") ∷ (flag.private, taking_t "r") ∷ [])
+          (interface_named "p/I"),
+    )
+    ∷ (
+      app,
+      with_methods ((flag.protected, giving_v "m") ∷ (flag.public + flag.static, taking_t "s")
+          ∷ (flag.private, taking_t "r") ∷ (flag.public, taking_t "<init>") ∷ []) (plain "p/S"),
+    )
     ∷ (app, with_methods ((flag.public + flag.abstract, taking_t "g") ∷ []) (interface_named "p/K"))
-    ∷ (plug, with_methods ((flag.public, giving_v "m") ∷ (flag.public + flag.static, taking_t "s")
-    ∷ (flag.private, taking_t "r") ∷ []) (with_interfaces ("p/I" ∷ []) (plain "q/A")))
-    ∷ (plug, with_methods ((flag.public + flag.abstract, giving_v "m")
-    ∷ (flag.public + flag.abstract, taking_t "o") ∷ [])
-    (with_interfaces ("p/I" ∷ []) (interface_named "q/I")))
-    ∷ (plug, with_methods ((flag.public, giving_v "m") ∷ (flag.public + flag.static, taking_t "s")
-    ∷ (flag.private, taking_t "r") ∷ (flag.public, taking_t "<init>") ∷ [])
-    (with_interfaces ("p/I" ∷ []) (under "q/B" "p/S")))
+    ∷ (
+      plug,
+      with_methods ((flag.public, giving_v "m") ∷ (flag.public + flag.static, taking_t "s")
+          ∷ (flag.private, taking_t "r") ∷ []) (with_interfaces ("p/I" ∷ []) (plain "q/A")),
+    )
+    ∷ (
+      plug,
+      with_methods ((flag.public + flag.abstract, giving_v "m")
+          ∷ (flag.public + flag.abstract, taking_t "o") ∷ [])
+          (with_interfaces ("p/I" ∷ []) (interface_named "q/I")),
+    )
+    ∷ (
+      plug,
+      with_methods ((flag.public, giving_v "m") ∷ (flag.public + flag.static, taking_t "s")
+          ∷ (flag.private, taking_t "r") ∷ (flag.public, taking_t "<init>") ∷ [])
+          (with_interfaces ("p/I" ∷ []) (under "q/B" "p/S")),
+    )
     ∷ (plug, with_methods ((flag.private, taking_t "g") ∷ []) (under "q/C" "p/S"))
     ∷ (plug, with_interfaces ("p/K" ∷ []) (under "q/D" "q/C"))
-    ∷ (plug, with_methods ((flag.private, taking_t "g") ∷ [])
-    (with_interfaces ("p/K" ∷ []) (under "q/F" "q/C")))
+    ∷ (
+      plug,
+      with_methods ((flag.private, taking_t "g") ∷ [])
+          (with_interfaces ("p/K" ∷ []) (under "q/F" "q/C")),
+    )
     ∷ (plug, with_interfaces ("q/J" ∷ []) (under "q/G" "p/S"))
-    ∷ (plug, with_methods ((flag.public + flag.abstract, taking_t "g") ∷ [])
-    (with_interfaces ("p/I" ∷ []) (interface_named "q/J")))
-    ∷ (plug, with_methods ((flag.public, giving_v "m") ∷ [])
-    (with_interfaces ("q/I" ∷ "p/I" ∷ []) (plain "q/K")))
+    ∷ (
+      plug,
+      with_methods ((flag.public + flag.abstract, taking_t "g") ∷ [])
+          (with_interfaces ("p/I" ∷ []) (interface_named "q/J")),
+    )
+    ∷ (
+      plug,
+      with_methods ((flag.public, giving_v "m") ∷ [])
+          (with_interfaces ("q/I" ∷ "p/I" ∷ []) (plain "q/K")),
+    )
     ∷ [])
 
 -- boot has b/I with m, app p/S with m and p/J with m; in kid r/C is under p/S and implements b/I, and r/J is an
@@ -55,8 +79,11 @@ declared = world_with_files (
 abbrev pub through_kid : World
 through_kid = world_with_files (
     (boot, root)
-    ∷ (boot, with_methods ((flag.public + flag.abstract, taking_t "m") ∷ [])
-    (interface_named "b/I"))
+    ∷ (
+      boot,
+      with_methods ((flag.public + flag.abstract, taking_t "m") ∷ [])
+          (interface_named "b/I"),
+    )
     ∷ (app, with_methods ((flag.public, taking_t "m") ∷ []) (plain "p/S"))
     ∷ (app, with_methods ((flag.public + flag.abstract, taking_t "m") ∷ []) (interface_named "p/J"))
     ∷ (kid, with_interfaces ("b/I" ∷ []) (under "r/C" "p/S"))
@@ -73,8 +100,11 @@ whole_lineage = world_with_files (
     ∷ (app, with_methods ((flag.public + flag.abstract, taking_v "b") ∷ []) (interface_named "p/I"))
     ∷ (plug, with_interfaces ("p/J" ∷ []) (interface_named "q/J"))
     ∷ (plug, with_methods ((flag.public, taking_t "a") ∷ []) (under "q/S" "p/S"))
-    ∷ (plug, with_methods ((flag.public + flag.abstract, taking_v "b") ∷ [])
-    (with_interfaces ("p/I" ∷ []) (interface_named "q/I")))
+    ∷ (
+      plug,
+      with_methods ((flag.public + flag.abstract, taking_v "b") ∷ [])
+          (with_interfaces ("p/I" ∷ []) (interface_named "q/I")),
+    )
     ∷ (plug, with_interfaces ("q/I" ∷ []) (under "q/C" "q/S"))
     ∷ [])
 
@@ -84,15 +114,24 @@ abbrev pub three_loaders : World
 three_loaders = world_with_files (
     (boot, root)
     ∷ (boot, with_methods ((flag.public, taking_t "m") ∷ []) (plain "b/A"))
-    ∷ (boot, with_methods ((flag.public + flag.abstract, taking_t "m")
-    ∷ (flag.public + flag.abstract, taking_v "n") ∷ (flag.public + flag.abstract, taking_t "k")
-    ∷ (flag.public + flag.static, taking_v "j") ∷ []) (interface_named "b/I"))
+    ∷ (
+      boot,
+      with_methods ((flag.public + flag.abstract, taking_t "m")
+          ∷ (flag.public + flag.abstract, taking_v "n") ∷ (flag.public + flag.abstract, taking_t "k")
+          ∷ (flag.public + flag.static, taking_v "j") ∷ []) (interface_named "b/I"),
+    )
     ∷ (boot, interface_named "b/K")
-    ∷ (app, with_methods ((flag.public, taking_t "m") ∷ (flag.public, taking_v "n")
-    ∷ (flag.public + flag.static, taking_t "k") ∷ (flag.public, taking_v "j") ∷ [])
-    (under "p/B" "b/A"))
-    ∷ (plug, with_methods ((flag.public, taking_t "m") ∷ [])
-    (with_interfaces ("b/I" ∷ "b/K" ∷ []) (under "q/C" "p/B")))
+    ∷ (
+      app,
+      with_methods ((flag.public, taking_t "m") ∷ (flag.public, taking_v "n")
+          ∷ (flag.public + flag.static, taking_t "k") ∷ (flag.public, taking_v "j") ∷ [])
+          (under "p/B" "b/A"),
+    )
+    ∷ (
+      plug,
+      with_methods ((flag.public, taking_t "m") ∷ [])
+          (with_interfaces ("b/I" ∷ "b/K" ∷ []) (under "q/C" "p/B")),
+    )
     ∷ (plug, with_methods ((flag.public, taking_t "o") ∷ []) (under "q/D" "q/C"))
     ∷ [])
 

@@ -55,8 +55,11 @@ arrays = world_with_files (
 abbrev pub references : World
 references = world_with_files (
     (boot, root)
-    ∷ (app, with_fields ((flag.public, an_array "x") ∷ [])
-    (with_methods ((flag.public, taking_t "m") ∷ []) (plain "p/F")))
+    ∷ (
+      app,
+      with_fields ((flag.public, an_array "x") ∷ [])
+          (with_methods ((flag.public, taking_t "m") ∷ []) (plain "p/F")),
+    )
     ∷ (app, of_package "p/H")
     ∷ (app, with_methods ((flag.protected, taking_none "k") ∷ []) (plain "p/P"))
     ∷ (plug, under "q/G" "p/F")

@@ -133,8 +133,12 @@ end_state = standing_after (loading ++ resolving ++ linking)
 
 -- a class of kid's own is asked for an entry of its pool (5.4.3)
 abbrev pub resolved_in_kid : Setting
-resolved_in_kid = record { world = three_users; script = record
-    { request = resolve_of kid "p/T" 1; round = 0 } ∷ []; rounds = 1 }
+resolved_in_kid = record {
+  world = three_users;
+  script = record
+      { request = resolve_of kid "p/T" 1; round = 0 } ∷ [];
+  rounds = 1;
+}
 
 -- Svc in app, and in plug a class under it which overrides its method and names nothing (5.4.2)
 abbrev pub overridden_alone : World

@@ -97,8 +97,11 @@ a_class name = an_array_of 0 (bases.Class (codes name))
 
 -- a method's key by its parameters and what it returns (4.3.3)
 abbrev pub method_key : String → List FieldType → Option FieldType → Key
-method_key name params ret = record { name = codes name; descriptor = descriptors.Method
-    (record { params = params; ret = ret }) }
+method_key name params ret = record {
+  name = codes name;
+  descriptor = descriptors.Method
+      (record { params = params; ret = ret });
+}
 
 -- a field's key by its type (4.3.2)
 abbrev pub field_key : String → FieldType → Key
@@ -132,8 +135,15 @@ an_array name = field_key name (an_array_of 1 (bases.Class (codes "p/T")))
 
 -- a class with these flags, this name and superclass (4.1)
 abbrev pub flagged_file : ℕ → Name → Option Name → File
-flagged_file flags name sup = record { flags = flags; name = name; super_name = sup;
-    interfaces = []; fields = []; methods = []; references = [] }
+flagged_file flags name sup = record {
+  flags = flags;
+  name = name;
+  super_name = sup;
+  interfaces = [];
+  fields = [];
+  methods = [];
+  references = [];
+}
 
 -- the file of the root class (4.1, super_class)
 abbrev pub root : File
@@ -200,8 +210,11 @@ told_from i (e ∷ es) = record { loader = e.0; name = e.1.name; bytes = i ∷ [
 
 -- the world of these loaders, each with its files (5.3)
 abbrev pub with_loaders : List WorldLoader → List (ℕ × File) → World
-with_loaders loaders files = record { loaders = loaders; content = told_from 0 files;
-    read = file_numbered (map (λ e. e.1) files) }
+with_loaders loaders files = record {
+  loaders = loaders;
+  content = told_from 0 files;
+  read = file_numbered (map (λ e. e.1) files);
+}
 
 -- the world of the four, each with its files (5.3)
 abbrev pub world_with_files : List (ℕ × File) → World
@@ -209,8 +222,10 @@ world_with_files files = with_loaders four files
 
 -- the world, with these bytes for this name at this loader too (5.3)
 abbrev pub with_bytes : ℕ → String → List ℕ → World → World
-with_bytes loader name bytes w = record w { content = record
-    { loader = loader; name = codes name; bytes = bytes } ∷ w.content }
+with_bytes loader name bytes w = record w {
+  content = record
+      { loader = loader; name = codes name; bytes = bytes } ∷ w.content;
+}
 
 -- ---- what is asked, and what is looked at in a plan
 

@@ -78,7 +78,7 @@ home_below w name zero loader = None
 home_below w name (suc n) loader =
     elim (loader == n) [
       | true ↦ option_and_then (home_by_earlier w name (home_below w name n) n)
-      (slice_get w.loaders n)
+          (slice_get w.loaders n)
       | false ↦ home_below w name n loader
     ]
 

@@ -54,8 +54,12 @@ classes ks = map (λ k. k.class) ks
 -- the first of the list and its superclasses, nearest first (4.1; 5.3.5, step 3)
 abbrev pub upward : Forest → List Kin
 upward Bare = []
-upward (Tree c f sup ints others) = record { class = c; file = f; superclass = sup;
-    interfaces = ints } ∷ upward sup
+upward (Tree c f sup ints others) = record {
+  class = c;
+  file = f;
+  superclass = sup;
+  interfaces = ints;
+} ∷ upward sup
 
 -- the proper superclasses, nearest first (4.1, super_class)
 abbrev pub superclasses : Kin → List Kin
@@ -85,8 +89,12 @@ superinterfaces k = once (preorder k.interfaces true ++ preorder k.superclass fa
 abbrev pub postorder : Forest → List Kin
 postorder Bare = []
 postorder (Tree c f sup ints others) =
-    postorder sup ++ postorder ints ++ record { class = c; file = f; superclass = sup;
-    interfaces = ints } ∷ postorder others
+    postorder sup ++ postorder ints ++ record {
+      class = c;
+      file = f;
+      superclass = sup;
+      interfaces = ints;
+    } ∷ postorder others
 
 -- the lineage in the order in which it is prepared, each class once (5.4)
 abbrev pub lineage : Kin → List Kin

@@ -189,8 +189,10 @@ abbrev pub after : State → Step → State
 after s (Define c) = with_need s (entry_for c.loader c)
 after s (Initiate name place loader) = with_need s (Entry loader name place)
 after s (Constrain name a b) = with_need s (Equal name a b)
-after s (Settle d i v) = record s { settled = s.settled
-    ++ record { class = d; index = i; verdict = v } ∷ [] }
+after s (Settle d i v) = record s {
+  settled = s.settled
+      ++ record { class = d; index = i; verdict = v } ∷ [];
+}
 after s (Prepare c) = record s { prepared = s.prepared ++ c ∷ [] }
 after s (Post q a) = record s { answers = s.answers ++ record { request = q; answer = a } ∷ [] }
 after s NextRound = record s { round = s.round + 1 }

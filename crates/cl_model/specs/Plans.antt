@@ -187,8 +187,14 @@ ending_verdict (Err e) = Wrong e
 
 -- the plan of a load that ends in a class, and of what follows it (5.3 to 5.4.3)
 abbrev pub plan_after : Made Kin → Kin → Made Verdict → Plan
-plan_after m k r = record { own = m.needs; more = r.needs; asked = m.asked
-    ++ r.asked; reached = Some k.class; ends = ending_verdict r.ends }
+plan_after m k r = record {
+  own = m.needs;
+  more = r.needs;
+  asked = m.asked
+      ++ r.asked;
+  reached = Some k.class;
+  ends = ending_verdict r.ends;
+}
 
 -- the plan of a request, from what its load made (5.3 to 5.4.3)
 abbrev pub plan_from : World → ℕ → Request → Made Kin → Option Plan

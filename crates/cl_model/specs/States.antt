@@ -63,8 +63,14 @@ pub record State : Type 0 where
 
 -- nothing yet, in the first round
 abbrev pub start : State
-start = record { records = []; equalities = []; settled = []; prepared = []; answers = []; round = 0
-    }
+start = record {
+  records = [];
+  equalities = [];
+  settled = [];
+  prepared = [];
+  answers = [];
+  round = 0;
+}
 
 -- of an answer with a verdict P holds of that; memory and the source are answers of their request alone
 abbrev pub IfSaid : (Verdict → Type 0) → Answer → Type 0
@@ -134,8 +140,10 @@ IsRecorded s c = Keeps s c.loader c
 abbrev pub with_need : State → Need → State
 with_need s (Entry loader name place) = record s
     { records = s.records ++ record { loader = loader; name = name; place = place } ∷ [] }
-with_need s (Equal name a b) = record s { equalities = s.equalities
-    ++ record { name = name; one = a; other = b } ∷ [] }
+with_need s (Equal name a b) = record s {
+  equalities = s.equalities
+      ++ record { name = name; one = a; other = b } ∷ [];
+}
 
 -- no record stands where the need would put one (5.3)
 abbrev pub IsFresh : State → Need → Type 0

@@ -33,8 +33,12 @@ need ns = Some (record { needs = ns; asked = []; ends = Ok tt })
 
 -- a loader is asked for a name (5.3.1, 5.3.2)
 abbrev pub ask : ℕ → Name → Work (Unit {0})
-ask loader name = Some (record { needs = []; asked = record { loader = loader; name = name }
-    ∷ []; ends = Ok tt })
+ask loader name = Some (record {
+  needs = [];
+  asked = record { loader = loader; name = name }
+      ∷ [];
+  ends = Ok tt;
+})
 
 -- the end, or this error
 abbrev pub or_fail : {A : Type 0} → Error → Option A → Work A

@@ -35,8 +35,13 @@ after_draw v n = record { of = v.of; drawn = v.drawn ++ n ∷ []; parts = v.part
 
 -- what a seat knows once it took another in
 abbrev pub both : Hand → Hand → Hand
-both v w = record { of = v.of; drawn = v.drawn
-    ++ w.drawn; parts = v.parts + w.parts; splits = v.splits + w.splits }
+both v w = record {
+  of = v.of;
+  drawn = v.drawn
+      ++ w.drawn;
+  parts = v.parts + w.parts;
+  splits = v.splits + w.splits;
+}
 
 -- what is left of a seat that was taken in
 abbrev pub spent : Hand

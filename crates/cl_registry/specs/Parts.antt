@@ -64,5 +64,9 @@ place_there place (Some a) = place_by place a
 
 -- the row of a draft's class, by a table of places (5.3.5, step 5)
 abbrev pub row_by : (List ℕ → Option ℕ) → Drafted → Rowed
-row_by place d = record { class = d.class; file = d.file; places = map (place_by place)
-    (supers (file_of d.file)) }
+row_by place d = record {
+  class = d.class;
+  file = d.file;
+  places = map (place_by place)
+      (supers (file_of d.file));
+}

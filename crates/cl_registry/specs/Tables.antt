@@ -43,8 +43,14 @@ pub record Shown : Type 0 where
 -- no class, no event, and no answer to any request
 abbrev pub empty_of : Configured → Scripted → Shown
 empty_of config script =
-    record { config = config; script = script; rows = []; history = []; answers = replicate
-    (length script.requests) None }
+    record {
+      config = config;
+      script = script;
+      rows = [];
+      history = [];
+      answers = replicate
+          (length script.requests) None;
+    }
 
 -- the steps of the linkage machine that the history tells
 abbrev pub steps : Shown → List Step

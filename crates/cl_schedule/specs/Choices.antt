@@ -60,8 +60,12 @@ pub record Piece : Type 0 where
 
 -- the piece of a choice in a state, with these steps and these rounds
 abbrev pub piece : List Scheduled → State → ℕ → List Step → List Step → Piece
-piece script s choice made rounds = record { taken = taken_by script s choice; state = s;
-    made = made; rounds = rounds }
+piece script s choice made rounds = record {
+  taken = taken_by script s choice;
+  state = s;
+  made = made;
+  rounds = rounds;
+}
 
 -- it is what a choice may do in a state: what it makes, and then the rounds that may begin
 pub record IsPieceOf (g : Setting) (s : State) (choice : ℕ) (p : Piece) : Type 0 where

@@ -63,5 +63,11 @@ pub record IsNear {A : Type 0} (s : State) (r : Request) (v : Verdict) (n : ℕ)
 
 -- a request whose verdict the tables have is taken three times at most, and then answered so, or out of memory (5.3, 5.4.2, 5.4.3)
 abbrev pub by_verdict : {A : Type 0} → Measure A
-by_verdict = record { Known = Verdict; Fits = HasVerdict; all = λ v. 3; Within = λ s r v n seat.
-    IsNear s r v n seat.task seat.call; Says = SaysOrLacks }
+by_verdict = record {
+  Known = Verdict;
+  Fits = HasVerdict;
+  all = λ v. 3;
+  Within = λ s r v n seat.
+      IsNear s r v n seat.task seat.call;
+  Says = SaysOrLacks;
+}

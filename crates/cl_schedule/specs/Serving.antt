@@ -30,8 +30,13 @@ HasEachBelow n xs = (x : ℕ) → times x xs ≡ once_below x n
 
 -- the registry that a report was made from, but for its rows; each request has its answer
 abbrev pub reported_registry : Configured → Report → Shown
-reported_registry config r = record { config = config; script = r.script.value; rows = [];
-    history = r.history; answers = map (λ a. Some a) r.answers }
+reported_registry config r = record {
+  config = config;
+  script = r.script.value;
+  rows = [];
+  history = r.history;
+  answers = map (λ a. Some a) r.answers;
+}
 
 -- the requests are served in order: for each what comes next in its service, one step after another, and then the post of
 -- the answer that it comes to, or of a failure after some of these; the next round begins as soon as it may (5.3 to 5.4.3)

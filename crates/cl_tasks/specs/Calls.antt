@@ -102,8 +102,14 @@ calls_in n w p s =
 
 -- the same where no class is loaded any more
 abbrev pub past_loads : ℕ → ℕ → ℕ → Calls
-past_loads homes equalities more = record { opens = false; absent = []; hand = []; homes = homes;
-    equalities = equalities; more = more }
+past_loads homes equalities more = record {
+  opens = false;
+  absent = [];
+  hand = [];
+  homes = homes;
+  equalities = equalities;
+  more = more;
+}
 
 -- past the load of a reference's class: two lineages, the equalities, that the reference is settled, and the post (5.4.3)
 abbrev pub reference_calls : Calls
@@ -119,8 +125,12 @@ own_calls (requests.Link loader name) = past_loads 2 1 4
 
 -- so many more before that, while classes are loaded; these were told to be unrecorded, and those are in hand
 abbrev pub while_loading : List Ask → List Ask → ℕ → Calls → Calls
-while_loading absent hand more n = record n { opens = true; absent = absent; hand = hand;
-    more = more + n.more }
+while_loading absent hand more n = record n {
+  opens = true;
+  absent = absent;
+  hand = hand;
+  more = more + n.more;
+}
 
 -- from the beginning: a look for the class, and all that is to be recorded
 abbrev pub all_calls : Request → Calls

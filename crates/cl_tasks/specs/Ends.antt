@@ -67,8 +67,11 @@ IsAftermath j (aftermaths.Settle e) = IsForEntry j e
 abbrev pub ConcludesBy : {A : Type 0} → ℕ → Aftermath A → Answered → Next A → Type 0
 ConcludesBy q aftermaths.Answer f n = n ≡ record { stage = stages.Done q; turn = turn.Post f }
 ConcludesBy q (aftermaths.Check r loader name) f n =
-    n ≡ record { stage = stages.Resolve (resolutions.Checking
-    (record { q = q; request = r; finding = f })); turn = turn.Look loader name }
+    n ≡ record {
+      stage = stages.Resolve (resolutions.Checking
+          (record { q = q; request = r; finding = f }));
+      turn = turn.Look loader name;
+    }
 ConcludesBy q (aftermaths.Settle e) f n = n ≡ record
     { stage = stages.Resolve (resolutions.Settling e); turn = turn.Settle f }
 

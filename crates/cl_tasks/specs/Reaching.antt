@@ -22,18 +22,18 @@ after_reaching q (requests.Load loader name) row c =
     record {
       stage = stages.Done q;
       turn = turn.Post (ungrounded_answer (requests.Load loader name)
-      (answers.Said (verdicts.Class c)));
+          (answers.Said (verdicts.Class c)));
     }
 after_reaching q (requests.Resolve loader name i) row c =
     record {
       stage = stages.Resolve (resolutions.LookingReference
-      (record { q = q; request = requests.Resolve loader name i; index = i; d = row }));
+          (record { q = q; request = requests.Resolve loader name i; index = i; d = row }));
       turn = turn.LookReference c i;
     }
 after_reaching q (requests.Link loader name) row c =
     record {
       stage = stages.Link
-      (links.LookingPrepared (record { q = q; request = requests.Link loader name; class = row }));
+          (links.LookingPrepared (record { q = q; request = requests.Link loader name; class = row }));
       turn = turn.LookPrepared c;
     }
 

@@ -122,9 +122,17 @@ loading_at c (loads.Initiating j h) =
 
 -- a task whose request's class is recorded, or cannot be
 abbrev pub settled_down : Configured → ℕ → Request → Waits → List Fact → ℕ → Calls → Tasked
-settled_down c q r w facts left calls = record
-    { config = c; q = q; request = Some r; waits = w; frames = []; absent = None; facts = facts;
-    left = left; calls = calls }
+settled_down c q r w facts left calls = record {
+  config = c;
+  q = q;
+  request = Some r;
+  waits = w;
+  frames = [];
+  absent = None;
+  facts = facts;
+  left = left;
+  calls = calls;
+}
 
 -- the need that is refused, if one is (5.3.4)
 abbrev pub refused_facts : Option Need → List Fact
@@ -241,8 +249,17 @@ linking_at c (links.Marking k e) =
 
 -- a task whose request has its answer
 abbrev pub done_at : Configured → ℕ → Tasked
-done_at c q = record { config = c; q = q; request = None; waits = waits.Ended; frames = [];
-    absent = None; facts = []; left = 0; calls = past_loads 0 0 1 }
+done_at c q = record {
+  config = c;
+  q = q;
+  request = None;
+  waits = waits.Ended;
+  frames = [];
+  absent = None;
+  facts = [];
+  left = 0;
+  calls = past_loads 0 0 1;
+}
 
 -- what contracts see of each stage
 abbrev pub task_at : {A : Type 0} → Configured → Stage A → Tasked

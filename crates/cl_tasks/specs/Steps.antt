@@ -152,8 +152,11 @@ ReadsAt p is other = Unit {0}
 
 -- memory ran out
 abbrev pub memory_ends : {A : Type 0} → ℕ → Request → Next A
-memory_ends q r = record { stage = stages.Done q; turn = turn.Post
-    (ungrounded_answer r answers.Memory) }
+memory_ends q r = record {
+  stage = stages.Done q;
+  turn = turn.Post
+      (ungrounded_answer r answers.Memory);
+}
 
 -- a class is being recorded, whose frame is kept, or memory ran out (5.3.5, step 5)
 abbrev pub DefinesBy : {A : Type 0} → Job A → Framed → Next A → Type 0

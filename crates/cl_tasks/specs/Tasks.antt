@@ -33,5 +33,14 @@ pub record Tasked : Type 0 where
 
 -- a task that was told nothing yet
 abbrev pub begun_task : Configured → ℕ → Request → Tasked
-begun_task c q r = record { config = c; q = q; request = Some r; waits = Beginning; frames = [];
-    absent = None; facts = []; left = all_left; calls = all_calls r }
+begun_task c q r = record {
+  config = c;
+  q = q;
+  request = Some r;
+  waits = Beginning;
+  frames = [];
+  absent = None;
+  facts = [];
+  left = all_left;
+  calls = all_calls r;
+}

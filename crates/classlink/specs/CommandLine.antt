@@ -17,9 +17,13 @@ use Rattle.cl_pool.specs.declared.limits.TheConstants.{MOST_WORKERS}
 
 -- the option `--workers`, from 1 to the most, and 1 where it is left out
 abbrev pub workers : Rule
-workers = record (new_rule (codes "workers"))
-    { long = Some (codes "workers"); value_names = 1; defaults = codes "1"
-    ∷ []; parser = Some (Unsigned 1 MOST_WORKERS) }
+workers = record (new_rule (codes "workers")) {
+  long = Some (codes "workers");
+  value_names = 1;
+  defaults = codes "1"
+      ∷ [];
+  parser = Some (Unsigned 1 MOST_WORKERS);
+}
 
 -- the flag `--answers`
 abbrev pub answers : Rule

@@ -2,10 +2,11 @@
 use Rattle.std.specs.Prelude.{◌≡◌, ℕ, ◌+◌, ◌-◌, ◌*◌, ◌%◌, Bool, true, false, List, length, Some, slice_get, unwrap_or}
 use Rattle.std.specs.List.{AllByRecursion}
 use Rattle.cl_classfile.specs.Files.{Name, Member}
+use Rattle.cl_preparation.specs.declared.filter.TheConstants.{SLOTS}
 
 -- the slot of a name, by its length and its last byte
 abbrev pub slot : Name → ℕ
-slot name = (length name * 37 + unwrap_or (slice_get name (length name - 1)) 0) % 256
+slot name = (length name * 37 + unwrap_or (slice_get name (length name - 1)) 0) % SLOTS
 
 -- the slot of each method's name is marked, or of none is
 abbrev pub SlotsAreMarked : Bool → List Bool → List Member → Type 0

@@ -3,6 +3,7 @@
 ghost use Rattle.std.specs.Prelude.{◌≡◌, ◌<◌, Some, IfOk, List, false, true, ℕ, length, option_map, slice_get};
 ghost use Rattle.cl_classfile.specs.Files.{file_of};
 ghost use Rattle.cl_preparation.specs.Filters.{Covers, Shuns, slot};
+ghost use Rattle.cl_preparation.specs.declared.filter.TheConstants.{SLOTS};
 
 use cl_classfile::{ClassFile, text_at};
 use cl_names::Name;
@@ -26,18 +27,19 @@ impl Drop for NameFilter {
 
 impl Model for NameFilter {
     ghost use Rattle.std.specs.Prelude.{◌≡◌, Bool, List, length};
+    ghost use Rattle.cl_preparation.specs.declared.filter.TheConstants.{SLOTS};
 
     ghost Value = { List Bool };
 
     ghost view = { λ f. f.slots.items };
 
-    ghost invariant = { λ f. length f.slots.items ≡ 256 };
+    ghost invariant = { λ f. length f.slots.items ≡ SLOTS };
 }
 
 /// The slot of a name, by its length and its last byte.
 fn slot_of(name: &Name) -> usize
     ensures is { result ≡ slot name.now }
-    ensures within { result < 256 }
+    ensures within { result < SLOTS }
 {
     let bytes = name.bytes();
     let last = match bytes.last() {
@@ -49,8 +51,8 @@ fn slot_of(name: &Name) -> usize
 
 /// Marks the slot of a name, if there is one.
 fn mark(slots: &mut Vec<bool>, name: Option<&Name>)
-    requires { length slots.old.items ≡ 256 }
-    ensures length { length slots.new.items ≡ 256 }
+    requires { length slots.old.items ≡ SLOTS }
+    ensures length { length slots.new.items ≡ SLOTS }
     ensures marked { (n : List ℕ) → option_map (λ x. x.now) name.entry ≡ Some n
         → slice_get slots.new.items (slot n) ≡ Some true }
     ensures others { (i : ℕ) → slice_get slots.old.items i ≡ Some true

@@ -3,6 +3,7 @@
 ghost use Rattle.std.specs.Prelude.{◌≡◌, ℕ, ◌<◌, ◌≤◌, ◌+◌, ◌-◌, ◌^◌, [], IfOk, MatchOption, None, Some, length, map, replicate, slice_get, slice_set, vec_len, vec_capacity};
 ghost use Rattle.cl_findings.specs.Findings.{Decides};
 ghost use Rattle.cl_config.specs.Scripts.{IsScript};
+ghost use Rattle.cl_config.specs.declared.limits.TheConstants.{MOST_REQUESTS, MOST_THENS};
 ghost use Rattle.cl_registry.specs.Kept.{left_in, open_in};
 
 use cl_config::Script;
@@ -19,8 +20,8 @@ pub struct Rooms {
 
 /// No event, no answer, and room for those of this many requests and rounds.
 pub fn rooms_for(alloc: Global, count: usize, rounds: usize) -> Result<Rooms, AllocError>
-    requires few { count < 2 ^ 16 }
-    requires rounds { rounds ≤ 2 ^ 16 }
+    requires few { count ≤ MOST_REQUESTS }
+    requires rounds { rounds ≤ MOST_THENS + 1 }
     ensures history { IfOk result (λ r. (r.history.items ≡ []) × (vec_len r.history ≡ 0)
         × (count + rounds ≤ vec_capacity r.history)) }
     ensures answers { IfOk result (λ r. r.answers.items ≡ replicate count None) }

@@ -12,6 +12,8 @@ from kit import ci_words, guard, lanes
 LAST = re.compile(r"^(\d+) passed, (\d+) failed$", re.M)
 SECTION = re.compile(r"^== (.*)\n", re.M)
 PROVED = re.compile(r"rt: (\w+) proved\n")
+# An edit of must-fail/ that could not be tried: rt ci tells of it, and counts it neither as passed nor as failed.
+BAD_EDIT = re.compile(r"^rt: ((?:must-fail )?\S+: BAD EDIT: .*)$", re.M)
 NOT_PROVED = re.compile(r"rt: \w+(?:: its tests are)? NOT PROVED")
 MOST_REASONS = 6
 # The lines of a crate's log that say why it is not proved.
@@ -69,7 +71,8 @@ def run(root, crates, file, when_proved=lambda crate, log: None, when_refused=la
     text = "".join(lines)
     last = [*LAST.finditer(text)]
     passed, number = (int(last[-1][1]), int(last[-1][2])) if last else (0, 1)
-    failed = reasons(text) if number or ran.returncode else []
+    failed = reasons(text) if last and (number or ran.returncode) else []
+    failed += BAD_EDIT.findall(text)
     if (number or ran.returncode) and not failed:
         failed = [f"rt ci ended with status {ran.returncode}: {' '.join(text.split(chr(10))[-4:])[-400:]}"]
     are_proved = bool(last) and "NOT PROVED" not in text and passed > 0

@@ -1,7 +1,8 @@
 """What the tools take of the kit: the crates of the repository, and one check of an edited copy of a crate, with what it cost.
 
-The kit's own command `rt` is loaded as a module, so that crates.txt and edits are read as `rt` reads them. Nothing else of
-the tools touches the kit: after a new kit this file and `tools/wrong-bodies --self-test` tell whether all still holds.
+The kit's own command `rt` is loaded as a module, so that crates.txt and edits are read as `rt` reads them. What else knows the kit: judge.py
+reads what `rt ci` prints, costs.py the words and folders of its processes, copies.py and reach.py where proofs lie and how the prover names
+what it makes. After a new kit `tools/wrong-bodies --self-test` tells whether all but the first two still hold.
 """
 import importlib.machinery
 import importlib.util
@@ -346,24 +347,25 @@ def check(crate, texts, asked, functions=(), is_whole=False, taken=(), known=(),
         if taken:
             take(room, crate.name, taken, known)
         words = [*rtlib.guarded(), rtlib.RATTLE, "check", *crate.of_kit.words(flags, keeps=False), "--incremental", asked.kept]
-        status, usage, is_late = run_limited(words, room, said, asked)
+        status, seconds, peak, is_late = run_limited(words, room, said, asked)
         said.seek(0)
         text = said.read().decode(errors="replace")
-    seconds = usage.ru_utime + usage.ru_stime
-    return Checked(status, text, seconds, usage.ru_maxrss * 1024, is_late, {*texts})
+    return Checked(status, text, seconds, peak, is_late, {*texts})
 
 
 def run_limited(words, folder, said, asked):
-    """Runs the command in a lane and returns its status, what it used, and whether it was ended for its time. What was ended for
-    memory is run again, once there is room: as often as it made room for others, and once where the system ended it."""
+    """Runs the command in a lane and returns its status, the seconds of processor that it used, all its runs together, the most bytes that
+    it held, and whether it was ended for its time. What was ended for memory is run again, once there is room: as often as it made room for
+    others, and once where the system ended it."""
     how = {"cwd": folder, "stdin": subprocess.DEVNULL, "stdout": said, "stderr": subprocess.STDOUT}
-    needs, was_killed = asked.needs, False
+    needs, was_killed, seconds = asked.needs, False, 0.0
     while True:
         with asked.lanes.lane(needs, asked.behind) as lane:
             status, usage, is_late = run_once(lane, words, how, asked)
+        seconds += usage.ru_utime + usage.ru_stime
         is_for_memory = status == -signal.SIGKILL and not is_late
         if not is_for_memory or was_killed and not lane.is_ended:
-            return status, usage, is_late
+            return status, seconds, usage.ru_maxrss * 1024, is_late
         was_killed = was_killed or not lane.is_ended
         needs = max(needs, MOST_BYTES)
         said.seek(0)

@@ -14,13 +14,13 @@ from source import files as texts_of, functions, names_of
 
 HANDLES = "Handles allowed: Threads, Wait."
 MOST_LINES = 500
-CLAUSE = re.compile(r"\s*(?:requires|ensures|ghost (?!use\b)\w+ =)")
+CLAUSE = re.compile(r"\s*(?:requires|ensures|ghost (?!use\b)\w+(?: =|:))")
 MOST_COLUMNS = 100
-TEXTS = (".rt", ".antt", ".md", ".edit", ".txt", ".py", "")
+TEXTS = (".rt", ".antt", ".md", ".edit", ".txt", ".py", ".java", ".c", ".toml", ".bundle", ".expected", ".dot", "")
 # A relation or a type that a file of definitions states.
 STATED = re.compile(r"^(?:(?:abbrev|unfoldable) )?pub (?:(?:abbrev|unfoldable|record|data) )?([A-Z]\w*)\b", re.M)
 # A number of some paper or issue says nothing to a reader of the repository, which states its rules itself.
-CITATION = re.compile(r"(?<!\.)\b(?:[Pp]aper|[Ii]ssue|[Rr]equest|[Dd]efinition|[Rr]ule) [DRW]?\d+\b|\b[TDRW]\d{1,2} ?\([ivx]+\)|\bW\d{1,2}\b")
+CITATION = re.compile(r"(?<!\.)\b(?:[Pp]aper|[Ii]ssue|[Rr]equest|[Dd]efinition|[Rr]ule)s? #?[DRW]?\d+\b|\b[TDRW]\d{1,2} ?\([ivx]+\)|\bW\d{1,2}\b")
 
 
 def tracked(root):
@@ -102,7 +102,7 @@ def page_is_made(root, _files, crates):
 
 def files_are_short(root, files, _crates):
     """No file of code is so long that nobody reads it to its end."""
-    counted = ((it, len(lines_of(f"{root}/{it}")) - 1) for it in files if it.endswith(".rt"))
+    counted = ((it, len(lines_of(f"{root}/{it}")) - 1) for it in files if it.endswith((".rt", ".py")))
     return [f"{it}: {number} lines, over {MOST_LINES}" for it, number in counted if number > MOST_LINES]
 
 

@@ -10,7 +10,7 @@ MADE = "docs/EDITS.md"
 HOMES = {"docs/CLASSFILE.md": "crates/cl_classfile"}
 FOLDERS = "src specs proofs wrong must-fail".split()
 # Pages whose every name of code is a word of the tree, or of a later stage, which the section of ARCHITECTURE.md names.
-NAMING = re.compile(r"(crates/\w+/)?README\.md|docs/(RULES|ARCHITECTURE|CLASSFILE)\.md")
+NAMING = re.compile(r"(.*/)?README\.md|docs/(RULES|ARCHITECTURE|CLASSFILE)\.md")
 # Of another page the section whose names are: its other words in backticks are bytes, codes and texts too.
 NAMING_SECTIONS = {"docs/FORMATS.md": "Where each section is stated"}
 NAME = re.compile(r"(?!_)\w+(::\w+)*(?=[(<]|$)")
@@ -124,6 +124,7 @@ def pages_name_what_is(root, files, _crates):
     later = LATER.search(texts.get("docs/ARCHITECTURE.md", ""))
     known = OTHERS | set(re.findall(r"\w+", later[1] if later else ""))
     found = [*rules_are_found(texts["docs/RULES.md"])] if "docs/RULES.md" in texts else []
+    found += [f"{it}: it has no section '{head}'" for it, head in NAMING_SECTIONS.items() if it in texts and f"\n## {head}\n" not in texts[it]]
     for page, text in texts.items():
         naming = names_code(page, text)
         for number, pieces in spans(text):

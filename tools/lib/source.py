@@ -1,4 +1,5 @@
 """Where the functions of a Rattle file stand, what the prover calls them, and which of them a crate's users can call."""
+import functools
 import os
 import re
 from dataclasses import dataclass
@@ -89,6 +90,7 @@ def body_of(text, at, end):
         at = since
 
 
+@functools.lru_cache(maxsize=None)
 def functions(path, text):
     """The functions of a file that have a body."""
     text = blank(text)

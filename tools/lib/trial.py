@@ -28,13 +28,13 @@ LINE_SECONDS = 0.2
 EDIT_SECONDS = 10
 # A crate of more lines than these, or over so many others, has so many edits tried by one check first. All others go on from the
 # definitions, lemmas and types that this check kept: in parts side by side, since a crate that stands on all others has its trial last,
-# when other cores would have nothing to do. A part has at least so many edits, and more where its checks then hold less than so many
-# bytes, by what the first held: each check pays for its beginning. No check has more.
+# when other cores would have nothing to do. A part has as many edits as one check holds in so many bytes, by what the first held, and at
+# least so many: each check pays for its beginning.
 LARGE_LINES = 4000
 MANY_BELOW = 18
 FIRST_EDITS = 16
 LEAST_EDITS = 12
-PART_BYTES = 3_000_000_000
+PART_BYTES = 3_500_000_000
 
 
 @dataclass
@@ -143,8 +143,11 @@ class Trial:
             return []
         if why and self.taken and not checked.is_late:
             # (whatever it is, it may not lie in what was taken)
-            self.taken = set()
-            return self.try_group(group, waiting)
+            taken, self.taken, failed = self.taken, set(), len(self.told.failed)
+            again = self.try_group(group, waiting)
+            if len(self.told.failed) > failed:
+                self.taken = taken
+            return again
         if why:
             self.fail(group[0], why)
             return []
@@ -213,10 +216,17 @@ def cut(groups, most):
     return found
 
 
-def parts(edits, most, least):
-    """The edits in so many parts at the most, of so many edits at the least. Those that one check cannot tell apart, as all of one
-    function, go to different parts as far as there are enough: in one part each of them takes a check more."""
-    given = [[] for _ in range(max(1, min(most, len(edits) // least)))]
+def most_edits(peak):
+    """How many edits one check may have, by the bytes that a check of FIRST_EDITS held at the most: half of them, or more, it held before
+    it came to an edit (seen: 1.5 GB by 16 edits, 1.8 by 27)."""
+    before = max(1, peak // 2)
+    return max(LEAST_EDITS, FIRST_EDITS * (PART_BYTES - before) // before)
+
+
+def parts(edits, number):
+    """The edits in so many parts, or one. Those that one check cannot tell apart, as all of one function, go to different parts as far as
+    there are enough: in one part each of them takes a check more."""
+    given = [[] for _ in range(max(1, number))]
     for group in sorted(grouped(edits), key=len):
         for edit in group:
             near = [sum(not are_apart(edit, it) for it in part) for part in given]
@@ -262,11 +272,11 @@ def try_known(crate, edits, known, kept, lanes):
     told.add(Trial(crate, known, lanes, first, kept, behind=len(others)).run())
     if not others:
         return told
-    least = max(LEAST_EDITS, FIRST_EDITS * PART_BYTES // max(1, told.peak))
-    divided = parts(others, lanes.most, least)
+    most = most_edits(told.peak)
+    divided = parts(others, min(lanes.most, -(-len(others) // most)))
     folders = [kept, *(shutil.copytree(kept, f"{kept}-{at}") for at in range(1, len(divided)))]
     with ThreadPoolExecutor(len(divided)) as pool:
-        for part in pool.map(lambda it: Trial(crate, known, lanes, *it, told.peak, most=least).run(), zip(divided, folders)):
+        for part in pool.map(lambda it: Trial(crate, known, lanes, *it, told.peak, most=most).run(), zip(divided, folders)):
             told.add(part)
     return told
 
@@ -304,6 +314,10 @@ class Trials:
             for why in told.failed:
                 print(f"FAILED: {why}", flush=True)
         return told
+
+    def told(self):
+        """What was told of the crates whose trial has ended."""
+        return [it.result() for it in self.work.values() if it.done() and not it.cancelled() and not it.exception()]
 
     def end(self):
         """Waits for all that was begun, and returns what was told and what else failed."""

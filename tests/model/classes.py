@@ -82,26 +82,50 @@ def read(data):
         return "ClassFormatError"
 
 
-def structure(data):
-    at = 8
+class Bytes:
+    """The bytes of a file, and how far they are read."""
 
-    def take(form):
-        nonlocal at
-        values = struct.unpack_from(">" + form, data, at)
-        at += struct.calcsize(">" + form)
+    def __init__(self, data, at):
+        self.data, self.at = data, at
+
+    def take(self, form):
+        values = struct.unpack_from(">" + form, self.data, self.at)
+        self.at += struct.calcsize(">" + form)
         return values if len(values) > 1 else values[0]
 
-    raw, i, count = {}, 1, take("H")
-    while i < count:
-        tag = take("B")
-        if tag == 1:
-            length = take("H")
-            raw[i] = ("utf8", text_of(take(f"{length}s")) if length else "")
-        else:
-            raw[i] = (tag, take({3: "I", 4: "I", 5: "Q", 6: "Q", 7: "H", 8: "H", 15: "BH", 16: "H"}.get(tag, "HH")))
-            if tag not in (3, 4, 5, 6, 7, 8, 9, 10, 11, 12, 15, 16, 18):
-                raise KeyError(tag)
-        i += 2 if tag in (5, 6) else 1
+    def pool(self):
+        """The entries of the constant pool by their indices, as tag and value."""
+        raw, i, count = {}, 1, self.take("H")
+        while i < count:
+            tag = self.take("B")
+            if tag == 1:
+                length = self.take("H")
+                raw[i] = ("utf8", text_of(self.take(f"{length}s")) if length else "")
+            else:
+                raw[i] = (tag, self.take({3: "I", 4: "I", 5: "Q", 6: "Q", 7: "H", 8: "H", 15: "BH", 16: "H"}.get(tag, "HH")))
+                if tag not in (3, 4, 5, 6, 7, 8, 9, 10, 11, 12, 15, 16, 18):
+                    raise KeyError(tag)
+            i += 2 if tag in (5, 6) else 1
+        return raw
+
+    def members(self, utf8):
+        found = []
+        for _ in range(self.take("H")):
+            flags, n, d, attributes = self.take("HHHH")
+            found.append(Member(flags, utf8(n), utf8(d)))
+            for _ in range(attributes):
+                self.skip()
+        return found
+
+    def skip(self):
+        """Passes an attribute."""
+        _, length = self.take("HI")
+        self.take(f"{length}s") if length else None
+
+
+def structure(data):
+    file = Bytes(data, 8)
+    raw = file.pool()
 
     def utf8(index):
         kind, value = raw[index]
@@ -112,26 +136,12 @@ def structure(data):
     def name(index):
         return utf8(raw[index][1])
 
-    def members():
-        found = []
-        for _ in range(take("H")):
-            flags, n, d, attributes = take("HHHH")
-            found.append(Member(flags, utf8(n), utf8(d)))
-            for _ in range(attributes):
-                skip()
-        return found
-
-    def skip():
-        nonlocal at
-        _, length = take("HI")
-        take(f"{length}s") if length else None
-
-    flags, this, above = take("HHH")
-    interfaces = [name(take("H")) for _ in range(take("H"))]
-    fields, methods = members(), members()
-    for _ in range(take("H")):
-        skip()
-    if at != len(data):
+    flags, this, above = file.take("HHH")
+    interfaces = [name(file.take("H")) for _ in range(file.take("H"))]
+    fields, methods = file.members(utf8), file.members(utf8)
+    for _ in range(file.take("H")):
+        file.skip()
+    if file.at != len(data):
         raise KeyError("trailing")
     refs = {}
     for index, (tag, value) in raw.items():

@@ -22,16 +22,16 @@ order of posts explains an output, the one in which each request is posted as so
 one walk along the history finds it.
 
 A request that ran out of memory, or met a fault of its source, is refused: nothing in these runs gives cause for either."""
-import importlib.machinery
-import importlib.util
 import os
 import sys
 from collections import defaultdict
 
 sys.dont_write_bytecode = True
-sys.path.insert(0, os.path.dirname(os.path.realpath(__file__)))
+HERE = os.path.dirname(os.path.realpath(__file__))
+sys.path[:0] = [HERE, f"{HERE}/.."]
 
 from plans import Equal, Prepared, Record, Rules, Unreadable  # noqa: E402
+import asking  # noqa: E402
 import classes  # noqa: E402
 
 
@@ -225,15 +225,7 @@ def why_not(rules, script, output):
 
 # ---- what is given
 
-def module(name, path):
-    """A script without an ending, as a module."""
-    loader = importlib.machinery.SourceFileLoader(name, path)
-    found = importlib.util.module_from_spec(importlib.util.spec_from_loader(name, loader))
-    loader.exec_module(found)
-    return found
-
-
-MODEL = module("model", os.path.join(os.path.dirname(os.path.realpath(__file__)), "..", "model", "model"))
+MODEL = asking.module("model", f"{HERE}/../model/model")
 
 
 def of_bundle(text):

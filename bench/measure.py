@@ -6,7 +6,6 @@ and prints a line of a table for each: what it is, its bytes, the seconds of pro
 greatest peak of memory, then the same of the bundle of about a megabyte, if there is one. A run that does not end with 0 is marked.
 GNU time starts the program: a child's peak is never less than that of who started it, which python's is too great for."""
 import os
-import re
 import subprocess
 import sys
 import tempfile
@@ -14,11 +13,6 @@ import tempfile
 import references
 
 TIME = ["/usr/bin/time", "--quiet", "--format=%U %S %M"]
-
-
-def described():
-    """What each bundle is, by name, as references.py says."""
-    return dict(re.findall(r"^  (\w+) {2,}(.*)$", references.__doc__, re.M))
 
 
 def measured(program, path, words, runs):
@@ -45,11 +39,11 @@ def main(program, folder, *rest):
         place = names.index("--runs")
         runs = int(names[place + 1])
         del names[place : place + 2]
-    meanings = described()
-    for name in names or meanings:
+    for name in names or references.MADE:
+        _, what, _ = references.MADE[name]
         paths = [f"{folder}/{name}", f"{folder}/{name}_mb"]
         lines = [measured(program, path, words, runs) for path in paths if os.path.exists(path)]
-        print(f"| `{name}`: {meanings[name]} | {' | '.join(lines) or 'no such bundle'} |", flush=True)
+        print(f"| `{name}`: {what} | {' | '.join(lines) or 'no such bundle'} |", flush=True)
 
 
 if __name__ == "__main__":

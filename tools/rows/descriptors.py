@@ -94,15 +94,21 @@ def ask_all(rows, *pieces):
     rows.ask("form", text, form_answer(data))
 
 
-def make(rows):
+def of_bytes(rows):
     rows.about("Descriptors: each byte alone, behind [, as a parameter and as what is returned.")
     for byte in range(256):
         for data in (bytes([byte]), b"[" + bytes([byte]), b"(" + bytes([byte]) + b")V", b"()" + bytes([byte])):
             rows.ask("form", word(data), form_answer(data))
+
+
+def of_short_texts(rows):
     rows.about("Each text of at most four of some characters.")
     for count in range(5):
         for letters in itertools.product(b"I[La;()V", repeat=count):
             rows.ask("form", word(bytes(letters)), form_answer(bytes(letters)))
+
+
+def of_fields(rows):
     rows.about("Field descriptors, and texts that are none.")
     for text in (
         b"B", b"C", b"D", b"F", b"I", b"J", b"S", b"Z", b"[[J", b"Ljava/lang/Object;", b"[Lp/A;", b"", b"V", b"[",
@@ -112,6 +118,9 @@ def make(rows):
         b"L<init>;", b"[[[[D", b"(D)V", b"(J[J)I", b"(I", b"IV", b"VI", b"L p;", b" I", b"I ", b"l;", b"Lp/A;;",
     ):
         ask_all(rows, text)
+
+
+def of_methods(rows):
     rows.about("Method descriptors of up to three parameters.")
     params = (b"I", b"J", b"D", b"[J", b"Lp/A;", b"[[Lq/B;")
     for count in range(4):
@@ -119,6 +128,9 @@ def make(rows):
             for ret in (b"V", b"I", b"[J", b"Lp/C;"):
                 data = b"(" + b"".join(some) + b")" + ret
                 rows.ask("method", word(data), method_answer(data))
+
+
+def of_other_texts(rows):
     rows.about("Texts that are no method descriptor.")
     for text in (
         b"(I", b"(I)", b"(V)V", b"()VV", b"()[V", b"I)V", b"(I)(", b"(Lp/A)V", b"()", b"(", b")", b")V", b"((I)V)V",
@@ -127,6 +139,9 @@ def make(rows):
         b"(\xff)V",
     ):
         ask_all(rows, text)
+
+
+def of_limits(rows):
     rows.about("Limits: dimensions, units, the length of a name; which is told where more than one is passed.")
     for dims in (0, 1, 254, 255, 256, 257, 1000, 65534):
         for base in (b"I", b"J", b"Lp/A;"):
@@ -149,3 +164,12 @@ def make(rows):
     ask_all(rows, b"(", (b"I", 256), b")I)")
     ask_all(rows, b"(", (b"[", 256), b"I)I)")
     ask_all(rows, (b"[", 256), b"V")
+
+
+def make(rows):
+    of_bytes(rows)
+    of_short_texts(rows)
+    of_fields(rows)
+    of_methods(rows)
+    of_other_texts(rows)
+    of_limits(rows)

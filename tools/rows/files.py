@@ -196,7 +196,11 @@ def shown(file, this_name, super_name):
     return text + "".join(a.shown for a in p["attributes"])
 
 
-def of_layout(rows):
+def ask_bytes(rows, data, answer):
+    rows.ask("read", word(data), answer)
+
+
+def of_whole_files(rows):
     rows.about("What is read of a file, and that it is written as it was read.")
     for file, this_name, super_name in (
         (OBJECT_FILE, "java/lang/Object", "-"), (CLASS, "p/A", "java/lang/Object"), (FULL, "p/A", "java/lang/Object"),
@@ -205,34 +209,46 @@ def of_layout(rows):
         ask(rows, file, FINE)
         rows.ask("file", word(file.bytes()), shown(file, this_name, super_name))
         rows.ask("write", word(file.bytes()), "the same")
-    ask_bytes = lambda data, answer: rows.ask("read", word(data), answer)
-    ask_bytes(USE, FINE)
+    ask_bytes(rows, USE, FINE)
     rows.ask("write", word(USE), "the same")
+
+
+def of_cut_files(rows):
     rows.about("Files cut short at every place, and bytes behind them.")
     for data in (OBJECT_FILE.bytes(), FULL.bytes(), ENTRIES.bytes(), USE):
         for end in range(len(data)):
-            ask_bytes(data[:end], F3)
+            ask_bytes(rows, data[:end], F3)
         for rest in (b"\0", b"\xca", data):
-            ask_bytes(data + rest, F4)
-    rows.about("Headers: each bit of the magic and the version, and others.")
+            ask_bytes(rows, data + rest, F4)
+
+
+def of_headers(rows):
     data = OBJECT_FILE.bytes()
+    rows.about("Headers: each bit of the magic and the version, and others.")
     for place in range(8):
         for bit in range(8):
             changed = bytearray(data)
             changed[place] ^= 1 << bit
-            ask_bytes(bytes(changed), F1 if place < 4 else F2)
+            ask_bytes(rows, bytes(changed), F1 if place < 4 else F2)
     for header, answer in (
         (b"\xbe\xba\xfe\xca\0\0\0\x34", F1), (MAGIC + b"\0\0\0\x33", F2), (MAGIC + b"\0\0\0\x35", F2),
         (MAGIC + b"\0\x03\0\x34", F2),
         (MAGIC + b"\xff\xff\0\x34", F2), (MAGIC + b"\0\0\x01\x34", F2), (MAGIC + b"\0\x34\0\0", F2),
         (MAGIC + VERSION, FINE),
     ):
-        ask_bytes(header + data[8:], answer)
+        ask_bytes(rows, header + data[8:], answer)
+
+
+def of_pool_counts(rows):
     rows.about("Pool counts: as many as stand, one more (class flags are no tag), one less.")
     four = integer(0)
     ask(rows, CLASS.changed(more=[four]), FINE)
     ask(rows, CLASS.changed(count=6), bad_pool(5))
     ask(rows, CLASS.changed(more=[four, four], count=6), F3)
+
+
+def of_changed_bytes(rows):
+    data = OBJECT_FILE.bytes()
     rows.about("Each change of one byte: of java/lang/Object the class flags alone may be others, at 32 and 33.")
     ways = {
         32: sum(f.class_keeps(byte << 8 | 0x21) for byte in range(1, 256)),
@@ -243,28 +259,42 @@ def of_layout(rows):
     rows.ask("changes", word(data), str(sum(ways.values())))
     rows.about("Of p/Use a reader that was written apart from this one, from the tables, took so many.")
     rows.ask("changes", word(USE), "4016")
+
+
+def of_dash(rows):
     rows.about("A class whose superclass is named `-`, which lists as none: each other name in its place comes back.")
     dash = File(pool=[utf8(b"p/A"), cls(1), utf8(b"-"), cls(3)], this_class=2, super_class=4).bytes()
-    ask_bytes(dash, FINE)
+    ask_bytes(rows, dash, FINE)
     rows.ask("changed", [word(dash), str(dash.index(b"-"))],
         str(sum(is_class(bytes([byte])) for byte in range(256) if byte != 0x2D)))
 
 
-def of_order(rows):
+def of_layout(rows):
+    of_whole_files(rows)
+    of_cut_files(rows)
+    of_headers(rows)
+    of_pool_counts(rows)
+    of_changed_bytes(rows)
+    of_dash(rows)
+
+
+def of_short_bytes(rows):
     rows.about("The order of faults: bytes that end where they end.")
-    ask_bytes = lambda data, answer: rows.ask("read", word(data), answer)
     for data, answer in (
         (b"\0\0\0", F3), (b"\xca\xfe\xba\xbf", F1), (b"\xca\xfe\xba\xbf\0\0\0\x35", F1), (MAGIC + b"\0\x01\0", F3),
         (MAGIC + b"\0\0\0\x35", F2), (MAGIC + b"\0\x01\0\x34\0\0", F2),
     ):
-        ask_bytes(data, answer)
+        ask_bytes(rows, data, answer)
     for behind, answer in (
         (b"\0", F3), (b"\0\0", bad_pool(0)), (b"\0\x02\x02", bad_pool(1)), (b"\0\x02\x05", bad_pool(1)),
         (b"\0\x02\x06\0", bad_pool(1)),
         (b"\0\x03\x05\0", F3), (b"\0\x03\x01\0\x02\x02", F3), (b"\0\x03\x07\0\x09\0", bad_pool(2)),
         (b"\0\x04\x05\0\0\0\0\0\0\0\0\x02", bad_pool(3)),
     ):
-        ask_bytes(MAGIC + VERSION + behind, answer)
+        ask_bytes(rows, MAGIC + VERSION + behind, answer)
+
+
+def of_two_steps(rows):
     rows.about("Each two steps that a file may break: the first is told.")
     order = [
         ("magic", F1), ("version", F2), ("tag", bad_pool(6)), ("cut", F3), ("trailing", F4), ("entry", bad_pool(5)),
@@ -275,10 +305,13 @@ def of_order(rows):
     for i, (first, answer) in enumerate(order):
         for second, _ in order[i:]:
             if {first, second} != {"cut", "trailing"}:
-                ask_bytes(broken({first, second}), answer)
+                ask_bytes(rows, broken({first, second}), answer)
     for some in itertools.combinations(range(len(order)), 3):
         if not {"cut", "trailing"} <= {order[n][0] for n in some}:
-            ask_bytes(broken({order[n][0] for n in some}), order[some[0]][1])
+            ask_bytes(rows, broken({order[n][0] for n in some}), order[some[0]][1])
+
+
+def of_member_order(rows):
     rows.about("Members: a member's own rules, then whether an earlier one is alike, then the next member.")
     names = [utf8(b"x"), utf8(b"y"), utf8(b"I"), utf8(b"()V")]
     kinds = {"same": (0, 5), "bad": (3, 5), "other": (0, 6), "other bad": (3, 6)}
@@ -305,6 +338,12 @@ def of_order(rows):
         methods = [Member(*kinds[kind], 8) for kind in others]
         ask(rows, CLASS.changed(more=names, fields=fields, methods=methods),
             first_fault(some) or first_fault(others) or FINE)
+
+
+def of_order(rows):
+    of_short_bytes(rows)
+    of_two_steps(rows)
+    of_member_order(rows)
 
 
 def broken(steps):

@@ -37,9 +37,9 @@ def ref_rows(tag, ref, named, other):
     return rows
 
 
-def table():
-    """Of each line of the table: what it says, entries that keep it, entries that break it, and the fault of these."""
-    utf8_rows = [
+def text_rows():
+    """Utf8."""
+    rows = [
         ("1: in one byte; 00 is none", b"\x01\x7f", b"\x00"),
         ("1: in two bytes; what one byte spells is not spelled in two, but U+0000", b"\xc0\x80\xc2\x80\xdf\xbf",
             b"\xc1\x81"),
@@ -48,8 +48,12 @@ def table():
         ("1: a surrogate stands alone; nothing is spelled in four bytes", b"\xed\xa0\x80", b"\xf0\x90\x80\x80"),
         ("1: no bytes; bytes that end within a code unit", b"", b"\xe2\x82"),
     ]
-    rows = [(about, texts(keeps), texts(breaks), FIRST) for about, keeps, breaks in utf8_rows]
-    rows += [
+    return [(about, texts(keeps), texts(breaks), FIRST) for about, keeps, breaks in rows]
+
+
+def number_rows():
+    """Integer, Float, Long, Double."""
+    rows = [
         ("3: four bytes", [integer(-1), string(THIS_TEXT)], [raw(b"\3\0\0\0")], F3),
         ("4: four bytes", [real(0xFFFFFFFF), string(THIS_TEXT)], [raw(b"\4\0\0\0")], F3),
     ]
@@ -61,6 +65,12 @@ def table():
             ("%d: the first index names no text" % tag, [wide(0), string(THIS_TEXT)], [wide(0), string(5)],
                 bad_pool(7)),
         ]
+    return rows
+
+
+def class_rows():
+    """Class and String."""
+    rows = []
     for about, keeps, breaks in (
         ("a class name", b"p/q/A", b"p/q.A"), ("no part of it is empty", b"p/A", b"p/"),
         ("or two slashes", b"p/A", b"p//A"),
@@ -75,6 +85,12 @@ def table():
         ("8: a Utf8, no other entry", [string(THIS_TEXT)], [string(THIS)], FIRST),
         ("8: any Utf8", [string(6)] + texts(b""), [string(6), integer(0)], FIRST),
     ]
+    return rows
+
+
+def reference_rows():
+    """Fieldref, Methodref, InterfaceMethodref, MethodType, InvokeDynamic."""
+    rows = []
     for named, other in ((b"I", b"()I"), (b"[I", b"(IJ)[I"), (b"Lp/A;", b"()V")):
         rows += ref_rows(9, fieldref, named, other)
         rows += ref_rows(10, methodref, other, named)
@@ -101,6 +117,11 @@ def table():
         ("18: <clinit> too", [dynamic(0, 6), pair(7, 8)] + texts(b"<clinit>", b"(I)V"),
             [dynamic(0, 6), pair(7, 8)] + texts(b"<clinit>", b"[I"), FIRST),
     ]
+    return rows
+
+
+def pair_rows():
+    """NameAndType, and what a MethodHandle of a field names."""
     pairs = [
         ("an unqualified name, so without /", (b"x", b"I"), (b"x/y", b"I")),
         ("without .", (b"x,y", b"I"), (b"x.y", b"I")), ("without ;", (b"x:", b"I"), (b"x;", b"I")),
@@ -116,9 +137,9 @@ def table():
         ("and <clinit>", (b"<clinit>", b"(I)V"), (b"<clinit>x", b"(I)V")),
         ("with a field descriptor any unqualified name", (b"<clinit>x", b"I"), (b"<clinit>/", b"I")),
     ]
-    rows += [("12: " + about, [pair(6, 7)] + texts(*keeps), [pair(6, 7)] + texts(*breaks), FIRST) for about, keeps,
+    rows = [("12: " + about, [pair(6, 7)] + texts(*keeps), [pair(6, 7)] + texts(*breaks), FIRST) for about, keeps,
         breaks in pairs]
-    rows += [
+    return rows + [
         ("12: the name is a Utf8, no Class", [pair(7, 6)] + texts(b"I", b"x"), [pair(THIS, 6)] + texts(b"I", b"x"),
             FIRST),
         ("12: the descriptor is a Utf8, no Class", [pair(6, 7)] + texts(b"x", b"S"),
@@ -126,7 +147,11 @@ def table():
         ("15: a reference", [handle(1, 6), fieldref(THIS, 7), pair(8, 9)] + texts(b"x", b"I"),
             [handle(1, 7), fieldref(THIS, 7), pair(8, 9)] + texts(b"x", b"I"), FIRST),
     ]
-    return rows
+
+
+def table():
+    """Of each line of the table: what it says, entries that keep it, entries that break it, and the fault of these."""
+    return text_rows() + number_rows() + class_rows() + reference_rows() + pair_rows()
 
 
 def of_table(rows):

@@ -98,13 +98,6 @@ impl<'a> Stated<'a> {
             lines: Lines::new(text),
         }
     }
-
-    /// The text that is left, from the start of the next line, skipped or not.
-    pub fn rest(&self) -> &'a str
-        ensures { result.now ≡ self.now.text }
-    {
-        self.lines.rest()
-    }
 }
 
 impl<'a> Iterator for Stated<'a> {

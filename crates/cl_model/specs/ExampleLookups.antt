@@ -9,7 +9,7 @@ use Rattle.cl_model.specs.Classes.{Error, ClassNotFound}
 use Rattle.cl_model.specs.Lineages.{Kin, classes}
 use Rattle.cl_model.specs.Plans.{load}
 use Rattle.cl_model.specs.States.{Verdict}
-use Rattle.cl_model.specs.Examples.{boot, app, enough, root, under, plain, interface_named, taking_none, an_int, a_class, with_fields, with_methods, with_interfaces, referring_file, world_with_files, ends_at, resolve_of}
+use Rattle.cl_model.specs.Examples.{boot, app, enough, root, under, plain, of_package, interface_named, taking_none, an_int, a_class, with_fields, with_methods, with_interfaces, referring_file, world_with_files, ends_at, resolve_of}
 
 -- p/J1 and p/J2 have m with a body, p/J3 and p/J4 under it without, p/J5 under p/J1 declares nothing; p/D has the first
 -- three, p/E the third and the first, p/F the third and the fourth, p/H the third and the fifth; p/G has the field x from
@@ -130,7 +130,7 @@ abbrev pub lookup : ℕ → Option Verdict
 lookup i = ends_at inherited (resolve_of app "p/U" i)
 
 -- p/P has m protected, s protected and static, k of package access and v private; p/Q and q/D are under it, q/E under
--- q/D; p/R has m and s, both protected; q/D and p/R name these (5.4.4)
+-- q/D; p/R has m and s, both protected; p/H of package access has h, and p/L is under it; q/D and p/R name these (5.4.4)
 abbrev pub accesses : World
 accesses = world_with_files (
     (boot, root)
@@ -154,6 +154,7 @@ accesses = world_with_files (
           ∷ ToMethod (a_class "q/D") (taking_none "w")
           ∷ ToMethod (a_class "p/R") (taking_none "m")
           ∷ ToMethod (a_class "p/R") (taking_none "s")
+          ∷ ToMethod (a_class "p/L") (taking_none "h")
           ∷ []) (under "q/D" "p/P")),
     )
     ∷ (app, under "q/E" "q/D")
@@ -167,6 +168,8 @@ accesses = world_with_files (
           ∷ ToMethod (a_class "p/Q") (taking_none "m")
           ∷ []) (plain "p/R")),
     )
+    ∷ (app, with_methods ((flag.public, taking_none "h") ∷ []) (of_package "p/H"))
+    ∷ (app, under "p/L" "p/H")
     ∷ [])
 
 -- what this reference of q/D is resolved to in that world (5.4.4)

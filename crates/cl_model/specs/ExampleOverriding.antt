@@ -18,7 +18,7 @@ overriding = world_with_files (
     ∷ (plug, with_interfaces ("p/I" ∷ []) (under "q/E" "q/S"))
     ∷ [])
 
--- app has p/I with m, s static and r private, p/S with m protected, s static, r private and a constructor, and p/K with g;
+-- app has p/I with m, s static and r private, p/S with m protected, s static, r private, a constructor and g, and p/K with g;
 -- in plug q/A implements p/I and q/B is under p/S, each with all that they name; q/I is an interface under p/I, with m and
 -- with o of the root; q/C has g private, q/D under it implements p/K, q/F too and has g private; q/G is under p/S and
 -- implements q/J, an interface under p/I with g; q/K implements q/I and p/I and has m (5.4.2, 5.4.5)
@@ -34,7 +34,8 @@ declared = world_with_files (
     ∷ (
       app,
       with_methods ((flag.protected, giving_v "m") ∷ (flag.public + flag.static, taking_t "s")
-          ∷ (flag.private, taking_t "r") ∷ (flag.public, taking_t "<init>") ∷ []) (plain "p/S"),
+          ∷ (flag.private, taking_t "r") ∷ (flag.public, taking_t "<init>")
+          ∷ (flag.public, taking_t "g") ∷ []) (plain "p/S"),
     )
     ∷ (app, with_methods ((flag.public + flag.abstract, taking_t "g") ∷ []) (interface_named "p/K"))
     ∷ (
@@ -74,8 +75,8 @@ declared = world_with_files (
     )
     ∷ [])
 
--- boot has b/I with m, app p/S with m and p/J with m; in kid r/C is under p/S and implements b/I, and r/J is an
--- interface under b/I and p/J (5.4.2)
+-- boot has b/I with m, app p/S with m, p/J with m and p/R, which implements b/I; in kid r/C is under p/S and implements
+-- b/I, r/J is an interface under b/I and p/J, and r/D is under p/R and has m (5.4.2)
 abbrev pub through_kid : World
 through_kid = world_with_files (
     (boot, root)
@@ -88,6 +89,8 @@ through_kid = world_with_files (
     ∷ (app, with_methods ((flag.public + flag.abstract, taking_t "m") ∷ []) (interface_named "p/J"))
     ∷ (kid, with_interfaces ("b/I" ∷ []) (under "r/C" "p/S"))
     ∷ (kid, with_interfaces ("b/I" ∷ "p/J" ∷ []) (interface_named "r/J"))
+    ∷ (app, with_interfaces ("b/I" ∷ []) (plain "p/R"))
+    ∷ (kid, with_methods ((flag.public, taking_t "m") ∷ []) (under "r/D" "p/R"))
     ∷ [])
 
 -- the root and p/J of app have m, and q/J is an interface of plug under p/J; p/S of app and q/S of plug under it

@@ -182,6 +182,7 @@ pub fn access_from_another_package()
     // Protected members of a class that is no superclass.
     ensures of_stranger { from_d 9 ≡ Some (Wrong (IllegalAccess (in_app "p/R"))) }
     ensures static_of_stranger { from_d 10 ≡ Some (Wrong (IllegalAccess (in_app "p/R"))) }
+    ensures hidden_owner { from_d 11 ≡ Some (IsMethod (in_app "p/H") (taking_none "h")) }
 {}
 
 /// Within a package all but the private members are accessible, also through classes of another.
@@ -238,12 +239,12 @@ pub fn declared_methods()
     ensures subclass_linked { Links declared plug "q/B" (IsLinked (in_plug "q/B")) }
 {}
 
-/// A private method is not inherited, and one that the class declares itself, also a private one,
-/// stands for none that is inherited; a superinterface that is met twice counts once.
+/// What stands above a private method is inherited; what the class declares itself, also a private
+/// method, lets nothing be inherited; a superinterface that is met twice counts once.
 pub fn inherited_methods()
-    ensures private_above { LinkNeeds declared plug "q/D" [] }
+    ensures private_above { LinkNeeds declared plug "q/D" (same_t app app ∷ []) }
     ensures private_own { LinkNeeds declared plug "q/F" [] }
-    ensures of_superclass { LinkNeeds declared plug "q/G" (same_both app app) }
+    ensures of_superclass { LinkNeeds declared plug "q/G" (same_t app plug ∷ same_both app app) }
     ensures each_once { LinkNeeds declared plug "q/K" (
         same_both app plug ++ same_both plug plug ++ same_both app plug ++ same_t boot plug ∷ []) }
     ensures private_above_linked { Links declared plug "q/D" (IsLinked (in_plug "q/D")) }
@@ -252,10 +253,11 @@ pub fn inherited_methods()
 {}
 
 /// The inherited method and the superinterface are of two loaders, neither the class's own; an
-/// interface inherits none.
+/// interface inherits none; a superinterface counts that only the superclass names.
 pub fn inherited_across_loaders()
     ensures of_class { LinkNeeds through_kid kid "r/C" (same_t boot app ∷ []) }
     ensures of_interface { LinkNeeds through_kid kid "r/J" [] }
+    ensures named_above { LinkNeeds through_kid kid "r/D" (same_t boot kid ∷ []) }
     ensures class_linked { Links through_kid kid "r/C" (IsLinked (in_kid "r/C")) }
     ensures interface_linked { Links through_kid kid "r/J" (IsLinked (in_kid "r/J")) }
 {}

@@ -58,7 +58,7 @@ pub record IsReplied {A : Type 0} (x : Shown) (waits : Waits) (r : Reply A) : Ty
   pub tells : ReplyTells x waits r
   pub shows : Shows x waits r
 
--- there is a reply to a call, and none just where the tables do not bear it (5.3 to 5.4.3)
+-- there is a reply to a call, and none only where the tables do not bear it (5.3 to 5.4.3)
 abbrev pub RepliesWhere : {A : Type 0} → Type 0 → Shown → Waits → Option (Reply A) → Type 0
 RepliesWhere bears x waits told = MatchOption told (bears → ⊥) (λ r. IsReplied x waits r)
 

@@ -1,51 +1,44 @@
-"""What a run costs, crate by crate: processor seconds of proofs, builds, tests and edits, lines, and the largest process.
+"""What a run costs, crate by crate: processor seconds of proofs with builds, of tests and of edits, lines, and the largest process.
 
-rt ci tells nothing of what each crate costs, so its processes are looked at twice a second while it runs: each process of the
-prover says by its words which crate it checks, and by its folder whether it tries an edit. What ran since the last look at a
-process is missed, so the sum is compared with what the system counted for the whole of rt ci.
+rt ci does not say what each crate costs, so while it runs the processes that it starts are looked at twice a second: each process of
+the prover says by its words which crate it checks, and by its folder whether it tries an edit. What runs after the last look at a
+process is missed; check tells how much that is of what the system counted.
 """
+import contextlib
+import glob
 import os
+import pathlib
 import re
 import threading
-from dataclasses import dataclass, field
 
-KINDS = ("proof", "build", "tests", "edits")
+KINDS = ("proof", "tests", "edits")
 TICKS = os.sysconf("SC_CLK_TCK")
 BLINK = 0.5
 # The budgets.
 SECONDS_A_LINE = 0.1
 TESTS_OF_PROOF = 1 / 3
-MOST_BYTES = 4e9
+MOST_GIGABYTES = 4.0
+HEAD = """| crate | lines | proof, build | tests | edits | seconds | peak, GB |
+|---|---|---|---|---|---|---|
+"""
 
 
-@dataclass
-class Cost:
-    """What one crate cost."""
-
-    seconds: dict = field(default_factory=lambda: dict.fromkeys(KINDS, 0.0))
-    peak: int = 0
-
-
-def read(path, mode="r"):
-    try:
-        with open(path, mode) as file:
-            return file.read()
-    except OSError:
-        return "" if mode == "r" else b""
+def read(path):
+    return pathlib.Path(path).read_text(encoding="utf-8", errors="replace")
 
 
 def kind_of(words, folder):
     """Which crate a process of the prover works on, and at what; None for another process."""
-    if not words or not words[0].endswith("/rattle") or "--crate-name" not in words:
+    if not words[0].endswith("/rattle") or "--crate-name" not in words:
         return None
     crate = words[words.index("--crate-name") + 1]
     if os.path.basename(folder).startswith("rt-edit-"):
         return crate, "edits"
-    return crate, "tests" if "--test" in words else "build" if "--crate-checked" in words else "proof"
+    return crate, "tests" if "--test" in words else "proof"
 
 
 class Watch:
-    """Looks at the processes that descend from one, until it is stopped."""
+    """Looks at the processes that one process has started, until it is stopped."""
 
     def __init__(self, above):
         self.above, self.seen, self.stopped = above, {}, threading.Event()
@@ -54,85 +47,50 @@ class Watch:
 
     def run(self):
         while not self.stopped.wait(BLINK):
-            self.look()
+            for file in glob.glob(f"/proc/{self.above}/task/*/children"):
+                # (what ends while it is looked at was seen before)
+                with contextlib.suppress(OSError):
+                    for process in read(file).split():
+                        self.look(process)
 
-    def look(self):
-        """Notes of each process of the prover the most that it has used, its ended and its living copies included."""
-        stats = {}
-        for name in os.listdir("/proc"):
-            text = read(f"/proc/{name}/stat") if name.isdigit() else ""
-            found = re.fullmatch(r"(\d+) \(.*\) . (\d+) (.*)\s*", text, re.S)
-            if found:
-                rest = found[3].split()
-                own, ended = [sum(map(int, rest[at : at + 2])) / TICKS for at in (9, 11)]
-                stats[int(name)] = int(found[2]), own, ended, rest[17]
-        for process, (above, own, ended, began) in stats.items():
-            # (rt starts each process of the prover itself; what such a one forks is counted with it)
-            if above != self.above:
-                continue
-            words = read(f"/proc/{process}/cmdline", "rb").decode(errors="replace").split("\0")
-            try:
-                what = kind_of(words, os.readlink(f"/proc/{process}/cwd"))
-            except OSError:
-                what = None
-            if not what:
-                continue
-            copies = [it for it, stat in stats.items() if stat[0] == process]
-            held = "".join(read(f"/proc/{at}/status") for at in [process, *copies])
-            peak = max((int(it) for it in re.findall(r"VmHWM:\s+(\d+)", held)), default=0)
-            used = own + ended + sum(stats[it][1] for it in copies)
-            was = self.seen.get((process, began), (what, 0, 0))
-            self.seen[process, began] = what, max(was[1], used), max(was[2], 1024 * peak)
+    def look(self, process):
+        """Notes of a process of the prover the most that it has used, what it has waited for included."""
+        with contextlib.suppress(OSError):
+            what = kind_of(read(f"/proc/{process}/cmdline").split("\0"), os.readlink(f"/proc/{process}/cwd"))
+            # (what stands behind the name: times from the 12th word on, and the 20th is when it began)
+            stat = read(f"/proc/{process}/stat").rpartition(") ")[2].split()
+            peak = re.search(r"VmHWM:\s+(\d+)", read(f"/proc/{process}/status"))
+            if what and peak:
+                seconds = sum(map(int, stat[11:15])) / TICKS
+                self.seen[process, stat[19]] = (*what, seconds, 1024 * int(peak[1]))
 
     def costs(self):
-        """Stops looking, and returns what each crate cost."""
+        """Stops looking, and returns what each process cost: its crate, of which kind it was, seconds, and the most bytes that it held."""
         self.stopped.set()
         self.thread.join()
-        found = {}
-        for (crate, kind), seconds, peak in self.seen.values():
-            cost = found.setdefault(crate, Cost())
-            cost.seconds[kind] += seconds
-            cost.peak = max(cost.peak, peak)
-        return found
+        return [*self.seen.values()]
 
 
-# ---- the table -------------------------------------------------------------------------------------------------------------
+def lines_of(crate):
+    """How many lines the crate has of code, definitions and proofs."""
+    files = (it for part in ("src", "specs", "proofs") for it in glob.glob(f"{crate.folder}/{part}/**/*", recursive=True))
+    return sum(read(it).count("\n") for it in files if it.endswith((".rt", ".antt")))
 
 
-def lines_in(folder, part):
-    total = 0
-    for at, _, names in os.walk(f"{folder}/{part}"):
-        for it in names:
-            if it.endswith((".rt", ".antt")):
-                total += read(f"{at}/{it}").count("\n")
-    return total
-
-
-def marked(number, limit, text):
-    return f"**{text}**" if number > limit else text
+def marked(number, limit, form=".0f"):
+    return f"**{number:{form}}**" if number > limit else f"{number:{form}}"
 
 
 def table(crates, costs, edits):
-    """The table of a run as a page shows it. `edits` is the number of a crate's edits by its name. What is over its budget is bold."""
-    rows = [
-        "| crate | lines: src, specs, proofs | proof | budget | build | tests | budget | edits: number | seconds | peak, GB |",
-        "|---|---|---|---|---|---|---|---|---|---|",
-    ]
-    total = dict.fromkeys((*KINDS, "lines", "number"), 0)
+    """The table of a run, whose costs are as a Watch tells them; `edits` is how many each crate has. What is over its budget is bold."""
+    used = lambda kind, crate="": sum(it[2] for it in costs if it[1] == kind and crate in ("", it[0]))
+    rows, of_all = [], 0
     for crate in crates:
-        cost = costs.get(crate.name, Cost())
-        lines = [lines_in(crate.folder, part) for part in ("src", "specs", "proofs")]
-        proof, tests = cost.seconds["proof"], cost.seconds["tests"]
-        budget, share = SECONDS_A_LINE * sum(lines), TESTS_OF_PROOF * proof
-        cells = [crate.name, ", ".join(f"{it:,}" for it in lines), marked(proof, budget, f"{proof:.0f}"), f"{budget:.0f}"]
-        cells += [f"{cost.seconds['build']:.0f}", marked(tests, share, f"{tests:.0f}"), f"{share:.0f}"]
-        cells += [str(edits.get(crate.name, 0)), f"{cost.seconds['edits']:.0f}"]
-        cells += [marked(cost.peak, MOST_BYTES, f"{cost.peak / 1e9:.1f}")]
-        rows.append(f"| {' | '.join(cells)} |")
-        total["lines"], total["number"] = total["lines"] + sum(lines), total["number"] + edits.get(crate.name, 0)
-        for kind in KINDS:
-            total[kind] += cost.seconds[kind]
-    minutes = [f"{total[kind] / 60:.1f} min" for kind in KINDS]
-    cells = ["all", f"{total['lines']:,}", minutes[0], "", minutes[1], minutes[2], "", str(total["number"]), minutes[3], ""]
-    rows.append(f"| {' | '.join(cells)} |")
-    return "\n".join(rows)
+        lines, (proof, tests, tried) = lines_of(crate), (used(kind, crate.name) for kind in KINDS)
+        peak = max((it[3] for it in costs if it[0] == crate.name), default=0) / 1e9
+        cells = [crate.name, f"{lines:,}", marked(proof, SECONDS_A_LINE * lines), marked(tests, TESTS_OF_PROOF * proof)]
+        cells += [str(edits[crate.name]), f"{tried:.0f}", marked(peak, MOST_GIGABYTES, ".1f")]
+        rows.append(f"| {' | '.join(cells)} |\n")
+        of_all += lines
+    proof, tests, tried = (f"{used(kind) / 60:.1f} min" for kind in KINDS)
+    return f"{HEAD}{''.join(rows)}| all | {of_all:,} | {proof} | {tests} | {sum(edits.values())} | {tried} | |"

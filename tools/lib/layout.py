@@ -9,8 +9,8 @@ import subprocess
 import kit
 import names
 import page
-from edits import FOLDERS, of_crate
-from source import files as texts_of, functions, names_of
+from edits import of_crate
+from source import functions, names_of, text_of, texts_of
 
 HANDLES = "Handles allowed: Threads, Wait."
 MOST_LINES = 500
@@ -25,23 +25,22 @@ CITATION = re.compile(r"(?<!\.)\b(?:[Pp]aper|[Ii]ssue|[Rr]equest|[Dd]efinition|[
 
 def tracked(root):
     """The files of the repository; where git does not tell, all but what a check made."""
-    try:
-        ran = subprocess.run(["git", "ls-files"], cwd=root, capture_output=True, text=True, check=True)
-        return [it for it in ran.stdout.splitlines() if os.path.isfile(f"{root}/{it}")]
-    except (OSError, subprocess.CalledProcessError):
-        found = (os.path.relpath(f"{at}/{it}", root) for at, _, names in os.walk(root) for it in names)
-        return sorted(it for it in found if not {"out", ".git"} & {*it.split("/")})
+    ran = subprocess.run(["git", "ls-files"], cwd=root, capture_output=True, text=True)
+    walked = (os.path.relpath(f"{at}/{it}", root) for at, _, names in os.walk(root) for it in names)
+    found = sorted(it for it in walked if not {"out", ".git"} & {*it.split("/")}) if ran.returncode else ran.stdout.splitlines()
+    return [it for it in found if os.path.isfile(f"{root}/{it}")]
 
 
-def lines_of(path):
-    with open(path, encoding="utf-8", errors="replace") as file:
-        return file.read().split("\n")
+def lines_of(root, files, ends):
+    """The lines of the files whose names have one of these endings, each with its file and its number."""
+    for it in files:
+        if os.path.splitext(it)[1] in ends:
+            yield from ((it, number, line) for number, line in enumerate(text_of(f"{root}/{it}").split("\n"), 1))
 
 
-def handles(root, _files, _crates):
+def handles(root, files, _crates):
     """HANDLES is the one line that the task gives."""
-    file = f"{root}/HANDLES"
-    said = "\n".join(lines_of(file)).strip() if os.path.isfile(file) else "no such file"
+    said = text_of(f"{root}/HANDLES").strip() if "HANDLES" in files else "no such file"
     return [] if said == HANDLES else [f"HANDLES: it has to be '{HANDLES}', and is '{said[:80]}'"]
 
 
@@ -52,57 +51,32 @@ def nothing_made(_root, files, _crates):
 
 def nothing_half_merged(root, files, _crates):
     """No text has the lines between which git leaves two versions."""
-    found = []
-    for it in files:
-        if os.path.splitext(it)[1] in TEXTS:
-            held = [number for number, line in enumerate(lines_of(f"{root}/{it}"), 1) if line.startswith(("<" * 7 + " ", ">" * 7 + " "))]
-            found += [f"{it}:{number}: two versions stand here, of which one has to be chosen" for number in held]
-    return found
+    marks = ("<" * 7 + " ", ">" * 7 + " ")
+    return [f"{it}:{number}: two versions stand here" for it, number, line in lines_of(root, files, TEXTS) if line.startswith(marks)]
 
 
 def stands_alone(root, files, _crates):
     """No text cites a paper's or an issue's number."""
-    found = []
-    for it in files:
-        if os.path.splitext(it)[1] in TEXTS and not it.startswith("tools/"):
-            for number, line in enumerate(lines_of(f"{root}/{it}"), 1):
-                said = CITATION.search(line)
-                found += [f"{it}:{number}: '{said[0]}' cites a number that the repository does not have"] if said else []
-    return found
+    cited = ((it, number, CITATION.search(line)) for it, number, line in lines_of(root, files, TEXTS) if not it.startswith("tools/"))
+    return [f"{it}:{number}: '{said[0]}' cites a number that the repository does not have" for it, number, said in cited if said]
 
 
 def edits_apply(_root, _files, crates):
-    """Each edit can be applied."""
+    """Each edit can be applied, and names functions of its crate."""
     found = []
     for crate in crates:
-        edits, stray = of_crate(crate, FOLDERS)
-        found += [f"{edit}: {edit.bad}" for edit in edits if edit.bad]
+        edits, stray = of_crate(crate)
         found += [f"{it}: only edits, FILE.edit, and none.txt stand here" for it in stray]
+        found += [f"{it}: {it.bad}" for it in edits if it.bad]
+        named = [(it, name) for it in edits for name in sorted(it.refuses)]
+        held = [it for path, text in texts_of(crate.folder).items() for it in functions(path, text)] if named else []
+        found += [f"{it}: 'refuses:' names no function of the crate: {name}" for it, name in named if not any(names_of(at, crate.name, [name]) for at in held)]
     return found
-
-
-def edits_name_functions(_root, _files, crates):
-    """Each function that an edit is to have refused is one of its crate."""
-    found = []
-    for crate in crates:
-        wanted = [(edit, it) for edit in of_crate(crate, FOLDERS)[0] for it in sorted(edit.refuses)]
-        held = [it for path, text in texts_of(crate.folder).items() for it in functions(path, text)] if wanted else []
-        for edit, name in wanted:
-            if not any(names_of(it, crate.name, [name]) for it in held):
-                found.append(f"{edit}: 'refuses:' names no function of the crate: {name}")
-    return found
-
-
-def page_is_made(root, _files, crates):
-    """docs/EDITS.md is what the tool prints."""
-    file = f"{root}/docs/EDITS.md"
-    said = "\n".join(lines_of(file)) if os.path.isfile(file) else ""
-    return [] if said == page.whole(crates) else ["docs/EDITS.md: it differs from what tools/wrong-bodies --list prints"]
 
 
 def files_are_short(root, files, _crates):
     """No file of code is so long that nobody reads it to its end."""
-    counted = ((it, len(lines_of(f"{root}/{it}")) - 1) for it in files if it.endswith((".rt", ".py")))
+    counted = ((it, text_of(f"{root}/{it}").count("\n")) for it in files if it.endswith((".rt", ".py")))
     return [f"{it}: {number} lines, over {MOST_LINES}" for it, number in counted if number > MOST_LINES]
 
 
@@ -110,27 +84,22 @@ def meanings_have_names(root, files, _crates):
     """No two files of definitions call a relation or a type by one name. (Functions may: as a method, each is of its own type.)"""
     found = {}
     for it in files:
-        parts = it.split("/")
-        if it.endswith(".antt") and len(parts) > 3 and parts[0] == "crates" and parts[2] == "specs":
-            for name in STATED.findall("\n".join(lines_of(f"{root}/{it}"))):
+        if re.fullmatch(r"crates/[^/]*/specs/.*\.antt", it):
+            for name in STATED.findall(text_of(f"{root}/{it}")):
                 found.setdefault(name, []).append(it)
     return [f"{', '.join(places)}: each defines {name}" for name, places in found.items() if len(places) > 1]
 
 
 def code_is_laid_out(root, _files, crates):
     """Each file of code is as `rt fmt` lays it out: rt ci proves no crate else."""
-    return [f"{os.path.relpath(it.folder, root)}: {why}: run rt fmt there" for it in crates for why in kit.not_laid_out(it.folder)]
+    return [f"{os.path.relpath(it.folder, root)}: {why}: run rt fmt there" for it in crates for why in kit.not_laid_out(it)]
 
 
 def code_is_checked(_root, files, crates):
     """Each file of code is one that a check reads: rt ci takes no other in the repository."""
-    known = {it.name for it in crates}
-    return [
-        f"{it}: no check reads it, since it lies in src/, specs/ or proofs/ of no crate"
-        for it in files
-        if it.endswith((".rt", ".antt"))
-        and not (len(parts := it.split("/")) > 3 and parts[0] == "crates" and parts[1] in known and parts[2] in ("src", "specs", "proofs"))
-    ]
+    read = re.compile(rf"crates/({'|'.join(it.name for it in crates)})/(src|specs|proofs)/.*")
+    code = [it for it in files if it.endswith((".rt", ".antt")) and not read.fullmatch(it)]
+    return [f"{it}: no check reads it, since it lies in src/, specs/ or proofs/ of no crate" for it in code]
 
 
 RULES = (
@@ -143,23 +112,18 @@ RULES = (
     stands_alone,
     files_are_short,
     edits_apply,
-    edits_name_functions,
-    page_is_made,
     names.pages_name_what_is,
 )
 
 
 def long_clauses(root, files):
     """The lines of clauses and of ghost members that are too long, whichever line of theirs it is."""
-    found = []
-    for it in files:
-        depth = 0
-        for number, line in enumerate(lines_of(f"{root}/{it}") if it.endswith(".rt") else (), 1):
-            is_first = depth == 0 and CLAUSE.match(line)
-            if (is_first or depth > 0) and len(line) > MOST_COLUMNS:
-                found.append(f"{it}:{number}: a line of a clause has {len(line)} columns, over {MOST_COLUMNS}")
-            if is_first or depth > 0:
-                depth = max(depth + line.count("{") - line.count("}"), 0)
+    found, depth = [], 0
+    for it, number, line in lines_of(root, files, (".rt",)):
+        depth = 0 if number == 1 else depth
+        if depth > 0 or CLAUSE.match(line):
+            depth = max(depth + line.count("{") - line.count("}"), 0)
+            found += [f"{it}:{number}: a line of a clause has {len(line)} columns, over {MOST_COLUMNS}"] if len(line) > MOST_COLUMNS else []
     return found
 
 

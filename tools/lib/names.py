@@ -1,80 +1,48 @@
 """What the pages name is there: files and folders, what is said to stand in them, and the names of code.
 
-Looked at is what stands between backticks, outside of blocks. EDITS.md is made, and compared whole.
+Looked at is what stands between backticks, outside of blocks.
 """
 import os
 import re
 
-MADE = "docs/EDITS.md"
+from source import text_of
+
 # Where the paths of a page begin that does not stand beside them; all may begin at the top or in crates/, too.
 HOMES = {"docs/CLASSFILE.md": "crates/cl_classfile"}
 FOLDERS = "src specs proofs wrong must-fail".split()
-# Pages whose every name of code is a word of the tree, or of a later stage, which the section of ARCHITECTURE.md names.
+# Pages whose every name of code is a word of the tree, or of a later stage, which the section of ARCHITECTURE.md names; and the section
+# of another page, whose further words in backticks are bytes, codes and texts too.
 NAMING = re.compile(r"(.*/)?README\.md|docs/(RULES|ARCHITECTURE|CLASSFILE)\.md")
-# Of another page the section whose names are: its other words in backticks are bytes, codes and texts too.
-NAMING_SECTIONS = {"docs/FORMATS.md": "Where each section is stated"}
+NAMING_PAGE, NAMING_SECTION = "docs/FORMATS.md", "## Where each section is stated"
 NAME = re.compile(r"(?!_)\w+(::\w+)*(?=[(<]|$)")
-# What declares a type or adds to it: its head, and its body up to the brace at the margin.
-TYPED = re.compile(r"^(?:pub(?:\([\w ]+\))? )?(impl|trait|enum|struct)\b([^{;]*)\{(.*?)^\}", re.M | re.S)
 LATER = re.compile(r"^## Stages of the work$(.*?)^## ", re.M | re.S)
 # Names of Rust, of the host and of programs beside this one.
 OTHERS = set("Rc Cell RefCell strace statx openat mremap EINTR LD_PRELOAD clang".split())
-RULE = ("Definition", "Code", "Proof", "Wrong bodies", "Examples")
+RULE = ["Definition", "Code", "Proof", "Wrong bodies", "Examples"]
 
 
-def names_code(page, text):
-    """The numbers of the lines of a page whose names of code have to be there."""
-    if NAMING.fullmatch(page):
-        return range(1, text.count("\n") + 2)
-    head = f"\n## {NAMING_SECTIONS.get(page)}\n"
-    if page not in NAMING_SECTIONS or head not in text:
-        return range(0)
-    begin = text.index(head) + len(head)
-    end = text.find("\n## ", begin)
-    return range(text.count("\n", 0, begin) + 1, text.count("\n", 0, end if end >= 0 else len(text)) + 2)
-
-
-def spans(text):
-    """The lines of a page by their numbers, each cut at its backticks: every second piece stands between two."""
-    is_block = False
+def spans(page, text):
+    """The lines of a page by their numbers, each cut at its backticks, where every second piece stands between two; and whether its
+    names are those of code."""
+    is_block, is_naming = False, NAMING.fullmatch(page) is not None
     for number, line in enumerate(text.split("\n"), 1):
         is_block ^= line.startswith("```")
+        if page == NAMING_PAGE and line.startswith("## "):
+            is_naming = line == NAMING_SECTION
         if not is_block:
-            yield number, line.split("`")
+            yield number, line.split("`"), is_naming
 
 
 class Tree:
-    """The files and folders of a repository, and the words of its code."""
+    """The files and folders of a repository, and the words of each file of its code, with others that are known."""
 
-    def __init__(self, root, files):
-        self.root, self.places, self.words = root, set(files), set()
-        self.types, self.members = set(), {}
-        for it in files:
-            while it := os.path.dirname(it):
-                self.places.add(it)
+    def __init__(self, root, files, known):
+        self.root, self.places, self.words = root, set(files), [known]
         for it in files:
             if not it.endswith((".md", ".toml")):
-                text = self.text(it)
-                self.words.update(re.findall(r"\w+", f"{os.path.basename(it)} {text}"))
-                self.take_members(text if it.endswith(".rt") else "")
-
-    def take_members(self, text):
-        """Which functions and variants each type of a file has."""
-        for what, head, body in TYPED.findall(text):
-            names = re.findall(r"\b[A-Z]\w*", head)
-            self.types.update(names[:1] if what != "impl" else [])
-            for it in names:
-                self.members.setdefault(it, set()).update(re.findall(r"\bfn (\w+)", body) + re.findall(r"^    (\w+)", body, re.M))
-
-    def has(self, name, later):
-        """Whether a name of code is there, or comes later: each of its parts, and of a type's function that the type has it."""
-        parts = name.split("::")
-        is_there = all(it in self.words or it in later for it in parts)
-        return is_there and (len(parts) < 2 or parts[0] not in self.types or parts[1] in self.members[parts[0]] | later)
-
-    def text(self, file):
-        with open(f"{self.root}/{file}", encoding="utf-8", errors="replace") as it:
-            return it.read()
+                self.words.append(known.union(re.findall(r"\w+", f"{os.path.basename(it)} {text_of(f'{root}/{it}')}")))
+            while it := os.path.dirname(it):
+                self.places.add(it)
 
     def place(self, name, page):
         """Where a path leads; None where it is none of the repository, '' where it is one and leads nowhere."""
@@ -92,14 +60,13 @@ class Tree:
         """Whether a file has this word or line, or a folder of edits this edit."""
         if os.path.isdir(f"{self.root}/{place}"):
             return f"{place}/{name}.edit" in self.places
-        return re.search(rf"(?<!\w){re.escape(name.split('::')[-1])}(?!\w)", self.text(place))
+        return re.search(rf"(?<!\w){re.escape(name.split('::')[-1])}(?!\w)", text_of(f"{self.root}/{place}"))
 
 
 def unheld(tree, page, pieces):
     """Paths that lead nowhere, and names that are not where the line says: `a`, `b` in `PATH` and in `PATH`, `a` (`PATH`)."""
     names, last = [], []
-    for at in range(1, len(pieces), 2):
-        said, before = pieces[at], pieces[at - 1]
+    for before, said in zip(pieces[::2], pieces[1::2]):
         place = tree.place(said, page)
         if place == "":
             yield f"there is no {said}"
@@ -113,23 +80,21 @@ def rules_are_found(text):
     """Each rule of RULES.md ends with the lines that say where it is found."""
     for rule in re.split(r"^### ", text, flags=re.M)[1:]:
         heads = re.findall(r"^- ([\w ]+): ", rule.split("\n## ")[0], re.M)
-        if tuple(heads[-len(RULE):]) != RULE:
+        if heads[-len(RULE) :] != RULE:
             yield f"docs/RULES.md: '{rule.split(chr(10))[0]}' does not end with the lines {', '.join(RULE)}"
 
 
 def pages_name_what_is(root, files, _crates):
     """No page names a file, or a name of code, that is not there."""
-    tree = Tree(root, files)
-    texts = {it: tree.text(it) for it in files if it.endswith(".md") and it != MADE}
+    texts = {it: text_of(f"{root}/{it}") for it in files if it.endswith(".md")}
     later = LATER.search(texts.get("docs/ARCHITECTURE.md", ""))
-    known = OTHERS | set(re.findall(r"\w+", later[1] if later else ""))
-    found = [*rules_are_found(texts["docs/RULES.md"])] if "docs/RULES.md" in texts else []
-    found += [f"{it}: it has no section '{head}'" for it, head in NAMING_SECTIONS.items() if it in texts and f"\n## {head}\n" not in texts[it]]
+    tree = Tree(root, files, OTHERS | set(re.findall(r"\w+", later[1] if later else "")))
+    found = [*rules_are_found(texts.get("docs/RULES.md", ""))]
+    if NAMING_SECTION not in texts.get(NAMING_PAGE, NAMING_SECTION):
+        found.append(f"{NAMING_PAGE}: it has no section '{NAMING_SECTION}'")
     for page, text in texts.items():
-        naming = names_code(page, text)
-        for number, pieces in spans(text):
+        for number, pieces, is_naming in spans(page, text):
             found += [f"{page}:{number}: {it}" for it in unheld(tree, page, pieces)]
-            for said in pieces[1::2] if number in naming else []:
-                name = NAME.match(said)
-                found += [f"{page}:{number}: nothing is named {said}"] if name and not tree.has(name[0], known) else []
+            named = [name for said in pieces[1::2] if (name := NAME.match(said))] if is_naming else []
+            found += [f"{page}:{number}: nothing is named {it[0]}" for it in named if not any({*it[0].split("::")} <= words for words in tree.words)]
     return found

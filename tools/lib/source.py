@@ -1,17 +1,19 @@
-"""Where the functions of a Rattle file stand, what the prover calls them, and which of them a crate's users can call."""
+"""Where the functions of a Rattle file stand, what the prover calls them, and which of them a crate's users can call.
+
+Files are read by their lines, as `rt fmt` lays them out: an item's body opens at the end of its first line or of a line with the same
+margin, and closes with a brace at that margin. The gate refuses every other layout.
+"""
 import functools
+import glob
+import itertools
 import os
+import pathlib
 import re
 from dataclasses import dataclass
 
-NO_CODE = re.compile(r'//[^\n]*|/\*.*?\*/|r(#*)".*?"\1|b?"(?:\\.|[^"\\])*"|b?\'(?:\\[^\n]{1,8}?|[^\'\\\n])\'', re.S)
-ITEM = re.compile(
-    r"(?:\b(?P<public>pub(?:\s*\([^)]*\))?)\s+)?(?P<words>(?:\b(?:const|ghost|unsafe)\s+)*)\bfn\s+(?P<fn>\w+)"
-    r"|\bmod\s+(?P<mod>\w+)\s*\{"
-    r"|\b(?P<owner>impl|trait)\b"
-)
+ITEM = re.compile(r"( *)(?P<public>pub(?:\([^)]*\))? )?(?P<words>(?:(?:const|ghost|unsafe) )*)(?P<kind>fn|mod|impl|trait)\b ?(?P<name>\w*)")
+GENERICS = re.compile(r"^<(?:->|[^<>]|<(?:->|[^<>]|<[^<>]*>)*>)*>")
 CLAUSE = re.compile(r"\b(requires|ensures|ghost|decreases)\b")
-OPENING = {"{": "}", "(": ")", "[": "]"}
 # Traits whose impl is told as a whole, since one method of it says all.
 STANDARD = "From TryFrom Into Display Debug PartialEq Eq PartialOrd Ord Hash Iterator Default Clone Drop Deref Borrow AsRef Index Error".split()
 
@@ -32,95 +34,57 @@ class Function:
     first_line: int
     last_line: int
 
-    def holds(self, start, end):
-        """Whether what stands there is of the body."""
-        return self.opens < start and end <= self.closes
+
+@functools.cache
+def text_of(file):
+    """The text of a file, as it was when it was first asked for: edits are made to what they were read against."""
+    return pathlib.Path(file).read_text(encoding="utf-8", errors="replace")
 
 
-def blank(text):
-    """The text with comments, strings and characters blanked, at the same places."""
-    out = list(text)
-    for found in NO_CODE.finditer(text):
-        for at in range(*found.span()):
-            if out[at] != "\n":
-                out[at] = " "
-    return "".join(out)
+def write(file, text):
+    """Writes a file, and makes its folder where there is none."""
+    os.makedirs(os.path.dirname(file), exist_ok=True)
+    pathlib.Path(file).write_text(text, encoding="utf-8")
 
 
-def closing(text, at):
-    """Where the bracket that opens at `at` is closed."""
-    depth = 0
-    for i in range(at, len(text)):
-        if text[i] in OPENING:
-            depth += 1
-        elif text[i] in OPENING.values():
-            depth -= 1
-            if not depth:
-                return i
-    return len(text)
-
-
-def past_generics(text, at):
-    """Past the parameters in angle brackets that begin at `at`, if any do."""
-    if at >= len(text) or text[at] != "<":
-        return at
-    depth = 0
-    for i in range(at, len(text)):
-        depth += (text[i] == "<") - (text[i] == ">" and text[i - 1] != "-")
-        if not depth:
-            return i + 1
-    return len(text)
-
-
-def body_of(text, at, end):
-    """Where the body of the function opens, whose parameters follow `at`, and where it closes; None where it has none."""
-    at = since = closing(text, text.find("(", past_generics(text, at), end)) + 1
-    while True:
-        found = re.compile(r"[{;\[]").search(text, since, end)
-        if not found or found[0] == ";":
+def opening(lines, first, margin):
+    """The line on which the body of an item opens that begins on this one, both from 0; None where it has none."""
+    for at in range(first, len(lines)):
+        line = lines[at]
+        if line.endswith(("{", "{}")) and (at == first or re.match(rf"{margin}[{{)>]", line)):
+            return at
+        # (what goes on stands farther in, but for these; else the next item begins)
+        if at > first and line.strip() and not re.match(rf"{margin}( |\)|>|where)", line):
             return None
-        close = closing(text, found.start())
-        since = close + 1
-        # (a ; in the type of an array ends nothing)
-        if found[0] == "[":
-            continue
-        # (each clause is some words and a block of its own)
-        if not CLAUSE.search(text[at : found.start()]):
-            return found.start(), close
-        at = since
+    return None
 
 
-@functools.lru_cache(maxsize=None)
+@functools.cache
 def functions(path, text):
     """The functions of a file that have a body."""
-    text = blank(text)
-    line = lambda at: text.count("\n", 0, at) + 1
-
-    def walk(at, end, modules, head):
-        while True:
-            found = ITEM.search(text, at, end)
-            if not found:
-                return
-            if found["fn"]:
-                body = body_of(text, found.end(), end)
-                at = found.end() if not body else body[1] + 1
-                if body:
-                    is_meaning = re.search(r"const|ghost", found["words"]) is not None
-                    is_empty = not text[body[0] + 1 : body[1]].strip()
-                    what = (path, modules, head, found["fn"], found["public"] == "pub", is_meaning, is_empty)
-                    yield Function(*what, *body, line(found.start("fn")), line(body[1]))
-                continue
-            opens = text.find("{", found.end() - 1, end)
-            if opens < 0:
-                return
-            close = closing(text, opens)
-            if found["mod"]:
-                yield from walk(opens + 1, close, (*modules, found["mod"]), "")
-            else:
-                yield from walk(opens + 1, close, modules, " ".join(text[found.start() : opens].split()))
-            at = close + 1
-
-    return [*walk(0, len(text), (), "")]
+    lines, found, around, at = text.split("\n"), [], [(None, (), "")], 0
+    begins = [0, *itertools.accumulate(len(it) + 1 for it in lines)]
+    while at < len(lines):
+        item, first = ITEM.match(lines[at]), at
+        at += 1
+        if lines[first] == around[-1][0]:
+            around.pop()
+        opens = opening(lines, first, item[1]) if item else None
+        if opens is None:
+            continue
+        ends, (_, modules, head) = f"{item[1]}}}", around[-1]
+        if item["kind"] == "fn":
+            closes = opens if lines[opens].endswith("{}") else lines.index(ends, opens)
+            is_empty = all(re.match(r" *(//|$)", it) for it in lines[opens + 1 : closes])
+            what = (path, modules, head, item["name"], item["public"] == "pub ", re.search("const|ghost", item["words"]) is not None, is_empty)
+            places = begins[opens] + lines[opens].rindex("{"), begins[closes] + lines[closes].rindex("}")
+            found.append(Function(*what, *places, first + 1, closes + 1))
+            at = closes + 1
+        elif not lines[opens].endswith("{}"):
+            head = " ".join(" ".join(lines[first : opens + 1]).split()).removeprefix("pub ").removesuffix("{").strip()
+            around.append((ends, (*modules, item["name"]), "") if item["kind"] == "mod" else (ends, modules, head))
+            at = opens + 1
+    return found
 
 
 # ---- heads of impls --------------------------------------------------------------------------------------------------------
@@ -135,9 +99,7 @@ def last_word(of_type):
 def of_head(head):
     """The trait of an impl's head with its parameters, or '', and the type."""
     body = re.sub(r"\bwhere\b.*", "", head.removeprefix("impl").removeprefix("trait").strip())
-    if body.startswith("<"):
-        body = body[past_generics(body, 0) :]
-    trait, _, of_type = body.rpartition(" for ")
+    trait, _, of_type = GENERICS.sub("", body).rpartition(" for ")
     return trait.strip(), last_word(of_type)
 
 
@@ -156,9 +118,7 @@ def label(function):
 
 def module_of(function, crate):
     parts = function.path[len("src/") : -len(".rt")].split("/")
-    if parts[-1] in ("lib", "main", "mod"):
-        parts.pop()
-    return "::".join([crate, *parts, *function.modules])
+    return "::".join([crate, *(parts[:-1] if parts[-1] in ("lib", "main", "mod") else parts), *function.modules])
 
 
 def names_of(function, crate, known):
@@ -169,25 +129,15 @@ def names_of(function, crate, known):
     if not function.head:
         return [it for it in known if it == f"{module}::{function.name}"]
     trait, of_type = of_head(function.head)
-    exact, begins = of_type, of_type
-    arguments = re.findall(r"\w+", trait.partition("<")[2])
-    if trait:
-        begins = of_type + last_word(trait)
-        exact = begins + "".join(arguments)
-
-    def fits(owner):
-        is_named = not arguments or any(it in owner for it in arguments)
-        return owner == begins or bool(trait) and owner.startswith(begins) and is_named
-
-    found = []
+    begins, arguments = of_type + last_word(trait), re.findall(r"\w+", trait.partition("<")[2])
+    found = {}
     for it in known:
-        above, _, owner = it.rpartition("::")[0].rpartition("::")
-        if it.rpartition("::")[2] == function.name and fits(owner):
-            found.append((above, owner, it))
-    here = [it for it in found if it[0] == module] or found
-    if len(here) > 1:
-        here = [it for it in here if it[1] == exact] or here
-    return [it[2] for it in here]
+        *above, owner, name = it.split("::")
+        is_named = not arguments or any(word in owner for word in arguments)
+        if name == function.name and (owner == begins or trait and owner.startswith(begins) and is_named):
+            # (the module tells more than the whole name)
+            found[it] = "::".join(above) == module, owner == begins + "".join(arguments)
+    return [it for it, told in found.items() if told == max(found.values())]
 
 
 def without_bodies(path, text, crate, taken, known):
@@ -203,60 +153,40 @@ def without_bodies(path, text, crate, taken, known):
 # ---- what users of a crate can call ----------------------------------------------------------------------------------------
 
 
-def files(folder):
+def texts_of(folder):
     """The files of src/ that are no tests, by their path in the crate, with their text."""
-    found = {}
-    for at, folders, names in os.walk(f"{folder}/src"):
-        folders.sort()
-        for name in sorted(it for it in names if it.endswith(".rt")):
-            with open(f"{at}/{name}", encoding="utf-8") as file:
-                found[os.path.relpath(f"{at}/{name}", folder)] = file.read()
+    paths = glob.glob(f"{folder}/src/**/*.rt", recursive=True)
+    found = {os.path.relpath(it, folder): text_of(it) for it in sorted(paths, key=lambda it: (os.path.dirname(it), it))}
     tests = set()
     for path, text in found.items():
         above = os.path.dirname(path) if re.search(r"/(lib|main|mod)\.rt$", path) else path[: -len(".rt")]
-        tests |= {f"{above}/{it}" for it in re.findall(r"#\[cfg\(test\)\]\s*mod\s+(\w+)\s*;", blank(text))}
+        tests |= {f"{above}/{it}" for it in re.findall(r"^#\[cfg\(test\)\]\nmod (\w+);", text, re.M)}
     return {path: text for path, text in found.items() if not any(path == f"{it}.rt" or path.startswith(f"{it}/") for it in tests)}
-
-
-def reach(texts):
-    """Which names users reach: those of public modules (by file) and those that the root passes on."""
-    root = blank(texts.get("src/lib.rt", ""))
-    public = {f"src/{it}.rt" for it in re.findall(r"\bpub\s+mod\s+(\w+)\s*;", root)} | {"src/lib.rt"}
-    passed = set()
-    for path, names in re.findall(r"\bpub\s+use\s+([\w:]+?)::(\{[^}]*\}|\w+)\s*;", root):
-        passed |= {re.sub(r".*\bas\s+", "", it.strip()) for it in names.strip("{}").split(",") if it.strip()}
-    return public, passed
 
 
 def public_functions(folder):
     """The functions that users of the crate can call, in the order of the files; of a program, those of its modules."""
-    texts = files(folder)
-    is_program = "src/main.rt" in texts
-    public, passed = reach(texts)
+    texts = texts_of(folder)
+    is_program, root = "src/main.rt" in texts, texts.get("src/lib.rt", "")
+    # (the files of public modules, and the names that the root passes on)
+    public = {f"src/{it}.rt" for it in re.findall(r"^pub mod (\w+);", root, re.M)} | {"src/lib.rt"}
+    used = re.findall(r"^pub use [\w:]+?::(\{[^}]*\}|\w+);", root, re.M)
+    passed = {re.sub(r".* as ", "", it.strip()) for names in used for it in names.strip("{}").split(",")}
     types = {}
     for path, text in texts.items():
-        for is_pub, it in re.findall(r"(\bpub\s+)?\b(?:struct|enum|trait)\s+(\w+)", blank(text)):
+        for is_pub, it in re.findall(r"^ *(pub )?(?:struct|enum|trait) (\w+)", text, re.M):
             types[it] = bool(is_pub) and (is_program or path in public or it in passed)
-    found = []
-    for path, text in texts.items():
-        for it in functions(path, text):
-            if it.is_empty or it.is_meaning:
-                continue
-            trait, of_type = of_head(it.head) if it.head else ("", "")
-            # a Drop without clauses promises no more than a derived one
-            if trait == "Drop" and not CLAUSE.search(text, text.rfind("fn", 0, it.opens), it.opens):
-                continue
-            if it.head.startswith("trait"):
-                is_reached = False
-            elif trait:
-                is_reached = types.get(of_type, is_program) and types.get(last_word(trait), True)
-            elif it.head:
-                is_reached = it.is_public and types.get(of_type, False)
-            else:
-                is_reached = it.is_public and (is_program or path in public or it.name in passed)
-            if is_reached:
-                found.append(it)
-    return found
+
+    def is_reached(it, text):
+        trait, of_type = of_head(it.head)
+        # (a Drop without clauses promises no more than a derived one)
+        if it.is_empty or it.is_meaning or it.head.startswith("trait") or trait == "Drop" and not CLAUSE.search(text, text.rfind("fn", 0, it.opens), it.opens):
+            return False
+        if trait:
+            return types.get(of_type, is_program) and types.get(last_word(trait), True)
+        return it.is_public and (types.get(of_type, False) if it.head else is_program or it.path in public or it.name in passed)
+
+    return [it for path, text in texts.items() for it in functions(path, text) if is_reached(it, text)]
 
 
 def labels(folder):

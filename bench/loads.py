@@ -1,5 +1,5 @@
 #!/usr/bin/env python3
-"""loads.py FOLDER: writes the inputs of loads that docs/GATE.md has figures for.
+"""loads.py FOLDER: writes inputs of loads, to measure the program by.
 
   chain         5,000 classes, each over the one before, the lower half in boot and the rest in app
   interfaces    1,000 classes of app with 64 interfaces of boot each

@@ -1,7 +1,6 @@
 #!/usr/bin/env python3
-"""references.py FOLDER: writes the inputs of references and links that docs/GATE.md has figures for, each under its name, and those that are
-made so large too, with so many classes that they have about a megabyte, under the name and `_mb`. What each is stands above what makes it:
-here those of references, in links.py, chains.py and long_names.py those of links.
+"""references.py FOLDER: writes inputs of references, to measure the program by, each under its name, and those that are made so large
+too, with so many classes that they have about a megabyte, under the name and `_mb`. What each is stands above what makes it.
 
 Each is a bundle: classlink bundle < FILE.
 """
@@ -10,9 +9,6 @@ import sys
 
 from loads import TOP, TWO, bundle, section
 from making import MADE, NAMES, made, with_lines
-import chains  # noqa: F401
-import links  # noqa: F401
-import long_names  # noqa: F401
 
 LOADERS = [f"l{n}" for n in range(1, 64)]
 

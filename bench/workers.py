@@ -1,5 +1,5 @@
 #!/usr/bin/env python3
-"""workers.py PROGRAM FOLDER: serves inputs of loads by several workers, and prints what docs/GATE.md has figures for.
+"""workers.py PROGRAM FOLDER: serves inputs of loads by several workers, and prints what that takes.
 
   20,000 classes from directories, each loaded once: by 1 and by 4 workers
   65,535 loads of these, from directories, and from a bundle: by 1, 4 and 64 workers

@@ -25,15 +25,12 @@ use Rattle.cl_model.proofs.Progress.{IsKept, lineage_kept}
 use Rattle.cl_model.proofs.Trees.{lineage_is_derived}
 use Rattle.cl_model.proofs.Aims.{next_left, next_right}
 use Rattle.cl_model.proofs.Closed.{all_left, all_right}
-use Rattle.cl_model.proofs.Derivations.{all_map}
 use Rattle.cl_config.specs.Views.{Configured}
 use Rattle.cl_delegation.specs.Worlds.{world_of}
-use Rattle.cl_hierarchy.specs.Imposed.{AreEnough, AreOf, Listed, OfPreparation, Sprung, constraints_above, known_by, needs_of}
-use Rattle.cl_hierarchy.specs.declared.equalities.Given.{Given}
+use Rattle.cl_hierarchy.specs.Imposed.{AreOf, Listed, OfPreparation, Sprung, needs_of}
 use Rattle.cl_hierarchy.specs.Lineages.{IsInOrder, IsLined, IsLineageOf, Lined, kin_of, rows_in}
 use Rattle.cl_hierarchy.specs.Rows.{Rowed}
 use Rattle.cl_hierarchy.specs.Trees.{kin_under, kins, kins_after}
-use Rattle.cl_hierarchy.proofs.MetAbove.{front_met, known_met}
 use Rattle.cl_hierarchy.proofs.Tours.{classes_both}
 use Rattle.cl_findings.specs.Bases.{AreLineages}
 use Rattle.cl_findings.specs.Findings.{HasImposed, LinkIsPlaced, NeedIsPlaced, Rests, loader_of, grounded_answer}
@@ -106,12 +103,12 @@ placed_link w s loader name (Equal other a b) cs h = h
 
 -- ---- the refusal
 
-link_concludes : (content : Content) (loader : ℕ) (l at : Lined) (given : Given) (place k : ℕ) (needs : List Need) (n : Need) (s : State)
+link_concludes : (content : Content) (loader : ℕ) (l at : Lined) (place k : ℕ) (needs : List Need) (n : Need) (s : State)
     → IsInOrder l → IsLineageOf (Some content) l → IsLineageOf (Some content) at → at.config ≡ l.config → option_map (λ (row : Rowed). row.class) (slice_get (rows_in l) place) ≡ Some at.own.class
-    → AreEnough (known_by given (kin_of at)) (constraints_of (kin_of at)) needs → slice_get needs k ≡ Some n → IsClosed (world_of l.config content) s → recorded_definer s.records loader l.own.class.name ≡ Some l.own.class.loader → AllMet s (take k needs)
+    → needs ≡ constraints_of (kin_of at) → slice_get needs k ≡ Some n → IsClosed (world_of l.config content) s → recorded_definer s.records loader l.own.class.name ≡ Some l.own.class.loader → AllMet s (take k needs)
     → AllByRecursion (HasImposed (world_of l.config content) s) (row_classes (take place (rows_in l)))
     → IsNextNeed (world_of l.config content) s (Link loader l.own.class.name) n × NeedIsPlaced (world_of l.config content) s (Link loader l.own.class.name) n (row_classes (take place (rows_in l)))
-link_concludes content loader l at given place k needs n s order lin other config there are is closed rec met prepared =
+link_concludes content loader l at place k needs n s order lin other config there are is closed rec met prepared =
     let w = world_of l.config content in
     let name = l.own.class.name in
     let ks = lineage (kin_of l) in
@@ -125,11 +122,8 @@ link_concludes content loader l at given place k needs n s order lin other confi
     let kept_at = (all_right (IsKept w s) parts.front (parts.at ∷ parts.behind) kept).0 in
     let same_world : IsLineage w (kin_of at) = subst (λ (c : Configured). IsLineage (world_of c content) (kin_of at)) config other in
     let same : parts.at ≡ kin_of at = one_lineage w at.own.class parts.at (kin_of at) (subst (λ (c : Class). HasLineage w c parts.at) parts.class_is (lineage_is_derived w parts.at kept_at.1)) (lineage_is_derived w (kin_of at) same_world) in
-    let kept_front = all_left (IsKept w s) parts.front (parts.at ∷ parts.behind) kept in
-    let imposed = imposed_all w s parts.front kept_front (subst (λ (xs : List Class). AllByRecursion (HasImposed w s) xs) (sym fronts) prepared) in
-    let above = front_met w s (kin_of l) parts.front parts.at parts.behind lin parts.split (all_map (IsKept w s) (IsLineage w) (λ b h. h.1) parts.front kept_front) kept_at.1 imposed in
-    let known : AllMet s (known_by given (kin_of at)) = known_met s given (kin_of at) (subst (λ (t : Kin). AllMet s (constraints_above t)) same above) in
-    let next_there : IsNext s (constraints_of parts.at) n = subst (λ (t : Kin). IsNext s (constraints_of t) n) (sym same) (are.next s n known (next_at s needs k n is met)) in
+    let next_there : IsNext s (constraints_of parts.at) n = subst (λ (ns : List Need). IsNext s ns n) (are ∙ ap constraints_of (sym same)) (next_at s needs k n is met) in
+    let imposed = imposed_all w s parts.front (all_left (IsKept w s) parts.front (parts.at ∷ parts.behind) kept) (subst (λ (xs : List Class). AllByRecursion (HasImposed w s) xs) (sym fronts) prepared) in
     let next : IsNext s (flat_map constraints_of ks) n = subst (λ (xs : List Kin). IsNext s (flat_map constraints_of xs) n) (sym parts.split) (next_in s parts.front parts.behind parts.at n imposed next_there) in
     let has = lineage_is_derived w (kin_of l) lin in
     let goes = link_goes_on w s loader l.own.class.loader name (kin_of l) closed rec has in (
@@ -148,11 +142,11 @@ link_concludes content loader l at given place k needs n s order lin other confi
       }),
     )
 
-preparation_of : (from : Sprung) (at : Lined) (given : Given) (needs : List Need) → from ≡ OfPreparation at given → AreOf from needs → AreEnough (known_by given (kin_of at)) (constraints_of (kin_of at)) needs
-preparation_of from at given needs e h = subst (λ (x : Sprung). AreOf x needs) e h
+preparation_of : (from : Sprung) (at : Lined) (needs : List Need) → from ≡ OfPreparation at → AreOf from needs → needs ≡ constraints_of (kin_of at)
+preparation_of from at needs e h = subst (λ (x : Sprung). AreOf x needs) e h
 
-lineage_at : (told : Option Content) (from : Sprung) (at : Lined) (given : Given) → from ≡ OfPreparation at given → AreLineages told from → IsLineageOf told at
-lineage_at told from at given e h = let lined : IsLined told at = subst (λ (x : Sprung). AreLineages told x) e h in lined.lineage
+lineage_at : (told : Option Content) (from : Sprung) (at : Lined) → from ≡ OfPreparation at → AreLineages told from → IsLineageOf told at
+lineage_at told from at e h = let lined : IsLined told at = subst (λ (x : Sprung). AreLineages told x) e h in lined.lineage
 
 pub link_rests : (told : Option Content) (r : request.Request) (l : Lined) (place : ℕ) (e : Listed) (k : ℕ) (need : rust.Need) → AreLinked r l place e.origin → IsInOrder l → IsLineageOf told l → AreLineages told e.origin
     → AreOf e.origin (needs_of e.needs) → slice_get (needs_of e.needs) k ≡ Some (need_of need) → Rests told (grounded_answer r (verdicts.Linkage need) (link_basis r l place e k (Some (need_of need))))
@@ -163,8 +157,8 @@ link_rests (Some content) r l place e k need linked order lin others of is = rec
       let w = world_of l.config content in
       let n = need_of need in
       let cs = row_classes (take place (rows_in l)) in
-      let h = link_concludes content (loader_of r) l linked.at linked.given place k (needs_of e.needs) n s order lin (lineage_at (Some content) e.origin linked.at linked.given linked.prepares others) linked.config linked.there
-      (preparation_of e.origin linked.at linked.given (needs_of e.needs) linked.prepares of) is closed grounds.needs.0 grounds.needs.1 grounds.prepared in
+      let h = link_concludes content (loader_of r) l linked.at place k (needs_of e.needs) n s order lin (lineage_at (Some content) e.origin linked.at linked.prepares others) linked.config linked.there
+      (preparation_of e.origin linked.at (needs_of e.needs) linked.prepares of) is closed grounds.needs.0 grounds.needs.1 grounds.prepared in
       record {
         linkage = refl;
         next = subst (λ (q : request.Request). IsNextNeed w s (request_of q) n) (sym linked.of) h.0;

@@ -217,7 +217,7 @@ placed_reference w s r d i n is = subst (λ (q : request.Request). NeedIsPlaced 
 asked_rests_at : (content : Content) (r : request.Request) (from : Sprung) (needs : List Need) (k : ℕ) (need : rust.Need) → AreAsked r from → AreLineages (Some content) from → AreOf from needs
     → slice_get needs k ≡ Some (need_of need)
     → VerdictRests (world_of (origin_config from) content) r (verdicts.Linkage need) (record { config = origin_config from; needs = sprung_needs r from ++ take k needs; prepared = []; refused = Some (need_of need) })
-asked_rests_at content r (OfPreparation at given) needs k need asked lin of is = absurd asked
+asked_rests_at content r (OfPreparation at) needs k need asked lin of is = absurd asked
 asked_rests_at content r (OfReference d c i) needs k need to lin of is = record {
   apart = linkage_apart r need;
   concludes = λ s closed grounds.

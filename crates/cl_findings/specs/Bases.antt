@@ -59,7 +59,7 @@ IsSpeltIn told (targets.Reference d) = IsSpelt told d.value.class d.value.file
 -- the lineages that a list of equalities was made from are such (5.3.5)
 abbrev pub AreLineages : Option Content → Sprung → Type 0
 AreLineages told (OfReference d c index) = IsLined told d × IsLined told c
-AreLineages told (OfPreparation at given) = IsLined told at
+AreLineages told (OfPreparation at) = IsLined told at
 
 -- a list is the definitions' of what it was made from (5.4.2, 5.4.3)
 pub record IsListed (told : Option Content) (e : imposed.Listed) : Type 0 where

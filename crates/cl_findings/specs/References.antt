@@ -39,7 +39,6 @@ use Rattle.cl_model.specs.States.{Need, Entry, Verdict, BadEntry, Wrong}
 use Rattle.cl_model.specs.Plans.{CitesClass, class_verdict, class_named, nameless}
 use Rattle.cl_config.specs.Views.{Configured}
 use Rattle.cl_hierarchy.specs.Imposed.{Sprung, OfReference, OfPreparation, Listed}
-use Rattle.cl_hierarchy.specs.declared.equalities.Given.{Given}
 use Rattle.cl_hierarchy.specs.Imposed as imposed
 use Rattle.cl_hierarchy.specs.Lineages.{Lined, kin_of, rows_in}
 use Rattle.cl_hierarchy.specs.Rows.{Rowed, row_accessible}
@@ -154,17 +153,17 @@ member_basis r f e = record {
 -- the equalities are those of the request's entry, whose class is accessible (5.4.3)
 abbrev pub AreAsked : request.Request → Sprung → Type 0
 AreAsked r (OfReference d c index) = GoesTo r d c index
-AreAsked r (OfPreparation at given) = ⊥
+AreAsked r (OfPreparation at) = ⊥
 
 -- the configuration of what a list of equalities was made from
 abbrev pub origin_config : Sprung → Configured
 origin_config (OfReference d c index) = d.config
-origin_config (OfPreparation at given) = at.config
+origin_config (OfPreparation at) = at.config
 
 -- the records of the classes that a list of equalities was made from (5.3, 5.4.3.1)
 abbrev pub sprung_needs : request.Request → Sprung → List Need
 sprung_needs r (OfReference d c index) = reference_needs r d.own.class c.own.class
-sprung_needs r (OfPreparation at given) = class_need r at.own.class ∷ []
+sprung_needs r (OfPreparation at) = class_need r at.own.class ∷ []
 
 -- what an answer rests on that comes at the equality at a place of a reference's list: the two
 -- classes are recorded, and those before it are imposed; this one, if one is, is refused
@@ -182,8 +181,7 @@ asked_basis r e k refused = record {
 pub record AreLinked (r : request.Request) (l : Lined) (place : ℕ) (from : Sprung) : Type 0 where
   pub of : r ≡ requests.Link (loader_of r) l.own.class.name
   pub at : Lined
-  pub given : Given
-  pub prepares : from ≡ OfPreparation at given
+  pub prepares : from ≡ OfPreparation at
   pub config : at.config ≡ l.config
   pub there : option_map (λ row. row.class) (slice_get (rows_in l) place) ≡ Some at.own.class
 

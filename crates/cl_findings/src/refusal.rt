@@ -23,8 +23,8 @@ pub fn bring_lineages<T: Told>(equalities: &Equalities<T>)
             let _ = d.class();
             let _ = c.class();
         }
-        Origin::Preparation { class, .. } => {
-            let _ = class.class();
+        Origin::Preparation { lineage } => {
+            let _ = lineage.class();
         }
     }
 }

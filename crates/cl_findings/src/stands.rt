@@ -188,7 +188,7 @@ fn origin_stands<T: Told, X: Tables>(
 {
     match equalities.origin() {
         Origin::Reference { d, c, .. } => reference_stands(tables, request, d.class(), c.class()),
-        Origin::Preparation { class, .. } => class_stands(tables, request, class.class()),
+        Origin::Preparation { lineage } => class_stands(tables, request, lineage.class()),
     }
 }
 
@@ -239,7 +239,7 @@ fn config_of<T: Told>(basis: &Basis<T>) -> &Config
         Basis::Lookup { d, .. } => d.config(),
         Basis::Asked { equalities, .. } => match equalities.origin() {
             Origin::Reference { d, .. } => d.config(),
-            Origin::Preparation { class, .. } => class.config(),
+            Origin::Preparation { lineage } => lineage.config(),
         },
         Basis::Linked { lineage, .. } => lineage.config(),
     }

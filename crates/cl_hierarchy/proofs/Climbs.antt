@@ -126,6 +126,10 @@ pub record Climbs (rows : List Rowed) (superclass : List Class) (found rest : Li
   pub kins_are : map (kin_under (kins rows)) found ++ upward (forest (kins rest) wanted) ≡ upward (forest (kins rows) superclass)
   pub rows_are : AllByRecursion (IsRowIn rows) found
 
+pub begun : (rows found : List Rowed) (superclass : List Class) → found ≡ [] → Climbs rows superclass found rows superclass
+begun rows found superclass e =
+    subst (λ (rs : List Rowed). Climbs rows superclass rs rows superclass) (sym e) (record { later = []; split = sym (append-nil rows); kins_are = refl; rows_are = tt })
+
 pub goes_on : (rows : List Rowed) (superclass : List Class) (found rest : List Rowed) (wanted : List Class) (earlier : List Rowed) (r : Rowed) → SupersBefore [] rows → Climbs rows superclass found rest wanted
     → Some (kin_under (kins earlier) r) ≡ first (upward (forest (kins rest) wanted)) → IsPlace rest earlier r → Climbs rows superclass (found ++ r ∷ []) earlier (superclass_in r)
 goes_on rows superclass found rest wanted earlier r ordered h e p =

@@ -4,11 +4,11 @@ use Rattle.std.specs.List.{AllByRecursion}
 use Rattle.cl_model.specs.declared.class.Class.{Class}
 use Rattle.cl_model.specs.Classes.{same_class}
 use Rattle.cl_model.specs.Lineages.{Kin}
-use Rattle.cl_hierarchy.specs.Lineages.{IsInOrder, IsRowIn, Lined, kin_at, row_of, rows_in}
+use Rattle.cl_hierarchy.specs.Lineages.{IsInOrder, IsRowIn, Lined, kin_at, kin_of, row_of, rows_in}
 use Rattle.cl_hierarchy.specs.Rows.{Rowed}
 use Rattle.cl_hierarchy.specs.Trees.{AllKnown, SupersBefore, interfaces_in, kin_under, kins, superclass_in}
 use Rattle.cl_hierarchy.proofs.Ancestry.{kin_stays, row_kin}
-use Rattle.cl_hierarchy.proofs.Climbs.{kins_both, row_more}
+use Rattle.cl_hierarchy.proofs.Climbs.{kins_both, own_row, row_more}
 use Rattle.cl_hierarchy.proofs.RowTables.{before_push}
 
 row_none : (xs ys : List Rowed) (c : Class) → row_of xs c ≡ None → row_of (xs ++ ys) c ≡ row_of ys c
@@ -59,25 +59,26 @@ if_both P Q R (Err e) f h g = tt
 pub table_at : (l : Lined) (table above : List Rowed) (own : Rowed) → table ≡ above ++ own ∷ [] → above ≡ l.above → own ≡ l.own → table ≡ rows_in l
 table_at l table above own e f o = e ∙ ap (λ (rs : List Rowed). rs ++ own ∷ []) f ∙ ap (λ (r : Rowed). l.above ++ r ∷ []) o
 
-module _ (l inside : Lined) (table : List Rowed) (same : inside ≡ l) (h : IsInOrder inside) (e : table ≡ rows_in l) where
-  order : IsInOrder l
-  order = subst (λ (x : Lined). IsInOrder x) same h
-
+module _ (l : Lined) (table : List Rowed) (own : Rowed) (h : IsInOrder l) (e : table ≡ rows_in l) (o : own ≡ l.own) where
   pub ordered : SupersBefore [] table
-  ordered = subst (λ (rs : List Rowed). SupersBefore [] rs) (sym e) (whole l order)
+  ordered = subst (λ (rs : List Rowed). SupersBefore [] rs) (sym e) (whole l h)
 
-  pub row_stands : (r : Rowed) → IsRowIn (rows_in l) r → IsRowIn table r
-  row_stands r i = subst (λ (rs : List Rowed). IsRowIn rs r) (sym e) i
+  own_in : IsRowIn (rows_in l) own
+  own_in = subst (λ (r : Rowed). IsRowIn (rows_in l) r) (sym o) (own_row l l refl h)
 
-  pub told_inside : {V A E : Type 0} (items : V → List A) (v : A → Rowed) (goal : Kin → List Kin) (r : Rowed) → IsRowIn (rows_in l) r → (found : Result V E) → IfOk found (λ x. map (λ y. kin_under (kins table) (v y)) (items x) ≡ goal (kin_under (kins table) r))
-      → IfOk found (λ x. AllByRecursion (λ y. IsRowIn table (v y)) (items x)) → IfOk found (λ x. map (λ y. kin_at l (v y)) (items x) ≡ goal (kin_at l r))
-  told_inside {V} items v goal r i found f g =
-      if_both (λ (x : V). map (λ y. kin_under (kins table) (v y)) (items x) ≡ goal (kin_under (kins table) r)) (λ (x : V). AllByRecursion (λ y. IsRowIn table (v y)) (items x))
-      (λ (x : V). map (λ y. kin_at l (v y)) (items x) ≡ goal (kin_at l r)) found
+  pub own_stands : IsRowIn table own
+  own_stands = subst (λ (rs : List Rowed). IsRowIn rs own) (sym e) own_in
+
+  pub told_inside : {V A E : Type 0} (items : V → List A) (v : A → Rowed) (goal : Kin → List Kin) (found : Result V E) → IfOk found (λ x. map (λ y. kin_under (kins table) (v y)) (items x) ≡ goal (kin_under (kins table) own))
+      → IfOk found (λ x. AllByRecursion (λ y. IsRowIn table (v y)) (items x)) → IfOk found (λ x. map (λ y. kin_at l (v y)) (items x) ≡ goal (kin_of l))
+  told_inside {V} items v goal found f g =
+      if_both (λ (x : V). map (λ y. kin_under (kins table) (v y)) (items x) ≡ goal (kin_under (kins table) own)) (λ (x : V). AllByRecursion (λ y. IsRowIn table (v y)) (items x))
+      (λ (x : V). map (λ y. kin_at l (v y)) (items x) ≡ goal (kin_of l)) found
       (λ x k a.
-      sym (kins_inside l order v (items x) (subst (λ (rs : List Rowed). AllByRecursion (λ y. IsRowIn rs (v y)) (items x)) e a))
-      ∙ subst (λ (rs : List Rowed). map (λ y. kin_under (kins rs) (v y)) (items x) ≡ goal (kin_under (kins rs) r)) e k
-      ∙ ap (λ (y : Kin). goal y) (kin_inside l order r i)) f g
+      sym (kins_inside l h v (items x) (subst (λ (rs : List Rowed). AllByRecursion (λ y. IsRowIn rs (v y)) (items x)) e a))
+      ∙ subst (λ (rs : List Rowed). map (λ y. kin_under (kins rs) (v y)) (items x) ≡ goal (kin_under (kins rs) own)) e k
+      ∙ ap (λ (y : Kin). goal y) (kin_inside l h own own_in)
+      ∙ ap (λ (r : Rowed). goal (kin_at l r)) o) f g
 
   pub rows_inside : {V A E : Type 0} (items : V → List A) (v : A → Rowed) (found : Result V E) → IfOk found (λ x. AllByRecursion (λ y. IsRowIn table (v y)) (items x)) → IfOk found (λ x. AllByRecursion (λ y. IsRowIn (rows_in l) (v y)) (items x))
   rows_inside {V} items v found g = subst (λ (rs : List Rowed). IfOk found (λ x. AllByRecursion (λ y. IsRowIn rs (v y)) (items x))) e g

@@ -1,12 +1,8 @@
 -- Classes that join others.
-use Rattle.std.proofs.Common.{◌≡◌, ◌∙◌, ◌+◌, ◌<◌, ◌≤◌, ℕ, zero, suc, arith, Bool, true, false, ◌||◌, cond, List, [], ◌∷◌, ◌++◌, Option, None, Some, get_or, length, map, take, refl, sym, ap, subst}
+use Rattle.std.proofs.Common.{◌≡◌, ◌∙◌, ◌+◌, ◌<◌, ◌≤◌, ℕ, zero, suc, arith, Bool, true, false, ◌||◌, cond, List, [], ◌∷◌, ◌++◌, Option, get_or, length, map, take, refl, sym, ap, subst}
 use Rattle.std.specs.Prelude.{option_to_list, slice_get}
-use Rattle.std.proofs.lemmas.Bool.{or_right}
 use Rattle.std.proofs.lemmas.Grind.{take_at_read}
 use Rattle.std.proofs.lemmas.List.{map_push, take_all}
-use Rattle.std.proofs.lemmas.Option.{same_Some}
-use Rattle.cl_model.proofs.Ancestors.{among_first}
-use Rattle.cl_model.proofs.Complete.{is_class}
 use Rattle.cl_model.specs.declared.class.Class.{Class}
 use Rattle.cl_model.specs.Classes.{Above, is_among, same_class}
 use Rattle.cl_hierarchy.specs.Frames.{accepted_of}
@@ -65,35 +61,6 @@ joins_next cs i o first middle last at before one =
     let more : take i cs ++ option_to_list o ≡ take (i + 1) cs =
     ap (λ (x : Option Class). take i cs ++ option_to_list x) at ∙ sym (take_if cs i) ∙ ap (λ (n : ℕ). take n cs) (sym next) in
     subst (λ (ds : List Class). Gains first ds last) more (joins_both first (take i cs) middle (option_to_list o) last before one)
-
--- one that stands before a place
-among_taken : (cs : List Class) (i k : ℕ) (c : Class) → i < k → slice_get cs i ≡ Some c → is_among (take k cs) c ≡ true
-among_taken [] zero k c lt e = absurd cc
-among_taken [] (suc i) k c lt e = absurd cc
-among_taken (d ∷ cs) i zero c lt e = absurd (omega (arith, lt))
-among_taken (d ∷ cs) zero (suc k) c lt e = subst (λ (x : Class). is_among (x ∷ take k cs) c ≡ true) (sym (same_Some d c e)) (among_first (take k cs) c)
-among_taken (d ∷ cs) (suc i) (suc k) c lt e = or_right (same_class c d) (is_among (take k cs) c) (among_taken cs i k c (omega (arith, lt)) e)
-
--- where one is among those that joined others, it changes nothing
-joins_again : (first some last : List Class) (c : Class) → is_among some c ≡ true → Gains first some last → Gains last (c ∷ []) last
-joins_again first some last c e h = λ x. at x (same_class x c) refl
-  where
-    here : is_among last c ≡ true
-    here = h c ∙ or_right (is_among first c) (is_among some c) e
-
-    at : (x : Class) (b : Bool) → same_class x c ≡ b → is_among last x ≡ (is_among last x || (b || false))
-    at x false s = none_more (is_among last x)
-    at x true s =
-        let there : is_among last x ≡ true = subst (λ (y : Class). is_among last y ≡ true) (sym (is_class x c s)) here in
-        there ∙ sym (or_right (is_among last x) true refl)
-
--- one that was named before changes nothing
-pub joins_repeat : (cs : List Class) (i k : ℕ) (first last : List Class) → i < k → slice_get cs i ≡ slice_get cs k → Gains first (take k cs) last → Gains first (take (k + 1) cs) last
-joins_repeat cs i k first last lt same h = joins_next cs k (slice_get cs k) first last last refl h (at (slice_get cs k) refl)
-  where
-    at : (o : Option Class) → slice_get cs k ≡ o → Gains last (option_to_list o) last
-    at None e = joins_none last
-    at (Some c) e = joins_again first (take k cs) last c (among_taken cs i k c lt (same ∙ e)) h
 
 -- all of them
 pub joins_all : (cs : List Class) (i : ℕ) (first last : List Class) → length cs ≤ i → Gains first (take i cs) last → Gains first cs last

@@ -1,5 +1,5 @@
 -- The classes of a row's superinterfaces, and their rows, by their places.
-use Rattle.std.proofs.Common.{◌≡◌, ◌∙◌, ℕ, suc, zero, List, [], ◌∷◌, Option, Some, None, Result, Ok, Err, IfOk, map, refl, sym, ap, subst}
+use Rattle.std.proofs.Common.{◌≡◌, ◌∙◌, ℕ, suc, zero, List, [], ◌∷◌, Option, Some, None, Result, Ok, Err, IfOk, map, refl, sym, ap}
 use Rattle.std.specs.Prelude.{slice_get, option_and_then}
 use Rattle.cl_classfile.specs.Files.{Name, file_of}
 use Rattle.cl_classfile.specs.Structure.{Structure}
@@ -62,15 +62,6 @@ class_at_place r x ps k n p same places e f =
     at_place r k ∙ ap (λ (o : Option Name). both o (slice_get (interface_places r) k)) (sym (e ∙ ap (λ (y : Structure). slice_get (file_of y).interfaces k) same))
     ∙ ap (λ (o : Option ℕ). both (Some n) o) (sym (f ∙ ap (λ (y : List ℕ). slice_get y k) places))
     )
-
--- where one name and one loader stand at two places, it is one class
-pub like_at : (r : Rowed) (x : Structure) (ps : List ℕ) (i k : ℕ) → x ≡ r.file → ps ≡ interface_places r → slice_get (file_of x).interfaces i ≡ slice_get (file_of x).interfaces k → slice_get ps i ≡ slice_get ps k
-    → slice_get (interfaces_in r) i ≡ slice_get (interfaces_in r) k
-like_at r x ps i k same places names loaders =
-    at_place r i
-    ∙ ap (λ (o : Option Name). both o (slice_get (interface_places r) i)) (subst (λ (y : Structure). slice_get (file_of y).interfaces i ≡ slice_get (file_of y).interfaces k) same names)
-    ∙ ap (λ (o : Option ℕ). both (slice_get (file_of r.file).interfaces k) o) (subst (λ (qs : List ℕ). slice_get qs i ≡ slice_get qs k) places loaders)
-    ∙ sym (at_place r k)
 
 -- ---- its row
 

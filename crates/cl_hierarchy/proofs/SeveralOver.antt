@@ -9,7 +9,7 @@ use Rattle.cl_model.specs.Lineages.{Forest, Kin, classes, once_after, preorder, 
 use Rattle.cl_model.proofs.Complete.{is_class}
 use Rattle.cl_hierarchy.specs.Lineages.{IsRowIn}
 use Rattle.cl_hierarchy.specs.Rows.{Rowed}
-use Rattle.cl_hierarchy.specs.Several.{Gains, superinterfaces_of_any}
+use Rattle.cl_hierarchy.specs.Several.{Gains, if_left, superinterfaces_of_any}
 use Rattle.cl_hierarchy.specs.Trees.{AllKnown, SupersBefore, forest, in_front, interfaces_in, kin_named, kin_under, kins, superclass_in}
 use Rattle.cl_hierarchy.proofs.Ancestry.{kins_push, row_kin, same_turned}
 use Rattle.cl_hierarchy.proofs.Climbs.{before_split, placed_row}
@@ -243,48 +243,40 @@ module _ (rows : List Rowed) (goal : Class → Bool) (front : List Rowed) (r : R
       ∙ ap (λ (ks : List Kin). is_among found c || any_of (over (kins rows) c) left (classes ks)) (kins_push [] front r)
       ∙ ap (λ (x : Bool). is_among found c || ((x && over (kins rows) c r.class) || any_of (over (kins rows) c) left (classes (kins front)))) e
 
-  -- a row whose class is not left is passed
-  pub pass_on : is_among left r.class ≡ false → IsPassed rows goal front found left
-  pass_on e = record { later = r ∷ h.later; split = split_at; told = λ c. told_at c false e }
-
   supers_in : AreIn (classes (kins front)) (interfaces_in r ++ superclass_in r)
   supers_in =
       let parts = before_split [] front (r ∷ h.later) (subst (λ (rs : List Rowed). SupersBefore [] rs) split_at ordered) in
       both_in (classes (kins front)) (interfaces_in r) (superclass_in r) (all_in (kins front) (interfaces_in r) parts.1.0.interfaces) (all_in (kins front) (superclass_in r) parts.1.0.superclass)
 
-  -- one whose class is left is looked at
-  pub pass_by : (found-now left-now : List Class) → is_among left r.class ≡ true → Gains found (interfaces_in r) found-now → Gains left (interfaces_in r ++ superclass_in r) left-now → IsPassed rows goal front found-now left-now
-  pass_by found-now left-now e f l = record {
-    later = r ∷ h.later;
-    split = split_at;
-    told = λ c.
-        let n = list_any (over (kins rows) c) (interfaces_in r ++ superclass_in r) in
-        let a = any_of (over (kins rows) c) left (classes (kins front)) in
-        told_at c true e
-        ∙ ap (λ (b : Bool). is_among found c || (b || a)) (over_row rows r c ordered (placed_row rows front r ordered (record { later = h.later; split = split_at })))
-        ∙ moved (is_among found c) (is_among (interfaces_in r) c) n a
-        ∙ ap (λ (b : Bool). (is_among found c || is_among (interfaces_in r) c) || (a || b)) (sym (any_in (over (kins rows) c) (interfaces_in r ++ superclass_in r) (classes (kins front)) supers_in))
-        ∙ ap (λ (b : Bool). (is_among found c || is_among (interfaces_in r) c) || b) (sym (any_joined (over (kins rows) c) left (interfaces_in r ++ superclass_in r) left-now (classes (kins front)) l))
-        ∙ ap (λ (b : Bool). b || any_of (over (kins rows) c) left-now (classes (kins front))) (sym (f c));
-  }
+  -- a row is looked at where its class is left
+  pub pass_row : (found-now left-now : List Class) → Gains found (if_left left r.class (interfaces_in r)) found-now → Gains left (if_left left r.class (interfaces_in r ++ superclass_in r)) left-now → IsPassed rows goal front found-now left-now
+  pass_row found-now left-now f l = record { later = r ∷ h.later; split = split_at; told = λ c. at c (is_among left r.class) refl (f c) l }
+    where
+      at : (c : Class) (b : Bool) → is_among left r.class ≡ b → is_among found-now c ≡ (is_among found c || is_among (if b then interfaces_in r else []) c) → Gains left (if b then interfaces_in r ++ superclass_in r else []) left-now
+          → goal c ≡ (is_among found-now c || any_of (over (kins rows) c) left-now (classes (kins front)))
+      at c true e more up =
+          let n = list_any (over (kins rows) c) (interfaces_in r ++ superclass_in r) in
+          let a = any_of (over (kins rows) c) left (classes (kins front)) in
+          told_at c true e
+          ∙ ap (λ (b : Bool). is_among found c || (b || a)) (over_row rows r c ordered (placed_row rows front r ordered (record { later = h.later; split = split_at })))
+          ∙ moved (is_among found c) (is_among (interfaces_in r) c) n a
+          ∙ ap (λ (b : Bool). (is_among found c || is_among (interfaces_in r) c) || (a || b)) (sym (any_in (over (kins rows) c) (interfaces_in r ++ superclass_in r) (classes (kins front)) supers_in))
+          ∙ ap (λ (b : Bool). (is_among found c || is_among (interfaces_in r) c) || b) (sym (any_joined (over (kins rows) c) left (interfaces_in r ++ superclass_in r) left-now (classes (kins front)) up))
+          ∙ ap (λ (b : Bool). b || any_of (over (kins rows) c) left-now (classes (kins front))) (sym more)
+      at c false e more up =
+          let a = any_of (over (kins rows) c) left (classes (kins front)) in
+          told_at c false e
+          ∙ ap (λ (b : Bool). b || a) (none_more (is_among found c) ∙ sym more)
+          ∙ ap (λ (b : Bool). is_among found-now c || b) (none_more a ∙ ap (λ (b : Bool). a || b) (sym (any_none (over (kins rows) c) (classes (kins front)))) ∙ sym (any_joined (over (kins rows) c) left [] left-now (classes (kins front)) up))
 
 -- ---- the same of what the code has of them
 
-module _ {A : Type 0} (v : A → Rowed) (rows : List Rowed) (goal : Class → Bool) (rest earlier : List A) (x : A) (found left : List Class) (d : Class) (among : Bool) (ordered : SupersBefore [] rows) (h : IsPassed rows goal (map v rest) found left)
-    (e : rest ≡ earlier ++ x ∷ []) (same : d ≡ (v x).class) (told : among ≡ is_among left d) where
-  with_last : IsPassed rows goal (map v earlier ++ v x ∷ []) found left
-  with_last = subst (λ (rs : List Rowed). IsPassed rows goal rs found left) (ap (λ (xs : List A). map v xs) e ∙ map_push v earlier x) h
-
-  test : (b : Bool) → among ≡ b → is_among left (v x).class ≡ b
-  test b f = ap (λ (c : Class). is_among left c) (sym same) ∙ sym told ∙ f
-
-  pub on_in : among ≡ false → IsPassed rows goal (map v earlier) found left
-  on_in f = pass_on rows goal (map v earlier) (v x) found left ordered with_last (test false f)
-
-  pub by_in : (r : Rowed) (found-now left-now : List Class) → among ≡ true → r ≡ v x → Gains found (interfaces_in r) found-now → Gains left (interfaces_in r ++ superclass_in r) left-now → IsPassed rows goal (map v earlier) found-now left-now
-  by_in r found-now left-now f is over up =
-      pass_by rows goal (map v earlier) (v x) found left ordered with_last found-now left-now (test true f) (subst (λ (y : Rowed). Gains found (interfaces_in y) found-now) is over)
-      (subst (λ (y : Rowed). Gains left (interfaces_in y ++ superclass_in y) left-now) is up)
+pub pass_in : {A : Type 0} (v : A → Rowed) (rows : List Rowed) (goal : Class → Bool) (rest earlier : List A) (x : A) (r : Rowed) (found left found-now left-now : List Class) → SupersBefore [] rows → rest ≡ earlier ++ x ∷ [] → r ≡ v x → IsPassed rows goal (map v rest) found left
+    → Gains found (if_left left r.class (interfaces_in r)) found-now → Gains left (if_left left r.class (interfaces_in r ++ superclass_in r)) left-now → IsPassed rows goal (map v earlier) found-now left-now
+pass_in {A} v rows goal rest earlier x r found left found-now left-now ordered e is h over up =
+    pass_row rows goal (map v earlier) r found left ordered
+    (subst (λ (rs : List Rowed). IsPassed rows goal rs found left) (ap (λ (xs : List A). map v xs) e ∙ map_push v earlier x ∙ ap (λ (y : Rowed). map v earlier ++ y ∷ []) (sym is)) h)
+    found-now left-now over up
 
 -- ---- the end
 

@@ -2,6 +2,7 @@
 use Rattle.std.proofs.Common.{◌≡◌, ◌∙◌, ◌⊎◌, inl, inr, ℕ, suc, zero, ◌+◌, ◌*◌, ◌<◌, ◌≤◌, arith, Bool, true, false, if◌then◌else◌, List, [], ◌∷◌, ◌++◌, Option, Some, None, append_assoc, append-nil, drop, is_some, map, refl, sym, ap, subst}
 use Rattle.std.specs.Prelude.{slice_get, option_and_then, option_to_list}
 use Rattle.std.specs.List.{AllByRecursion}
+use Rattle.std.proofs.lemmas.List.{map_push}
 use Rattle.cl_classfile.specs.Files.{Name, file_of}
 use Rattle.cl_model.specs.declared.class.Class.{Class}
 use Rattle.cl_model.specs.Classes.{AsSuperclass, is_among}
@@ -17,7 +18,7 @@ use Rattle.cl_hierarchy.specs.Frames.{accepted_of}
 use Rattle.cl_hierarchy.specs.Lineages.{IsRowIn, row_of}
 use Rattle.cl_hierarchy.specs.Rows.{Rowed}
 use Rattle.cl_hierarchy.specs.Trees.{AllKnown, SupersBefore, forest, in_front, interfaces_in, kin_named, kin_under, kins, superclass_in}
-use Rattle.cl_hierarchy.specs.Tours.{Comes, Leaves, Marked, Stop, Toured, first_row, inner, interface_row, marks, opening_steps, opening_unless_left, over_from, size, step, steps_left, steps_to_go, stops, stops_left, stops_of, after_telling, tells, tells_after, tells_before, told_at, up_first, upwards_of, wants_up, with_class, with_row}
+use Rattle.cl_hierarchy.specs.Tours.{Comes, Leaves, Marked, Stop, Toured, first_row, inner, interface_row, plain_step, marks, opening_steps, opening_unless_left, over_from, size, step, steps_left, steps_to_go, stops, stops_left, stops_of, after_telling, tells, tells_after, tells_before, told_at, up_first, upwards_of, wants_up, with_class, with_row}
 use Rattle.cl_hierarchy.proofs.Ancestry.{no_row, row_kin}
 use Rattle.cl_hierarchy.proofs.Tours.{Goes, goes_first, goes_on, goes_past, goes_tell, told_both, with_has, with_one, within_join, classes_both, with_either, with_grows}
 use Rattle.cl_hierarchy.proofs.Ends.{all_push}
@@ -34,7 +35,7 @@ steps_both known [] ns = omega arith
 steps_both known (m ∷ ms) ns = let more = steps_both known ms ns in omega arith
 
 -- the row of a step is its class's
-abbrev pub IsRowOf : List Rowed → Marked → Type 0
+abbrev IsRowOf : List Rowed → Marked → Type 0
 IsRowOf rows m = IsRowIn rows m.row
 
 abbrev pub AreRowsOf : List Rowed → List Marked → Type 0
@@ -56,7 +57,7 @@ module _ (rows : List Rowed) (ordered : SupersBefore [] rows) where
   row_is : (c : Class) (x : Rowed) → row_of rows c ≡ Some x → IsRowIn rows x
   row_is c x e = ap (λ (y : Class). row_of rows y) (row_kin [] rows c x ordered e).same ∙ e
 
-  pub kin_is : (c : Class) (x : Rowed) → row_of rows c ≡ Some x → kin_named known c ≡ Some (kin_under known x)
+  kin_is : (c : Class) (x : Rowed) → row_of rows c ≡ Some x → kin_named known c ≡ Some (kin_under known x)
   kin_is c x e = (row_kin [] rows c x ordered e).kin
 
   up_stops : (o : TourOrder) (c : Class) (x : Option Rowed) → row_of rows c ≡ x → stops_left o known (upwards_of o x) ≡ stops o (forest known (c ∷ [])) (wants_up o)
@@ -123,19 +124,19 @@ module _ (rows : List Rowed) (ordered : SupersBefore [] rows) (o : TourOrder) (r
 -- ---- superinterfaces
 
 -- a class in front, if there is one
-abbrev pub fronted : List Kin → Option Rowed → Forest → Forest
+abbrev fronted : List Kin → Option Rowed → Forest → Forest
 fronted known None f = Bare
 fronted known (Some x) f = in_front (Some (kin_under known x)) f
 
-abbrev pub IsOneOf : List Rowed → Option Rowed → Type 0
+abbrev IsOneOf : List Rowed → Option Rowed → Type 0
 IsOneOf rows None = Unit {0}
 IsOneOf rows (Some x) = IsRowIn rows x
 
-pub record IsOver (rows : List Rowed) (cs : List Class) (k : ℕ) (x : Option Rowed) : Type 0 where
-  pub front : forest (kins rows) (drop k cs) ≡ fronted (kins rows) x (forest (kins rows) (drop (suc k) cs))
-  pub is_one : IsOneOf rows x
+record IsOver (rows : List Rowed) (cs : List Class) (k : ℕ) (x : Option Rowed) : Type 0 where
+  front : forest (kins rows) (drop k cs) ≡ fronted (kins rows) x (forest (kins rows) (drop (suc k) cs))
+  is_one : IsOneOf rows x
 
-pub over_here : (rows : List Rowed) → SupersBefore [] rows → (cs : List Class) (k : ℕ) → AllKnown (kins rows) cs → (x : Option Rowed) → option_and_then (row_of rows) (slice_get cs k) ≡ x → IsOver rows cs k x
+over_here : (rows : List Rowed) → SupersBefore [] rows → (cs : List Class) (k : ℕ) → AllKnown (kins rows) cs → (x : Option Rowed) → option_and_then (row_of rows) (slice_get cs k) ≡ x → IsOver rows cs k x
 over_here rows h [] zero all None e = record { front = refl; is_one = tt }
 over_here rows h [] (suc k) all None e = record { front = refl; is_one = tt }
 over_here rows h [] zero all (Some x) e = absurd cc
@@ -147,17 +148,17 @@ over_here rows h (c ∷ cs) (suc k) all x e = let more = over_here rows h cs k a
 plus_one : (n : ℕ) → n + 1 ≡ suc n
 plus_one n = omega arith
 
-pub stops_front : (o : TourOrder) (k : Kin) (f : Forest) → stops o (in_front (Some k) f) true ≡ stops o (alone k) true ++ stops o f true
+stops_front : (o : TourOrder) (k : Kin) (f : Forest) → stops o (in_front (Some k) f) true ≡ stops o (alone k) true ++ stops o f true
 stops_front o k f = ap (λ (x : List Stop). Comes k true ∷ x) (sym (append_assoc (inner o k) (Leaves k ∷ []) (stops o f true)))
 
 module _ (rows : List Rowed) (o : TourOrder) (r : Rowed) (place : ℕ) where
-  pub over_stops : (x : Option Rowed) → IsOver rows (interfaces_in r) place x → stops_left o (kins rows) (over_from r place x) ≡ stops_of o (kins rows) r (tasks.Over place)
+  over_stops : (x : Option Rowed) → IsOver rows (interfaces_in r) place x → stops_left o (kins rows) (over_from r place x) ≡ stops_of o (kins rows) r (tasks.Over place)
   over_stops None h = sym (ap (λ (f : Forest). stops o f true) h.front)
   over_stops (Some x) h =
       ap (λ (n : ℕ). stops o (alone (kin_under (kins rows) x)) true ++ stops o (forest (kins rows) (drop n (interfaces_in r))) true) (plus_one place)
       ∙ sym (ap (λ (f : Forest). stops o f true) h.front ∙ stops_front o (kin_under (kins rows) x) (forest (kins rows) (drop (suc place) (interfaces_in r))))
 
-  pub over_steps : (x : Option Rowed) → IsOver rows (interfaces_in r) place x → steps_left (kins rows) (over_from r place x) < 4 * size (forest (kins rows) (drop place (interfaces_in r))) + 1
+  over_steps : (x : Option Rowed) → IsOver rows (interfaces_in r) place x → steps_left (kins rows) (over_from r place x) < 4 * size (forest (kins rows) (drop place (interfaces_in r))) + 1
   over_steps None h = omega arith
   over_steps (Some x) h =
       let e : size (forest (kins rows) (drop place (interfaces_in r))) ≡ 1 + size (kin_under (kins rows) x).superclass + size (kin_under (kins rows) x).interfaces + size (forest (kins rows) (drop (suc place) (interfaces_in r))) =
@@ -177,9 +178,9 @@ pub record IsStage (o : TourOrder) (rows : List Rowed) (goal : List Kin) (t : To
   pub stack_is : AreRowsOf rows t.stack
 
 -- the same of what was told, before any other stops
-pub record IsTold (o : TourOrder) (rows : List Rowed) (goal : List Kin) (t : Toured) (rest : List Stop) : Type 0 where
-  pub goes : Goes o (kins rows) goal t.told t.seen t.left rest
-  pub told_are : AllByRecursion (IsRowIn rows) t.told
+record IsTold (o : TourOrder) (rows : List Rowed) (goal : List Kin) (t : Toured) (rest : List Stop) : Type 0 where
+  goes : Goes o (kins rows) goal t.told t.seen t.left rest
+  told_are : AllByRecursion (IsRowIn rows) t.told
 
 row_joins : (rows : List Rowed) (seen : List Class) (told : List Rowed) (r : Rowed) → AllByRecursion (IsRowIn rows) told → IsRowIn rows r → AllByRecursion (IsRowIn rows) (with_row seen told r)
 row_joins rows seen told r h i = at (is_among seen r.class)
@@ -189,7 +190,7 @@ row_joins rows seen told r h i = at (is_among seen r.class)
     at false = all_push (IsRowIn rows) told r h i
 
 module _ (o : TourOrder) (rows : List Rowed) (goal : List Kin) (r : Rowed) (is_row : IsRowIn rows r) where
-  pub telling_on : (t : Toured) (s : Stop) (b : Bool) (rest : List Stop) → tells o s ≡ (if b then kin_under (kins rows) r ∷ [] else []) → IsTold o rows goal t (s ∷ (rest ++ stops_left o (kins rows) t.stack))
+  telling_on : (t : Toured) (s : Stop) (b : Bool) (rest : List Stop) → tells o s ≡ (if b then kin_under (kins rows) r ∷ [] else []) → IsTold o rows goal t (s ∷ (rest ++ stops_left o (kins rows) t.stack))
       → IsTold o rows goal (after_telling b t r) (rest ++ stops_left o (kins rows) (after_telling b t r).stack)
   telling_on t s true rest e h = record {
     goes = goes_tell o (kins rows) goal t.told t.seen t.left r s (rest ++ stops_left o (kins rows) t.stack) e h.goes;
@@ -197,7 +198,7 @@ module _ (o : TourOrder) (rows : List Rowed) (goal : List Kin) (r : Rowed) (is_r
   }
   telling_on t s false rest e h = record { goes = goes_on o (kins rows) goal t.told t.seen t.left s (rest ++ stops_left o (kins rows) t.stack) e h.goes; told_are = h.told_are }
 
-pub telling_stack : (t : Toured) (b : Bool) (r : Rowed) → (after_telling b t r).stack ≡ t.stack
+telling_stack : (t : Toured) (b : Bool) (r : Rowed) → (after_telling b t r).stack ≡ t.stack
 telling_stack t true r = refl
 telling_stack t false r = refl
 
@@ -268,7 +269,7 @@ module _ (rows : List Rowed) (ordered : SupersBefore [] rows) (o : TourOrder) (g
     stack_is = h.stack_is;
   }
 
-  pub went : (t : Toured) → IsTold o rows goal t (Leaves (kin_under (kins rows) r) ∷ stops_left o (kins rows) t.stack) → AreRowsOf rows t.stack → IsStage o rows goal (step o rows t r tasks.Leave)
+  went : (t : Toured) → IsTold o rows goal t (Leaves (kin_under (kins rows) r) ∷ stops_left o (kins rows) t.stack) → AreRowsOf rows t.stack → IsStage o rows goal (step o rows t r tasks.Leave)
   went t h a =
       let k = kin_under (kins rows) r in
       let b = tells_after o in
@@ -276,15 +277,6 @@ module _ (rows : List Rowed) (ordered : SupersBefore [] rows) (o : TourOrder) (g
       let i = telling_on o rows goal r is_row t (Leaves k) b [] refl h in
       leaving x (record { goes = i.goes; told_are = i.told_are; stack_is = subst (λ (ms : List Marked). AreRowsOf rows ms) (sym (telling_stack t b r)) a })
       (subst (λ (cs : List Class). Within cs x.seen) (sym (ap (λ (ks : List Kin). classes ks) (told_both o (inner o k) (Leaves k ∷ [])) ∙ classes_both (told_at o (inner o k)) (tells o (Leaves k) ++ []))) (all_told_of t b refl h.goes.ready.0))
-
--- one thing more is left to do
-pub one_more : (rows : List Rowed) (o : TourOrder) (goal : List Kin) (t : Toured) (m : Marked) → IsRowIn rows m.row → IsTold o rows goal t (stops_of o (kins rows) m.row m.task ++ stops_left o (kins rows) t.stack) → AreRowsOf rows t.stack
-    → IsStage o rows goal (record t { stack = t.stack ++ m ∷ [] })
-one_more rows o goal t m i h a = record {
-  goes = subst (λ (ss : List Stop). Goes o (kins rows) goal t.told t.seen t.left ss) (sym (left_both o (kins rows) t.stack (m ∷ []))) h.goes;
-  told_are = h.told_are;
-  stack_is = all_push (IsRowOf rows) t.stack m a i;
-}
 
 -- one step
 stepped : (rows : List Rowed) → SupersBefore [] rows → (o : TourOrder) (goal : List Kin) (t : Toured) (r : Rowed) (k : TourStep) → IsRowIn rows r → IsTold o rows goal t (stops_of o (kins rows) r k ++ stops_left o (kins rows) t.stack) → AreRowsOf rows t.stack
@@ -315,37 +307,39 @@ nearer rows ordered o t r tasks.Leave i = at (tells_after o)
     at true = omega arith
     at false = omega arith
 
--- ---- the last of what is left is taken off
+-- ---- the same of lists of steps
 
-module _ (rows : List Rowed) (ordered : SupersBefore [] rows) (o : TourOrder) (goal : List Kin) (told : List Rowed) (seen left : List Class) (stack rest : List Marked) (next : Marked) (popped : stack ≡ rest ++ next ∷ []) where
+-- the last of what is left is taken off
+module _ {A : Type 0} (rows : List Rowed) (ordered : SupersBefore [] rows) (o : TourOrder) (goal : List Kin) (told : List Rowed) (seen left : List Class) (stack rest : List (Step A)) (next : Step A) (popped : stack ≡ rest ++ next ∷ []) where
+  pushed : marks stack ≡ marks rest ++ plain_step next ∷ []
+  pushed = ap (λ (ss : List (Step A)). marks ss) popped ∙ map_push (λ (s : Step A). plain_step s) rest next
+
   abbrev before : Toured
-  before = record { told = told; seen = seen; left = left; stack = rest }
+  before = record { told = told; seen = seen; left = left; stack = marks rest }
 
-  all_rows : AreRowsOf rows stack → AreRowsOf rows (rest ++ next ∷ [])
-  all_rows all = subst (λ (ms : List Marked). AreRowsOf rows ms) popped all
+  all_rows : AreRowsOf rows (marks stack) → AreRowsOf rows (marks rest ++ plain_step next ∷ [])
+  all_rows all = subst (λ (ms : List Marked). AreRowsOf rows ms) pushed all
 
-  -- what was told before that, with what it has left to do
-  pub told_before : IsStage o rows goal (record { told = told; seen = seen; left = left; stack = stack }) → IsTold o rows goal before (stops_of o (kins rows) next.row next.task ++ stops_left o (kins rows) rest)
-  told_before h = record {
-    goes = subst (λ (ss : List Stop). Goes o (kins rows) goal told seen left ss) (ap (λ (ms : List Marked). stops_left o (kins rows) ms) popped ∙ left_both o (kins rows) rest (next ∷ [])) h.goes;
-    told_are = h.told_are;
-  }
-
-  pub rows_before : IsStage o rows goal (record { told = told; seen = seen; left = left; stack = stack }) → AreRowsOf rows rest
-  rows_before h = all_left (IsRowOf rows) rest (next ∷ []) (all_rows h.stack_is)
-
-  pub preserved_by : (new : Toured) → IsStage o rows goal (record { told = told; seen = seen; left = left; stack = stack }) → new ≡ step o rows before next.row next.task → IsStage o rows goal new
-  preserved_by new h e =
+  pub preserved : (new : Toured) → IsStage o rows goal (record { told = told; seen = seen; left = left; stack = marks stack }) → new ≡ step o rows before next.row.value next.task → IsStage o rows goal new
+  preserved new h e =
       let all = all_rows h.stack_is in
-      subst (λ (t : Toured). IsStage o rows goal t) (sym e)
-      (stepped rows ordered o goal before next.row next.task (all_right (IsRowOf rows) rest (next ∷ []) all).0 (told_before h) (rows_before h))
+      subst (λ (t : Toured). IsStage o rows goal t) (sym e) (
+      stepped rows ordered o goal before next.row.value next.task (all_right (IsRowOf rows) (marks rest) (plain_step next ∷ []) all).0
+      (record {
+        goes =
+            subst (λ (ss : List Stop). Goes o (kins rows) goal told seen left ss)
+            (ap (λ (ms : List Marked). stops_left o (kins rows) ms) pushed ∙ left_both o (kins rows) (marks rest) (plain_step next ∷ [])) h.goes;
+        told_are = h.told_are;
+      })
+      (all_left (IsRowOf rows) (marks rest) (plain_step next ∷ []) all)
+      )
 
-  pub smaller_by : (new : Toured) → IsStage o rows goal (record { told = told; seen = seen; left = left; stack = stack }) → new ≡ step o rows before next.row next.task → steps_left (kins rows) new.stack < steps_left (kins rows) stack
-  smaller_by new h e =
-      let n = nearer rows ordered o before next.row next.task (all_right (IsRowOf rows) rest (next ∷ []) (all_rows h.stack_is)).0 in
-      let s : steps_left (kins rows) stack ≡ steps_left (kins rows) (rest ++ next ∷ []) = ap (λ (ms : List Marked). steps_left (kins rows) ms) popped in
-      let b = steps_both (kins rows) rest (next ∷ []) in
-      let is : steps_left (kins rows) new.stack ≡ steps_left (kins rows) (step o rows before next.row next.task).stack = ap (λ (t : Toured). steps_left (kins rows) t.stack) e in
+  pub smaller : (new : Toured) → IsStage o rows goal (record { told = told; seen = seen; left = left; stack = marks stack }) → new ≡ step o rows before next.row.value next.task → steps_left (kins rows) new.stack < steps_left (kins rows) (marks stack)
+  smaller new h e =
+      let n = nearer rows ordered o before next.row.value next.task (all_right (IsRowOf rows) (marks rest) (plain_step next ∷ []) (all_rows h.stack_is)).0 in
+      let s : steps_left (kins rows) (marks stack) ≡ steps_left (kins rows) (marks rest ++ plain_step next ∷ []) = ap (λ (ms : List Marked). steps_left (kins rows) ms) pushed in
+      let b = steps_both (kins rows) (marks rest) (plain_step next ∷ []) in
+      let is : steps_left (kins rows) new.stack ≡ steps_left (kins rows) (step o rows before next.row.value next.task).stack = ap (λ (t : Toured). steps_left (kins rows) t.stack) e in
       omega arith
 
 pub first_stage : (rows : List Rowed) (o : TourOrder) (r : Rowed) (wanted : Bool) (told : List Rowed) (seen left : List Class) (stack : List Marked) → IsRowIn rows r → told ≡ [] → seen ≡ [] → left ≡ []
@@ -358,12 +352,8 @@ first_stage rows o r wanted told seen left stack i a b c d =
     record { goes = goes_first o (kins rows) (alone (kin_under (kins rows) r)) wanted; told_are = tt; stack_is = (i, tt) }
     ))))
 
-pub ended_by : (rows : List Rowed) (o : TourOrder) (goal : List Kin) (told : List Rowed) (seen left : List Class) (stack : List Marked) → stack ≡ [] → IsStage o rows goal (record { told = told; seen = seen; left = left; stack = stack })
-    → map (kin_under (kins rows)) told ≡ goal
-ended_by rows o goal told seen left stack e h =
-    sym (append-nil (map (kin_under (kins rows)) told))
-    ∙ (subst (λ (ms : List Marked). IsStage o rows goal (record { told = told; seen = seen; left = left; stack = ms })) e h).goes.goes
-
 pub ended : {A : Type 0} (rows : List Rowed) (o : TourOrder) (goal : List Kin) (told : List Rowed) (seen left : List Class) (stack : List (Step A)) → stack ≡ [] → IsStage o rows goal (record { told = told; seen = seen; left = left; stack = marks stack })
     → map (kin_under (kins rows)) told ≡ goal
-ended {A} rows o goal told seen left stack e h = ended_by rows o goal told seen left (marks stack) (ap (λ (ss : List (Step A)). marks ss) e) h
+ended {A} rows o goal told seen left stack e h =
+    sym (append-nil (map (kin_under (kins rows)) told))
+    ∙ (subst (λ (ss : List (Step A)). IsStage o rows goal (record { told = told; seen = seen; left = left; stack = marks ss })) e h).goes.goes

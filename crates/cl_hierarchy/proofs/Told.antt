@@ -12,7 +12,9 @@ use Rattle.cl_model.specs.Lineages.{Forest, Bare, Tree, Kin, alone, classes, lin
 use Rattle.cl_model.proofs.Ancestors.{Within, after_all, after_both, among_first, within_all, within_both}
 use Rattle.cl_model.proofs.Complete.{is_class, or_true}
 use Rattle.cl_config.specs.Views.{Configured}
+use Rattle.cl_hierarchy.specs.declared.tour.TourOrder.TheVariants as orders
 use Rattle.cl_hierarchy.specs.Rows.{Rowed}
+use Rattle.cl_hierarchy.specs.Tours.{stops, told_at}
 use Rattle.cl_hierarchy.specs.Trees.{AllKnown, SupersBefore, forest, in_front, interfaces_in, kin_named, kin_under, kins, kins_after, superclass_in}
 use Rattle.cl_hierarchy.specs.Lineages.{IsInOrder, IsLined, IsLineageOf, IsRowIn, IsWithinConfig, Lined, kin_of, row_of}
 use Rattle.cl_hierarchy.specs.RowTables.{AreRows, AreRowsAfter, IsMadeOf}
@@ -20,7 +22,7 @@ use Rattle.cl_hierarchy.proofs.Ancestry.{IsRowKin, kin_stays, kins_push, row_kin
 use Rattle.cl_hierarchy.proofs.Climbs.{before_split}
 use Rattle.cl_hierarchy.proofs.Ends.{all_pop, last_of}
 use Rattle.cl_hierarchy.proofs.RowTables.{made, supers_before}
-use Rattle.cl_hierarchy.proofs.Tours.{classes_both, within_join, within_right}
+use Rattle.cl_hierarchy.proofs.Tours.{classes_both, lineage_told, within_join, within_right}
 use Rattle.std.proofs.lemmas.Option.{same_Some}
 
 -- ---- classes among others
@@ -374,11 +376,11 @@ pub all_forth : {A B : Type 0} (f : A → B) (P : B → Type 0) (xs : List A) �
 all_forth f P [] h = tt
 all_forth f P (x ∷ xs) h = (h.0, all_forth f P xs h.1)
 
-pub told_in : {A : Type 0} (v : A → Rowed) (rows : List Rowed) (start : Rowed) (items : List A) → map (λ x. kin_under (kins rows) (v x)) items ≡ lineage (kin_under (kins rows) start)
+pub told_in : {A : Type 0} (v : A → Rowed) (rows : List Rowed) (start : Rowed) (items : List A) → map (λ x. kin_under (kins rows) (v x)) items ≡ once (told_at orders.Lineage (stops orders.Lineage (alone (kin_under (kins rows) start)) true))
     → AllByRecursion (λ x. IsRowIn rows (v x)) items → AreTold rows start (map v items)
 told_in v rows start items e all = record {
   all = all_forth v (IsRowIn rows) items all;
-  order = map-map (kin_under (kins rows)) v items ∙ e;
+  order = map-map (kin_under (kins rows)) v items ∙ e ∙ ap (λ (ks : List Kin). once ks) (lineage_told (alone (kin_under (kins rows) start)) true);
 }
 
 pub told_made : {A : Type 0} (v : A → Rowed) (told : Option Content) (config : Configured) (rows : List Rowed) (held : Configured) (c : Class) (start : Rowed) (items rest : List A) (x : A) → AreRows told config rows → held ≡ config → row_of rows c ≡ Some start

@@ -205,7 +205,7 @@ told_back o s xs seen =
     (within_join a seen ((a ++ b) ++ seen) (λ c e. within_left (a ++ b) seen c (within_left a b c e)) (within_right (a ++ b) seen))
     )
 
-pub closed_both : (o : TourOrder) (seen : List Class) (xs ys : List Stop) → Closed o seen xs → Closed o (classes (told_at o xs) ++ seen) ys → Closed o seen (xs ++ ys)
+closed_both : (o : TourOrder) (seen : List Class) (xs ys : List Stop) → Closed o seen xs → Closed o (classes (told_at o xs) ++ seen) ys → Closed o seen (xs ++ ys)
 closed_both o seen [] ys h g = g
 closed_both o seen (s ∷ xs) ys h g =
     (h.0, closed_both o (classes (tells o s) ++ seen) xs ys h.1 (closed_more o (classes (told_at o (s ∷ xs)) ++ seen) (classes (told_at o xs) ++ (classes (tells o s) ++ seen)) ys (told_then o s xs seen) g))

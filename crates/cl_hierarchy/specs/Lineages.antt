@@ -1,23 +1,5 @@
 -- A class with all that stands above it, as rows (JVMS SE 8, 5.3.5, 5.4.4).
-use Rattle.std.specs.Prelude.{
-  ◌≡◌,
-  ◌<◌,
-  ◌==◌,
-  ℕ,
-  Bool,
-  List,
-  [],
-  ◌∷◌,
-  ◌++◌,
-  Option,
-  Some,
-  None,
-  filter,
-  find,
-  length,
-  not,
-  reverse,
-}
+use Rattle.std.specs.Prelude.{◌≡◌, ◌<◌, ℕ, Bool, List, [], ◌∷◌, ◌++◌, Option, Some, None, find, length, reverse}
 use Rattle.std.specs.List.{AllByRecursion}
 use Rattle.cl_model.specs.declared.class.Class.{Class}
 use Rattle.cl_model.specs.Content.{Content}
@@ -104,15 +86,6 @@ field_order k = once (upwards (alone k))
 -- the superclasses of the class of one of these rows, nearest first (4.1)
 abbrev pub above_in : List Rowed → Rowed → List Kin
 above_in rows r = superclasses (kin_under (kins rows) r)
-
--- another loader than this defined the class (5.3)
-abbrev pub is_of_other : ℕ → Class → Bool
-is_of_other own c = not (own == c.loader)
-
--- of these classes those that another loader than this defined, or all of them (5.3)
-abbrev pub others_of : Option ℕ → List Kin → List Kin
-others_of None ks = ks
-others_of (Some own) ks = filter (λ k. is_of_other own k.class) ks
 
 -- this tells whether a protected member that owner declares with these flags is open to a class
 -- through another (5.4.4)

@@ -1,6 +1,6 @@
 -- Tours through all that stands above a class, and what of one is left
 -- (JVMS SE 8, 5.3.5, 5.4.3.2, 5.4.3.3).
-use Rattle.std.specs.Prelude.{◌≡◌, ℕ, ◌+◌, ◌*◌, Bool, true, false, if◌then◌else◌, List, [], ◌∷◌, ◌++◌, Option, Some, None, drop, flat_map, map, slice_get, option_and_then}
+use Rattle.std.specs.Prelude.{ℕ, ◌+◌, ◌*◌, Bool, true, false, if◌then◌else◌, List, [], ◌∷◌, ◌++◌, Option, Some, None, drop, flat_map, map, slice_get, option_and_then}
 use Rattle.cl_model.specs.declared.class.Class.{Class}
 use Rattle.cl_model.specs.Classes.{is_among}
 use Rattle.cl_model.specs.Lineages.{Forest, Bare, Tree, Kin, alone}
@@ -10,7 +10,6 @@ use Rattle.cl_hierarchy.specs.declared.tour.TourStep.{TourStep}
 use Rattle.cl_hierarchy.specs.declared.tour.TourStep.TheVariants as tasks
 use Rattle.cl_hierarchy.specs.declared.tour.Step.{Step}
 use Rattle.cl_hierarchy.specs.declared.tour.Tour.{Tour}
-use Rattle.cl_hierarchy.specs.NamedBefore.{AreNamedBefore}
 use Rattle.cl_hierarchy.specs.Rows.{Rowed}
 use Rattle.cl_hierarchy.specs.Trees.{forest, interfaces_in, kin_under, superclass_in}
 use Rattle.cl_hierarchy.specs.Lineages.{row_of}
@@ -187,11 +186,6 @@ after_telling true t r = record t {
       r.class;
 }
 
--- these rows are told, one after another
-abbrev pub telling_all : Toured → List Rowed → Toured
-telling_all t [] = t
-telling_all t (r ∷ rs) = telling_all (after_telling true t r) rs
-
 -- what is left to do, once the tour came to a class that it left before, or not
 abbrev pub opening_unless_left : TourOrder → List Rowed → Toured → Rowed → Toured
 opening_unless_left o rows t r =
@@ -208,17 +202,3 @@ step o rows t r (tasks.Over place) =
     record t { stack = t.stack ++ over_from r place (interface_row rows r place) }
 step o rows t r tasks.Leave =
     let x = after_telling (tells_after o) t r in record x { left = with_class x.left r.class }
-
--- the same, where it may pass superinterfaces that were named before: to come to them again would
--- change nothing
-abbrev pub TakesStep : TourOrder → List Rowed → Toured → Rowed → TourStep → Toured → Type 0
-TakesStep o rows old r (tasks.Over at) new =
-    (next : ℕ) × AreNamedBefore (interfaces_in r) at next
-    × (new ≡ step o rows old r (tasks.Over next))
-TakesStep o rows old r task new = new ≡ step o rows old r task
-
--- a class is told, where that is wanted, then these rows, which are of all that stands above it, and it
--- is left
-abbrev pub after_passing : TourOrder → List Rowed → Toured → Rowed → Bool → List Rowed → Toured
-after_passing o rows t r wanted over =
-    step o rows (telling_all (after_telling wanted t r) over) r tasks.Leave

@@ -1,12 +1,12 @@
 //! Where the rows of supertypes stand among earlier rows.
 
-ghost use Rattle.std.specs.Prelude.{◌≡◌, ◌<◌, length, map, IfSome};
+ghost use Rattle.std.specs.Prelude.{◌≡◌, ◌<◌, length, map, option_to_list, IfSome};
 ghost use Rattle.std.specs.Option.{option_map};
 ghost use Rattle.cl_model.specs.Classes.{class, same_class};
 ghost use Rattle.cl_model.specs.Lineages.{first};
 ghost use Rattle.cl_hierarchy.specs.Lineages.{above_in};
 ghost use Rattle.cl_hierarchy.specs.Places.{IsPlace};
-ghost use Rattle.cl_hierarchy.specs.Trees.{kin_named, kin_under, kins};
+ghost use Rattle.cl_hierarchy.specs.Trees.{kin_named, kin_under, kins, superclass_in};
 
 use crate::row::ClassRow;
 use cl_model::{Class, LoaderId, Told};
@@ -14,7 +14,7 @@ use cl_names::Name;
 use std::sync::Arc;
 
 /// Whether a class has this name and loader.
-pub(crate) fn is_of(name: &Name, loader: LoaderId, other: &Class) -> bool
+fn is_of(name: &Name, loader: LoaderId, other: &Class) -> bool
     ensures { result ≡ same_class (class name.now loader) other.now }
 {
     *name == other.name && loader == other.loader
@@ -42,6 +42,16 @@ fn row_named<'a, T: Told>(
     None
 }
 
+/// The superclass of a row's class, if it has one, by its name and the loader that defined it.
+pub(crate) fn superclass_named<T: Told>(row: &ClassRow<T>) -> Option<(&Name, LoaderId)>
+    ensures { superclass_in row.now ≡ option_to_list (option_map (λ p. class p.0.now p.1)
+        result) }
+{
+    let name = row.file().super_name()?;
+    let loader = row.places().first()?;
+    Some((name, *loader))
+}
+
 /// The row of the superclass of a row, among rows each of which stands after its direct supertypes, with those before it.
 pub(crate) fn superclass_row<'a, T: Told>(
     rows: &'a [Arc<ClassRow<T>>],
@@ -53,7 +63,8 @@ pub(crate) fn superclass_row<'a, T: Told>(
         (map (λ r. r.value) p.1.now) p.0.now.value) }
     ensures shorter { IfSome result (λ p. length p.1.now < length rows.now) }
 {
-    let name = under.file().super_name()?;
-    let loader = under.places().first()?;
-    row_named(rows, name, *loader)
+    match superclass_named(under) {
+        None => None,
+        Some((name, loader)) => row_named(rows, name, loader),
+    }
 }

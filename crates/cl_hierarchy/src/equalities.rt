@@ -2,10 +2,9 @@
 
 ghost use Rattle.std.specs.Prelude.{◌≡◌};
 ghost use Rattle.cl_model.specs.Preparation.{constraints_of, equal_between};
-ghost use Rattle.cl_hierarchy.specs.Imposed.{AreEnough, AreOf, AreOfReference, OfPreparation, OfReference, equal_need, known_by, needs_of, sprung};
+ghost use Rattle.cl_hierarchy.specs.Imposed.{AreOf, AreOfReference, OfPreparation, OfReference, equal_need, needs_of, sprung};
 ghost use Rattle.cl_hierarchy.specs.Lineages.{kin_of};
 
-use crate::class_at::ClassAt;
 use crate::lineage::Lineage;
 use cl_model::{Equality, LoaderId, Told};
 use cl_names::Name;
@@ -26,16 +25,6 @@ pub fn equality(name: Name, one: LoaderId, other: LoaderId) -> Equality
     }
 }
 
-/// What is given where the equalities of a preparation are imposed.
-#[derive(Clone, Copy, Debug)]
-pub enum Given {
-    /// Nothing: they stand for all that the preparation imposes.
-    Nothing,
-    /// That the superclass is prepared, if there is one, and so all superclasses: they stand for what the preparations of these did
-    /// not impose (JVMS SE 8, 5.4.2).
-    Superclass,
-}
-
 /// What a list of equalities was made from.
 pub enum Origin<T: Told> {
     /// The member reference of `d` at this index of its constant pool, which names the class `c` (JVMS SE 8, 5.4.3).
@@ -46,8 +35,7 @@ pub enum Origin<T: Told> {
     },
     /// The preparation of a class (JVMS SE 8, 5.4.2).
     Preparation {
-        class: ClassAt<T>,
-        given: Given,
+        lineage: Lineage<T>,
     },
 }
 
@@ -59,7 +47,7 @@ impl<T: Told> Drop for Origin<T> {
                 c: _,
                 index: _,
             } => {}
-            Origin::Preparation { class: _, given: _ } => {}
+            Origin::Preparation { lineage: _ } => {}
         }
     }
 }
@@ -107,13 +95,12 @@ impl<T: Told> Equalities<T> {
         Equalities { needs, origin }
     }
 
-    /// Those of the preparation of a class, or some that stand for all of them where this is given.
-    pub fn of_preparation(class: ClassAt<T>, given: Given, needs: Vec<Equality>) -> Equalities<T>
-        requires { AreEnough (known_by given (kin_of class)) (constraints_of (kin_of class))
-            (needs_of needs.items) }
-        ensures { result ≡ record { needs = needs.items; origin = OfPreparation class given } }
+    /// Those of the preparation of a class.
+    pub fn of_preparation(lineage: Lineage<T>, needs: Vec<Equality>) -> Equalities<T>
+        requires { needs_of needs.items ≡ constraints_of (kin_of lineage) }
+        ensures { result ≡ record { needs = needs.items; origin = OfPreparation lineage } }
     {
-        let origin = Origin::Preparation { class, given };
+        let origin = Origin::Preparation { lineage };
         Equalities { needs, origin }
     }
 

@@ -9,8 +9,7 @@ ghost use Rattle.cl_hierarchy.specs.Rows.{Rowed};
 
 use crate::lineage::Lineage;
 use crate::row::ClassRow;
-use crate::stem::lineage_rows;
-use crate::tour::Finds;
+use crate::tour::{Finds, TourOrder, rows_in_order};
 use cl_config::Config;
 use cl_model::{Class, LoaderId, Told};
 use cl_names::Name;
@@ -85,7 +84,8 @@ impl<T: Told> Lineage<T> {
             return Err(LineageFault::Unknown);
         };
         let defined = Defined { table };
-        let mut rows = lineage_rows(alloc, config.seed(), &defined, start)?;
+        let order = TourOrder::Lineage;
+        let mut rows = rows_in_order(alloc, config.seed(), order, &defined, start, true)?;
         let config = Arc::try_clone(config)?;
         match rows.pop() {
             None => unreachable!(),

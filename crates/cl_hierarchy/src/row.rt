@@ -1,13 +1,12 @@
 //! Classes as they are recorded.
 
-ghost use Rattle.std.specs.Prelude.{◌≡◌, ◌≤◌, length, slice_get, true, IfOk};
+ghost use Rattle.std.specs.Prelude.{◌≡◌, ◌≤◌, length, slice_get, IfOk};
 ghost use Rattle.std.specs.Option.{option_map};
 ghost use Rattle.cl_classfile.specs.Files.{file_of};
 ghost use Rattle.cl_model.specs.Classes.{supers};
 ghost use Rattle.cl_hierarchy.specs.Drafts.{IsSpelt};
-ghost use Rattle.cl_hierarchy.specs.NamedBefore.{AreNamedBefore};
 ghost use Rattle.cl_hierarchy.specs.Supertypes.{plain_supertype};
-ghost use Rattle.cl_hierarchy.specs.Trees.{interface_places, interfaces_in};
+ghost use Rattle.cl_hierarchy.specs.Trees.{interface_places};
 
 use crate::draft::Draft;
 use crate::supertype::{Supertype, first_of_name, supertype_of};
@@ -128,50 +127,11 @@ impl<T: Told> ClassRow<T> {
         first_of_name(&self.file, place)
     }
 
-    /// The place of a direct superinterface that is the same class as the one at a place, and comes first or is that one. So
-    /// who goes through them need not look a class up as often as it is named. Constant time.
-    pub(crate) fn first_like(&self, place: usize) -> usize
-        ensures before { result ≤ place }
-        ensures same { slice_get (interfaces_in self.now) result
-            ≡ slice_get (interfaces_in self.now) place }
-    {
-        let first = self.file().first_of_name(place);
-        if first < place && is_one_loader(self.interface_places(), first, place) {
-            return first;
-        }
-        place
-    }
-
-    /// The first place from one on at which no direct superinterface stands that was named before, as far as `first_like`
-    /// knows, or the one behind the last. Time linear in the places that it passes.
-    pub(crate) fn next_new(&self, place: usize) -> usize
-        ensures { AreNamedBefore (interfaces_in self.now) place result }
-    {
-        let mut next = place;
-        while next < self.interface_places().len() && self.first_like(next) < next {
-            next += 1;
-        }
-        next
-    }
-
     /// Which loaders defined its direct supertypes, in order.
     pub fn places(&self) -> &[LoaderId]
         ensures places { result.now ≡ self.now.places }
         ensures each { length self.now.places ≡ length (supers (file_of self.now.file)) }
     {
         self.places.as_slice()
-    }
-}
-
-/// Whether one loader stands at both places; not where there is none.
-fn is_one_loader(loaders: &[LoaderId], one: usize, other: usize) -> bool
-    ensures { result ≡ true → slice_get loaders.now one ≡ slice_get loaders.now other }
-{
-    match loaders.get(one) {
-        None => false,
-        Some(loader) => match loaders.get(other) {
-            None => false,
-            Some(another) => *loader == *another,
-        },
     }
 }

@@ -5,11 +5,11 @@ ghost use Rattle.std.specs.List.{AllByRecursion};
 ghost use Rattle.cl_model.specs.Classes.{class, is_among};
 ghost use Rattle.cl_model.specs.declared.class.Class.{Class};
 ghost use Rattle.cl_hierarchy.specs.Lineages.{IsRowIn};
-ghost use Rattle.cl_hierarchy.specs.Several.{Gains, superinterfaces_of_any};
+ghost use Rattle.cl_hierarchy.specs.Several.{Gains, if_left, superinterfaces_of_any};
 ghost use Rattle.cl_hierarchy.specs.Trees.{SupersBefore, interfaces_in, kin_under, kins, superclass_in};
 
+use crate::above::superclass_named;
 use crate::row::ClassRow;
-use crate::way::superclass_named;
 use cl_model::{Class, LoaderId, Told};
 use cl_names::{Name, Seed};
 use indexmap::IndexSet;
@@ -93,7 +93,7 @@ fn interface_at<T: Told>(
     }
 }
 
-/// All direct superinterfaces of a row's class (JVMS SE 8, 5.3.5, step 4). One that was named before is passed.
+/// All direct superinterfaces of a row's class (JVMS SE 8, 5.3.5, step 4).
 fn put_interfaces<T: Told>(
     alloc: Global,
     classes: &mut Classes,
@@ -102,9 +102,6 @@ fn put_interfaces<T: Told>(
     ensures { OnOk result (Gains classes.old.keys (interfaces_in row.now) classes.new.keys) }
 {
     for place in 0..row.interface_places().len() {
-        if row.first_like(place) < place {
-            continue;
-        }
         put_if(classes, interface_at(alloc, row, place)?)?;
     }
     Ok(())
@@ -128,20 +125,41 @@ fn look<T: Told>(
     put_superclass(alloc, left, row)
 }
 
+/// Looks at a row, where its class is left to be looked at.
+fn look_if<T: Told>(
+    alloc: Global,
+    found: &mut Classes,
+    left: &mut Classes,
+    row: &ClassRow<T>,
+) -> Result<(), AllocError>
+    ensures found { OnOk result (Gains found.old.keys (if_left left.old.keys row.now.class
+        (interfaces_in row.now)) found.new.keys) }
+    ensures left { OnOk result (Gains left.old.keys (if_left left.old.keys row.now.class
+        (interfaces_in row.now ++ superclass_in row.now)) left.new.keys) }
+{
+    if !left.contains(row.class()) {
+        return Ok(());
+    }
+    look(alloc, found, left, row)
+}
+
 /// The classes of all superinterfaces of any of some classes (JVMS SE 8, 5.4.3.3), by their rows among these, each of which
 /// stands after its direct supertypes. One pass from the last row to the first is enough: each class that has another as a
 /// direct supertype is looked at before that. Time linear in the rows and the supertypes that they name.
 pub(crate) fn superinterface_classes<T: Told>(
     alloc: Global,
     seed: Seed,
-    rows: &[Arc<ClassRow<T>>],
+    above: &[Arc<ClassRow<T>>],
+    own: &ClassRow<T>,
     some: &[Arc<ClassRow<T>>],
 ) -> Result<Classes, AllocError>
-    requires ordered { SupersBefore [] (map (λ r. r.value) rows.now) }
-    requires inside { AllByRecursion (λ r. IsRowIn (map (λ x. x.value) rows.now) r.value) some.now }
+    requires ordered { SupersBefore [] (map (λ r. r.value) above.now ++ own.now ∷ []) }
+    requires inside { AllByRecursion (λ r. IsRowIn (map (λ x. x.value) above.now ++ own.now ∷ [])
+        r.value) some.now }
     ensures { IfOk result (λ s. (c : Class) → is_among s.keys c
         ≡ is_among (superinterfaces_of_any
-        (map (λ r. kin_under (kins (map (λ x. x.value) rows.now)) r.value) some.now)) c) }
+        (map (λ r. kin_under (kins (map (λ x. x.value) above.now ++ own.now ∷ [])) r.value)
+        some.now)) c) }
 {
     let mut found = IndexSet::with_hasher(alloc, seed);
     if some.is_empty() {
@@ -149,13 +167,11 @@ pub(crate) fn superinterface_classes<T: Told>(
     }
     let mut left = IndexSet::with_hasher(alloc, seed);
     put_all(alloc, &mut left, some)?;
-    let mut rest = rows;
+    look_if(alloc, &mut found, &mut left, own)?;
+    let mut rest = above;
     while let Some((row, earlier)) = rest.split_last() {
         rest = earlier;
-        if !left.contains(row.class()) {
-            continue;
-        }
-        look(alloc, &mut found, &mut left, row)?;
+        look_if(alloc, &mut found, &mut left, row)?;
     }
     Ok(found)
 }

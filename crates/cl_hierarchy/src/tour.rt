@@ -7,7 +7,7 @@ ghost use Rattle.cl_model.specs.Classes.{class, is_among};
 ghost use Rattle.cl_model.specs.Lineages.{alone, once};
 ghost use Rattle.cl_hierarchy.specs.Lineages.{IsRowIn, row_of};
 ghost use Rattle.cl_hierarchy.specs.Rows.{Rowed};
-ghost use Rattle.cl_hierarchy.specs.Tours.{TakesStep, first_row, interface_row, marks, opening_steps, opening_unless_left, over_from, step, stops, after_telling, tells_after, tells_before, told_at, plain_tour, up_first, upwards_of, wants_up, with_class, with_row};
+ghost use Rattle.cl_hierarchy.specs.Tours.{first_row, interface_row, marks, opening_steps, opening_unless_left, over_from, step, stops, after_telling, tells_after, tells_before, told_at, plain_tour, up_first, upwards_of, wants_up, with_class, with_row};
 ghost use Rattle.cl_hierarchy.specs.declared.tour.TourStep.TheVariants as tasks;
 ghost use Rattle.cl_hierarchy.specs.Trees.{SupersBefore, kin_under, kins, superclass_in};
 
@@ -307,7 +307,7 @@ impl<T: Told> Tour<T> {
         Ok(())
     }
 
-    /// Takes one step. A superinterface that was named before is passed.
+    /// Takes one step.
     fn go<F: Finds<T>>(
         &mut self,
         alloc: Global,
@@ -315,16 +315,12 @@ impl<T: Told> Tour<T> {
         table: &F,
         next: &Step<T>,
     ) -> Result<(), AllocError>
-        ensures { OnOk result (TakesStep order (F.rows table.now) (plain_tour self.old)
-            next.now.row.value next.now.task (plain_tour self.new)) }
+        ensures { OnOk result (plain_tour self.new ≡ step order (F.rows table.now)
+            (plain_tour self.old) next.now.row.value next.now.task) }
     {
         match next.task {
             TourStep::Come(wanted) => self.come(alloc, order, table, &next.row, wanted),
-            TourStep::Over(at) => {
-                // to come again to one that was named before would change nothing
-                let place = next.row.next_new(at);
-                open_over(alloc, table, &mut self.stack, &next.row, place)
-            }
+            TourStep::Over(place) => open_over(alloc, table, &mut self.stack, &next.row, place),
             TourStep::Leave => self.leave(alloc, order, &next.row),
         }
     }

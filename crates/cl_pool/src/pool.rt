@@ -9,17 +9,13 @@ use crate::draws::{Draws, Seat};
 use crate::gate::Gate;
 use cl_config::{Config, Script};
 use cl_findings::Finding;
-use cl_hierarchy::Equalities;
 use cl_model::{Request, Told};
-use cl_schedule::{ask_registry, ask_source, impose_ahead};
+use cl_schedule::{ask_registry, ask_source};
 use cl_source::Source;
 use cl_tasks::{Reply, Task, Turn};
 use std::alloc::Global;
 use std::sync::{Arc, Condvar, Mutex, MutexGuard, Wait};
 use std::thread::{Scope, Threads};
-
-/// How many equalities of a list are imposed at most in one holding of the lock, behind the one that is asked for.
-const MOST_AHEAD: usize = 1000;
 
 /// What the workers share.
 #[derive(Drop)]
@@ -130,8 +126,6 @@ impl<T: Told> Pool<T> {
     ) -> Option<Finding<T>> {
         let q = task.q();
         let mut reply = Reply::Start;
-        // before this place all equalities of the list in hand were imposed
-        let mut ahead = 0;
         while task.expects(&reply) {
             match task.turn(alloc, reply) {
                 Turn::Post(finding) => return Some(finding),
@@ -139,28 +133,10 @@ impl<T: Told> Pool<T> {
                     gate.before_read(q, loader, &name);
                     reply = ask_source(alloc, source, loader, &name);
                 }
-                Turn::Impose(list, place) => {
-                    if place < ahead {
-                        drop(list);
-                        reply = Reply::Imposed;
-                    } else {
-                        match self.impose(rt, alloc, gate, q, list, place) {
-                            Some((told, next)) => {
-                                reply = told;
-                                ahead = next;
-                            }
-                            None => return None,
-                        }
-                    }
-                }
-                call => {
-                    // (whatever is asked between ends a list)
-                    ahead = 0;
-                    match self.call(rt, alloc, gate, q, call) {
-                        Some(told) => reply = told,
-                        None => return None,
-                    }
-                }
+                call => match self.call(rt, alloc, gate, q, call) {
+                    Some(told) => reply = told,
+                    None => return None,
+                },
             }
         }
         self.stop(rt);
@@ -182,31 +158,6 @@ impl<T: Told> Pool<T> {
         desk.take(q, round)
     }
 
-    /// Imposes the equality at a place of a task's list, under the lock, and with it those behind it, at most so many, which the task
-    /// will ask for next: answers before which place all are imposed, too. None, where the workers are to stop (JVMS SE 8, 5.3.4).
-    fn impose<G: Gate, R: Wait>(
-        &self,
-        rt: &R,
-        alloc: Global,
-        gate: &G,
-        q: u32,
-        list: Arc<Equalities<T>>,
-        place: usize,
-    ) -> Option<(Reply<T>, usize)> {
-        let Some(mut desk) = self.enter(rt, gate, q) else {
-            drop(list);
-            return None;
-        };
-        let ahead = impose_ahead(alloc, &mut desk.registry, &list, place, MOST_AHEAD);
-        if place < ahead {
-            drop(list);
-            return Some((Reply::Imposed, ahead));
-        }
-        // (why not, the registry tells when it is asked for this one alone)
-        let told = self.ask(alloc, &mut desk, Turn::Impose(list, place))?;
-        Some((told, ahead))
-    }
-
     /// Makes the call that a task asks for, under the lock. None, where the workers are to stop.
     fn call<G: Gate, R: Wait>(
         &self,
@@ -223,13 +174,6 @@ impl<T: Told> Pool<T> {
             drop(call);
             return None;
         };
-        self.ask(alloc, &mut desk, call)
-    }
-
-    /// Makes the call that a task asks for, of what stands behind the lock. None, where the workers are to stop.
-    fn ask(&self, alloc: Global, desk: &mut Desk<T>, call: Turn<T>) -> Option<Reply<T>>
-        requires { IsOfTables call }
-    {
         let told = ask_registry(alloc, &mut desk.registry, call);
         if told.is_none() {
             desk.stopped = true;

@@ -11,7 +11,7 @@ use Rattle.cl_model.specs.Lineages.{Kin, superclasses}
 use Rattle.cl_model.specs.declared.class.Class.{Class}
 use Rattle.cl_model.specs.Classes.{same_package}
 use Rattle.cl_model.specs.Preparation.{Split, shifted_split, splits, takes_part, overrides_directly, overrides_over, overrides, overridden_superclasses}
-use Rattle.cl_preparation.specs.Walks.{is_open, opens, opens_to, overrides_by_package, is_in_package, is_overridden, opened_by, walked_superclasses}
+use Rattle.cl_preparation.specs.Walks.{is_open, opens, opens_to, overrides_by_package, is_in_package, is_overridden, opened_by, overridden_by_package}
 
 -- ---- tests
 
@@ -250,12 +250,12 @@ walk_step : (first : Split) (j : Bool) (rest : List Split) (others : List Kin) �
 walk_step first true rest others h = ap (λ (xs : List Kin). first.at ∷ xs) h
 walk_step first false rest others h = h
 
-walk_filters : (key : Key) (opened : List Class) (ks : List Kin) → map (λ s. s.at) (filter (is_found key opened) (splits ks)) ≡ walked_superclasses key opened ks
+walk_filters : (key : Key) (opened : List Class) (ks : List Kin) → map (λ s. s.at) (filter (is_found key opened) (splits ks)) ≡ overridden_by_package key opened ks
 walk_filters key opened [] = refl
 walk_filters key opened (k ∷ ks) =
     let first : Split = record { before = []; at = k; after = ks } in
     let p : Split → Bool = is_found key opened in
-    let others : List Kin = walked_superclasses key (opened_by key opened k) ks in
+    let others : List Kin = overridden_by_package key (opened_by key opened k) ks in
     walk_step first (p first) (filter p (map (shifted_split k) (splits ks))) others
     (filter_map_at p k (splits ks)
     ∙ ap (λ (ss : List Split). map (λ s. s.at) ss) (filter_same (λ s. p (shifted_split k s)) (is_found key (opened_by key opened k)) (found_shifted key opened k) (splits ks))
@@ -263,9 +263,9 @@ walk_filters key opened (k ∷ ks) =
     ∙ ap (λ (j : Bool). if j then k ∷ others else others) (first_found key opened k ks)
 
 -- the superclasses whose method that of a class overrides are those that the walk keeps
-pub overridden_is_walked : (key : Key) (c : Kin) → takes_part key c ≡ true → overridden_superclasses key c ≡ walked_superclasses key (c.class ∷ []) (superclasses c)
+pub overridden_is_by_package : (key : Key) (c : Kin) → takes_part key c ≡ true → overridden_superclasses key c ≡ overridden_by_package key (c.class ∷ []) (superclasses c)
 unfolding is_found
-overridden_is_walked key c part =
+overridden_is_by_package key c part =
     ap (λ (ss : List Split). map (λ s. s.at) ss) (filter_same (λ s. overrides key c s.before s.at) (is_found key (c.class ∷ [])) told (splits (superclasses c)))
     ∙ walk_filters key (c.class ∷ []) (superclasses c)
   where

@@ -1,10 +1,11 @@
 -- The walk over the superclasses, step by step.
-use Rattle.std.proofs.Common.{◌≡◌, ◌<◌, ◌+◌, ℕ, Bool, true, false, ◌&&◌, ◌||◌, if◌then◌else◌, not, Some, None, List, [], ◌∷◌, ◌++◌, map, filter, length, refl, ap, sym, subst, ◌∙◌, get_or, suc, drop, append_assoc, add-one, append-nil}
+use Rattle.std.proofs.Common.{◌≡◌, ◌<◌, ◌+◌, ℕ, Bool, true, false, ◌&&◌, ◌||◌, if◌then◌else◌, not, Some, None, List, [], ◌∷◌, ◌++◌, map, filter, length, refl, ap, sym, subst, ◌∙◌, get_or, suc, drop, append_assoc, add-one, append-nil, arith}
 use Rattle.std.specs.Prelude.{nat_eq, ◌==◌}
 use Rattle.std.specs.List.{list_any}
 use Rattle.std.specs.Cmp.Lexicographic.{pointwise, nat_list_eq_equiv}
 use Rattle.std.proofs.lemmas.Bool.{and_parts, eqb-true}
 use Rattle.std.proofs.lemmas.Cmp.{nat_eq_equiv}
+use Rattle.std.proofs.lemmas.List.{drop_all}
 use Rattle.std.proofs.Math.Seq.{drop-cons}
 use Rattle.indexmap.specs.IndexSet.{IndexSet, IsEmpty, contains}
 use Rattle.cl_names.specs.Kind.{package_of}
@@ -18,9 +19,8 @@ use Rattle.cl_model.proofs.Runs.{names_equal}
 use Rattle.cl_hierarchy.specs.Rows.{Rowed}
 use Rattle.cl_preparation.specs.declared.packages.Package.{Package}
 use Rattle.cl_preparation.specs.Packages.{AreOpened, Opens, package_of_class, same_packages}
-use Rattle.cl_preparation.specs.Relatives.{Visits, Walking, bare, of_superclasses}
-use Rattle.cl_preparation.specs.Walks.{is_closed, is_in_package, is_open, is_overridden, opened_by, declared_open, walked_superclasses}
-use Rattle.cl_hierarchy.proofs.SuperTables.{drop_all}
+use Rattle.cl_preparation.specs.Relatives.{Visits, Walking, of_superclasses}
+use Rattle.cl_preparation.specs.Walks.{is_package_private, is_in_package, is_open, is_overridden, opened_by, declared_open, overridden_by_package}
 
 -- ---- lists
 
@@ -29,7 +29,7 @@ or_turned true b c e = refl
 or_turned false b c e = e
 
 -- what is left of a list, from an index on
-pub next_dropped : {A : Type 0} (xs : List A) (i : ℕ) (x : A) → i < length xs → x ≡ get_or xs i x → drop i xs ≡ x ∷ drop (i + 1) xs
+next_dropped : {A : Type 0} (xs : List A) (i : ℕ) (x : A) → i < length xs → x ≡ get_or xs i x → drop i xs ≡ x ∷ drop (i + 1) xs
 next_dropped xs i x h at = drop-cons xs i x h ∙ ap (λ y. y ∷ drop (suc i) xs) (sym at) ∙ rw add-one refl
 
 -- ---- packages
@@ -45,10 +45,10 @@ package_is a b e =
     ap (λ (l : ℕ). record { loader = l; name = package_of a.name }) (eqb-true a.loader b.loader both.0)
     ∙ ap (λ (n : List ℕ). record { loader = b.loader; name = n }) (names_equal (package_of a.name) (package_of b.name) both.1)
 
-pub none_opened : {S : Type 0} (fresh : IndexSet Package S) → IsEmpty fresh → AreOpened fresh []
+none_opened : {S : Type 0} (fresh : IndexSet Package S) → IsEmpty fresh → AreOpened fresh []
 none_opened fresh empty = λ c. ap (λ (ks : List Package). list_any (same_packages (package_of_class c)) ks) empty
 
-pub one_opened : {S : Type 0} (old new : IndexSet Package S) (k : Class) (cs : List Class) → AreOpened old cs → Opens old new (package_of_class k) → AreOpened new (k ∷ cs)
+one_opened : {S : Type 0} (old new : IndexSet Package S) (k : Class) (cs : List Class) → AreOpened old cs → Opens old new (package_of_class k) → AreOpened new (k ∷ cs)
 one_opened old new k cs before put = λ c.
     put (package_of_class c) ∙ or_turned (same_packages (package_of_class k) (package_of_class c)) (contains same_packages old (package_of_class c)) (is_in_package cs c) (before c)
     ∙ ap (λ (x : Bool). x || is_in_package cs c) (package_turned k c)
@@ -56,7 +56,7 @@ one_opened old new k cs before put = λ c.
 -- ---- a step
 
 -- a superclass is looked at: it takes part or not, it opens or not, its package was opened or not
-pub visits : {S : Type 0} (key : Key) (before : List Class) (k : Kin) (imposed old new : List Need) (opened after : IndexSet Package S) (part wide within : Bool)
+visits : {S : Type 0} (key : Key) (before : List Class) (k : Kin) (imposed old new : List Need) (opened after : IndexSet Package S) (part wide within : Bool)
     → part ≡ takes_part key k → wide ≡ is_open key k → within ≡ is_in_package before k.class → AreOpened opened before
     → new ≡ old ++ (if part && (wide || within) then imposed else []) → AreOpened after (if part && wide then k.class ∷ before else before)
     → Visits key before k imposed old new after
@@ -117,29 +117,29 @@ without key before k imposed needs opened some was outside =
 -- ---- no package tells
 
 open_next : (key : Key) (opened : List Class) (k : Kin) (ks : List Kin) (part wide closed : Bool) → takes_part key k ≡ part → is_open key k ≡ wide → ((part && not wide) || closed) ≡ false
-    → ((others : List Class) → closed ≡ false → walked_superclasses key others ks ≡ filter (takes_part key) ks) → walked_superclasses key opened (k ∷ ks) ≡ filter (takes_part key) (k ∷ ks)
+    → ((others : List Class) → closed ≡ false → overridden_by_package key others ks ≡ filter (takes_part key) ks) → overridden_by_package key opened (k ∷ ks) ≡ filter (takes_part key) (k ∷ ks)
 open_next key opened k ks false wide closed tp op none rest = rw tp (rest opened none)
 open_next key opened k ks true true closed tp op none rest = rw tp (rw op (ap (λ others. k ∷ others) (rest (k.class ∷ opened) none)))
 open_next key opened k ks true false closed tp op none rest = absurd cc
 
 -- where none is for its package alone, all that take part are overridden
-open_walked : (key : Key) (opened : List Class) (rs : List Rowed) → list_any (λ r. is_closed key (bare r)) rs ≡ false → walked_superclasses key opened (map bare rs) ≡ filter (takes_part key) (map bare rs)
-open_walked key opened [] none = refl
-open_walked key opened (r ∷ rs) none =
-    open_next key opened (bare r) (map bare rs) (takes_part key (bare r)) (is_open key (bare r)) (list_any (λ r. is_closed key (bare r)) rs) refl refl none (λ others more. open_walked key others rs more)
+open_walked : {A : Type 0} (kin : A → Kin) (key : Key) (opened : List Class) (rs : List A) → list_any (λ r. is_package_private key (kin r)) rs ≡ false → overridden_by_package key opened (map kin rs) ≡ filter (takes_part key) (map kin rs)
+open_walked kin key opened [] none = refl
+open_walked kin key opened (r ∷ rs) none =
+    open_next key opened (kin r) (map kin rs) (takes_part key (kin r)) (is_open key (kin r)) (list_any (λ r. is_package_private key (kin r)) rs) refl refl none (λ others more. open_walked kin key others rs more)
 
 -- what a method imposes with superclasses none of which is for its package alone
-pub above_open : (own : Rowed) (above : List Rowed) (key : Key) (loader : ℕ) (old new : List Need) (inter closed : Bool) → inter ≡ is_interface (file_of own.file) → false ≡ inter
-    → closed ≡ list_any (λ r. is_closed key (bare r)) above → false ≡ closed → loader ≡ own.class.loader → new ≡ old ++ equals_with key loader (filter (takes_part key) (map bare above)) → new ≡ old ++ of_superclasses own above key
-above_open own above key loader old new inter closed ie none ce oe le more =
-    more ∙ ap (λ (x : ℕ). old ++ equals_with key x (filter (takes_part key) (map bare above))) le
-    ∙ ap (λ (ks : List Kin). old ++ equals_with key own.class.loader ks) (sym (open_walked key (own.class ∷ []) above (sym (oe ∙ ce))))
-    ∙ ap (λ (b : Bool). old ++ (if b then [] else equals_with key own.class.loader (walked_superclasses key (own.class ∷ []) (map bare above)))) (none ∙ ie)
+pub above_open : {A : Type 0} (kin : A → Kin) (own : Rowed) (above : List A) (key : Key) (loader : ℕ) (old new : List Need) (inter closed : Bool) → inter ≡ is_interface (file_of own.file) → false ≡ inter
+    → closed ≡ list_any (λ r. is_package_private key (kin r)) above → false ≡ closed → loader ≡ own.class.loader → new ≡ old ++ equals_with key loader (filter (takes_part key) (map kin above)) → new ≡ old ++ of_superclasses own (map kin above) key
+above_open kin own above key loader old new inter closed ie none ce oe le more =
+    more ∙ ap (λ (x : ℕ). old ++ equals_with key x (filter (takes_part key) (map kin above))) le
+    ∙ ap (λ (ks : List Kin). old ++ equals_with key own.class.loader ks) (sym (open_walked kin key (own.class ∷ []) above (sym (oe ∙ ce))))
+    ∙ ap (λ (b : Bool). old ++ (if b then [] else equals_with key own.class.loader (overridden_by_package key (own.class ∷ []) (map kin above)))) (none ∙ ie)
 
 -- ---- the walk
 
 pub walking_start : {S : Type 0} (key : Key) (loader : ℕ) (fresh opened : IndexSet Package S) (own : Class) (needs : List Need) (ks : List Kin) → IsEmpty fresh → Opens fresh opened (package_of_class own)
-    → Walking key loader opened needs ks (needs ++ equals_with key loader (walked_superclasses key (own ∷ []) ks))
+    → Walking key loader opened needs ks (needs ++ equals_with key loader (overridden_by_package key (own ∷ []) ks))
 walking_start key loader fresh opened own needs ks empty put = record {
   classes = own ∷ [];
   opened_are = one_opened fresh opened own [] (none_opened fresh empty) put;
@@ -147,11 +147,11 @@ walking_start key loader fresh opened own needs ks empty put = record {
 }
 
 step_total : (key : Key) (loader : ℕ) (cs : List Class) (k : Kin) (ks : List Kin) (needs new : List Need) (b : Bool) → new ≡ needs ++ (if b then equals_of key loader k.class.loader else [])
-    → new ++ equals_with key loader (walked_superclasses key (opened_by key cs k) ks) ≡ needs ++ equals_with key loader (if b then k ∷ walked_superclasses key (opened_by key cs k) ks else walked_superclasses key (opened_by key cs k) ks)
+    → new ++ equals_with key loader (overridden_by_package key (opened_by key cs k) ks) ≡ needs ++ equals_with key loader (if b then k ∷ overridden_by_package key (opened_by key cs k) ks else overridden_by_package key (opened_by key cs k) ks)
 step_total key loader cs k ks needs new true e =
-    ap (λ ns. ns ++ equals_with key loader (walked_superclasses key (opened_by key cs k) ks)) e
-    ∙ append_assoc needs (equals_of key loader k.class.loader) (equals_with key loader (walked_superclasses key (opened_by key cs k) ks))
-step_total key loader cs k ks needs new false e = ap (λ ns. ns ++ equals_with key loader (walked_superclasses key (opened_by key cs k) ks)) (e ∙ append-nil needs)
+    ap (λ ns. ns ++ equals_with key loader (overridden_by_package key (opened_by key cs k) ks)) e
+    ∙ append_assoc needs (equals_of key loader k.class.loader) (equals_with key loader (overridden_by_package key (opened_by key cs k) ks))
+step_total key loader cs k ks needs new false e = ap (λ ns. ns ++ equals_with key loader (overridden_by_package key (opened_by key cs k) ks)) (e ∙ append-nil needs)
 
 walking_next : {S : Type 0} (key : Key) (loader : ℕ) (opened after : IndexSet Package S) (needs new : List Need) (k : Kin) (ks : List Kin) (total : List Need)
     → Walking key loader opened needs (k ∷ ks) total → ((before : List Class) → AreOpened opened before → Visits key before k (equals_of key loader k.class.loader) needs new after)
@@ -164,40 +164,41 @@ walking_next key loader opened after needs new k ks total w visit =
       total_is = step_total key loader w.classes k ks needs new (is_overridden key w.classes k) v.needs_are ∙ w.total_is;
     }
 
-pub walking_step : {S : Type 0} (key : Key) (loader asked : ℕ) (opened after : IndexSet Package S) (needs new : List Need) (rows : List Rowed) (i : ℕ) (r : Rowed) (total : List Need)
-    → i < length rows → r ≡ get_or rows i r → asked ≡ loader → Walking key loader opened needs (map bare (drop i rows)) total
-    → ((before : List Class) → AreOpened opened before → Visits key before (bare r) (equals_of key asked r.class.loader) needs new after)
-    → Walking key loader after new (map bare (drop (i + 1) rows)) total
-walking_step key loader asked opened after needs new rows i r total h at same w visit =
-    walking_next key loader opened after needs new (bare r) (map bare (drop (i + 1) rows)) total
-    (subst (λ (rs : List Rowed). Walking key loader opened needs (map bare rs) total) (next_dropped rows i r h at) w)
-    (λ before was. subst (λ (x : ℕ). Visits key before (bare r) (equals_of key x r.class.loader) needs new after) same (visit before was))
+pub walking_step : {S A : Type 0} (kin : A → Kin) (key : Key) (loader asked : ℕ) (opened after : IndexSet Package S) (needs new : List Need) (rows : List A) (i : ℕ) (r : A) (k : Kin) (total : List Need)
+    → i < length rows → r ≡ get_or rows i r → k ≡ kin r → asked ≡ loader → Walking key loader opened needs (map kin (drop i rows)) total
+    → ((before : List Class) → AreOpened opened before → Visits key before k (equals_of key asked k.class.loader) needs new after)
+    → Walking key loader after new (map kin (drop (i + 1) rows)) total
+walking_step kin key loader asked opened after needs new rows i r k total h at of same w visit =
+    walking_next key loader opened after needs new k (map kin (drop (i + 1) rows)) total
+    (subst (λ (ks : List Kin). Walking key loader opened needs ks total) (ap (map kin) (next_dropped rows i r h at) ∙ ap (λ x. x ∷ map kin (drop (i + 1) rows)) (sym of)) w)
+    (λ before was. subst (λ (x : ℕ). Visits key before k (equals_of key x k.class.loader) needs new after) same (visit before was))
 
-pub walking_end : {S : Type 0} (key : Key) (loader : ℕ) (opened : IndexSet Package S) (needs : List Need) (rows : List Rowed) (total : List Need)
-    → Walking key loader opened needs (map bare (drop (length rows) rows)) total → needs ≡ total
-walking_end key loader opened needs rows total w =
-    let e : Walking key loader opened needs [] total = subst (λ (rs : List Rowed). Walking key loader opened needs (map bare rs) total) (drop_all rows) w in
+pub walking_end : {S A : Type 0} (kin : A → Kin) (key : Key) (loader : ℕ) (opened : IndexSet Package S) (needs : List Need) (rows : List A) (total : List Need)
+    → Walking key loader opened needs (map kin (drop (length rows) rows)) total → needs ≡ total
+walking_end kin key loader opened needs rows total w =
+    let e : Walking key loader opened needs [] total = subst (λ rs. Walking key loader opened needs (map kin rs) total) (drop_all (length rows) rows (omega arith)) w in
     sym (append-nil needs) ∙ e.total_is
 
--- ---- the superinterfaces
+-- ---- those that take part
 
-one_kept : (key : Key) (loader : ℕ) (r : Rowed) (ks : List Kin) (needs new : List Need) (b : Bool) → new ≡ needs ++ (if b then equals_of key loader r.class.loader else [])
-    → new ++ equals_with key loader ks ≡ needs ++ equals_with key loader (if b then bare r ∷ ks else ks)
-one_kept key loader r ks needs new true e = ap (λ ns. ns ++ equals_with key loader ks) e ∙ append_assoc needs (equals_of key loader r.class.loader) (equals_with key loader ks)
-one_kept key loader r ks needs new false e = ap (λ ns. ns ++ equals_with key loader ks) (e ∙ append-nil needs)
+one_kept : (key : Key) (loader : ℕ) (k : Kin) (ks : List Kin) (needs new : List Need) (b : Bool) → new ≡ needs ++ (if b then equals_of key loader k.class.loader else [])
+    → new ++ equals_with key loader ks ≡ needs ++ equals_with key loader (if b then k ∷ ks else ks)
+one_kept key loader k ks needs new true e = ap (λ ns. ns ++ equals_with key loader ks) e ∙ append_assoc needs (equals_of key loader k.class.loader) (equals_with key loader ks)
+one_kept key loader k ks needs new false e = ap (λ ns. ns ++ equals_with key loader ks) (e ∙ append-nil needs)
 
--- a superinterface is looked at
-pub kept_step : (key : Key) (loader : ℕ) (needs new total : List Need) (rows : List Rowed) (i : ℕ) (r : Rowed) (b : Bool) → i < length rows → r ≡ get_or rows i r → b ≡ takes_part key (bare r)
-    → new ≡ needs ++ (if b then equals_of key loader r.class.loader else [])
-    → needs ++ equals_with key loader (filter (takes_part key) (map bare (drop i rows))) ≡ total
-    → new ++ equals_with key loader (filter (takes_part key) (map bare (drop (i + 1) rows))) ≡ total
-kept_step key loader needs new total rows i r b h at tp more before =
-    let rest : List Kin = filter (takes_part key) (map bare (drop (i + 1) rows)) in
-    one_kept key loader r rest needs new b more
-    ∙ ap (λ (x : Bool). needs ++ equals_with key loader (if x then bare r ∷ rest else rest)) tp
-    ∙ ap (λ (rs : List Rowed). needs ++ equals_with key loader (filter (takes_part key) (map bare rs))) (sym (next_dropped rows i r h at))
+-- one is looked at
+pub kept_step : {A : Type 0} (kin : A → Kin) (key : Key) (loader : ℕ) (needs new total : List Need) (rows : List A) (i : ℕ) (r : A) (k : Kin) (b : Bool) → i < length rows → r ≡ get_or rows i r → k ≡ kin r → b ≡ takes_part key k
+    → new ≡ needs ++ (if b then equals_of key loader k.class.loader else [])
+    → needs ++ equals_with key loader (filter (takes_part key) (map kin (drop i rows))) ≡ total
+    → new ++ equals_with key loader (filter (takes_part key) (map kin (drop (i + 1) rows))) ≡ total
+kept_step kin key loader needs new total rows i r k b h at of tp more before =
+    let rest : List Kin = filter (takes_part key) (map kin (drop (i + 1) rows)) in
+    one_kept key loader k rest needs new b more
+    ∙ ap (λ (x : Bool). needs ++ equals_with key loader (if x then k ∷ rest else rest)) tp
+    ∙ ap (λ (x : Kin). needs ++ equals_with key loader (if takes_part key x then x ∷ rest else rest)) of
+    ∙ ap (λ rs. needs ++ equals_with key loader (filter (takes_part key) (map kin rs))) (sym (next_dropped rows i r h at))
     ∙ before
 
-pub kept_end : (key : Key) (loader : ℕ) (needs total : List Need) (rows : List Rowed) → needs ++ equals_with key loader (filter (takes_part key) (map bare (drop (length rows) rows))) ≡ total → needs ≡ total
-kept_end key loader needs total rows e =
-    sym (append-nil needs) ∙ ap (λ (rs : List Rowed). needs ++ equals_with key loader (filter (takes_part key) (map bare rs))) (sym (drop_all rows)) ∙ e
+pub kept_end : {A : Type 0} (kin : A → Kin) (key : Key) (loader : ℕ) (needs total : List Need) (rows : List A) → needs ++ equals_with key loader (filter (takes_part key) (map kin (drop (length rows) rows))) ≡ total → needs ≡ total
+kept_end kin key loader needs total rows e =
+    sym (append-nil needs) ∙ ap (λ rs. needs ++ equals_with key loader (filter (takes_part key) (map kin rs))) (sym (drop_all (length rows) rows (omega arith))) ∙ e

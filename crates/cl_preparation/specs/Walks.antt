@@ -1,10 +1,10 @@
 -- Overriding by run-time packages (JVMS SE 8, 5.3, 5.4.5).
-use Rattle.std.specs.Prelude.{Bool, ◌&&◌, ◌||◌, not, if◌then◌else◌, List, [], ◌∷◌, Option, Some, None, is_some}
+use Rattle.std.specs.Prelude.{Bool, ◌&&◌, ◌||◌, not, if◌then◌else◌, List, [], ◌∷◌, Option, Some, None}
 use Rattle.std.specs.List.{list_any}
 use Rattle.cl_classfile.specs.Files.{Key}
 use Rattle.cl_model.specs.declared.class.Class.{Class}
 use Rattle.cl_model.specs.Classes.{same_package}
-use Rattle.cl_model.specs.Lineages.{Kin, method_of, if_declared, is_offered}
+use Rattle.cl_model.specs.Lineages.{Kin, method_of, if_declared}
 use Rattle.cl_model.specs.Preparation.{takes_part}
 use Rattle.cl_preparation.specs.Methods.{is_public_or_protected}
 
@@ -17,22 +17,13 @@ is_open key k = if_declared (method_of k key) is_public_or_protected
 abbrev pub opens : Key → Kin → Bool
 opens key k = takes_part key k && is_open key k
 
--- the class declares such a method that takes part, an open one where that is asked (5.4.5)
-abbrev pub counts : Bool → Key → Kin → Bool
-counts only_open key k = if only_open then opens key k else takes_part key k
-
 -- of such a method that takes part, if the class declares one: whether it is open (5.4.5)
 abbrev pub declared_open : Key → Kin → Option Bool
 declared_open key k = if takes_part key k then Some (is_open key k) else None
 
 -- the class declares such a method that takes part, for its package alone (5.4.5)
-abbrev pub is_closed : Key → Kin → Bool
-is_closed key k = takes_part key k && not (is_open key k)
-
--- the class declares such a method private or static, so that a class below inherits from farther
--- above (5.4.2, 5.4.5)
-abbrev pub hides : Key → Kin → Bool
-hides key k = is_some (method_of k key) && not (is_offered key k)
+abbrev pub is_package_private : Key → Kin → Bool
+is_package_private key k = takes_part key k && not (is_open key k)
 
 -- the class declares such a method, and is of the package of another class (5.3, 5.4.5)
 abbrev pub opens_to : Key → Kin → Kin → Bool
@@ -59,9 +50,9 @@ abbrev pub opened_by : Key → List Class → Kin → List Class
 opened_by key opened a = if opens key a then a.class ∷ opened else opened
 
 -- the superclasses whose method is overridden, in one walk, nearest first (5.4.5)
-abbrev pub walked_superclasses : Key → List Class → List Kin → List Kin
-walked_superclasses key opened [] = []
-walked_superclasses key opened (a ∷ more) =
+abbrev pub overridden_by_package : Key → List Class → List Kin → List Kin
+overridden_by_package key opened [] = []
+overridden_by_package key opened (a ∷ more) =
     if is_overridden key opened a
-    then a ∷ walked_superclasses key (opened_by key opened a) more
-    else walked_superclasses key (opened_by key opened a) more
+    then a ∷ overridden_by_package key (opened_by key opened a) more
+    else overridden_by_package key (opened_by key opened a) more

@@ -54,7 +54,7 @@ impl Described {
     }
 
     /// The classes that the descriptor names, the return type first.
-    pub fn names(&self) -> &[Name]
+    fn names(&self) -> &[Name]
         ensures { result.now ≡ class_names self.now.descriptor }
     {
         self.names.as_slice()

@@ -4,11 +4,9 @@ ghost use Rattle.std.specs.Prelude.{◌≡◌, Some, IfOk, IsSome};
 ghost use Rattle.cl_descriptors.specs.Reading.{whole_method};
 ghost use Rattle.cl_classfile.specs.Files.{method_of};
 ghost use Rattle.cl_model.specs.Preparation.{class_names, begins_with_angle};
-ghost use Rattle.cl_preparation.specs.Listings.{IsOfDescriptor};
 ghost use Rattle.cl_preparation.specs.Methods.{key_in};
 
 use cl_descriptors::{DescriptorFault, read_method};
-use cl_model::LoaderId;
 use cl_names::Name;
 use std::alloc::{AllocError, Global};
 use std::marker::Model;
@@ -49,24 +47,6 @@ impl Model for MethodKey {
     ghost invariant = { λ k. IsSome (whole_method k.descriptor) };
 }
 
-/// The text of a method's descriptor, between two loaders that are to agree on what it names (JVMS SE 8, 5.3.4).
-#[derive(Debug, PartialEq, Eq, Hash)]
-pub(crate) struct Between {
-    descriptor: Name,
-    one: LoaderId,
-    other: LoaderId,
-}
-
-impl Drop for Between {
-    fn drop(self) {
-        let Between {
-            descriptor: _,
-            one: _,
-            other: _,
-        } = self;
-    }
-}
-
 impl MethodKey {
     /// The key of a method of this name and this descriptor.
     pub fn new(alloc: Global, name: &Name, descriptor: &Name) -> Result<MethodKey, AllocError>
@@ -92,22 +72,6 @@ impl MethodKey {
         ensures { method_of self.now.name result.now ≡ Some self.now }
     {
         &self.descriptor
-    }
-
-    /// Its descriptor between two loaders.
-    pub fn between(
-        &self,
-        alloc: Global,
-        one: LoaderId,
-        other: LoaderId,
-    ) -> Result<Between, AllocError>
-        ensures { IfOk result (λ b. IsOfDescriptor self.now one other b) }
-    {
-        Ok(Between {
-            descriptor: self.descriptor.try_clone(alloc)?,
-            one,
-            other,
-        })
     }
 
     /// A copy, which shares the bytes.

@@ -58,11 +58,7 @@ impl Method {
 
 /// A method by its texts.
 #[tactic(auto)]
-pub(crate) fn method_at(
-    alloc: Global,
-    pool: &[Entry],
-    member: &Member,
-) -> Result<Method, AllocError>
+fn method_at(alloc: Global, pool: &[Entry], member: &Member) -> Result<Method, AllocError>
     requires { IsTyped pool.now member.now }
     ensures { IfOk result (λ m. declared_by method_of pool.now member.now ≡ Some m) }
 {

@@ -7,8 +7,7 @@ ghost use Rattle.cl_classfile.specs.Lookups.{method_named};
 ghost use Rattle.cl_model.specs.Lineages.{Kin, superclasses};
 ghost use Rattle.cl_model.specs.Preparation.{takes_part};
 ghost use Rattle.cl_hierarchy.specs.Lineages.{kin_at, kin_of};
-ghost use Rattle.cl_preparation.specs.Relatives.{asked_of_key, bare, overrides_named};
-ghost use Rattle.cl_preparation.specs.Named.{told_by_rows};
+ghost use Rattle.cl_preparation.specs.Relatives.{bare, holds_of_key, overrides_by_rows, overrides_named};
 ghost use Rattle.cl_preparation.specs.Walks.{is_open, opens_to};
 
 use crate::key::is_special;
@@ -33,7 +32,7 @@ pub(crate) fn flags<T: Told>(row: &ClassRow<T>, name: &Name, descriptor: &Name) 
 /// Whether a class declares a method of this name and descriptor that takes part in overriding.
 #[tactic(auto, using(crate::proofs::Named::part_named))]
 fn takes_part<T: Told>(row: &ClassRow<T>, name: &Name, descriptor: &Name) -> bool
-    ensures { result ≡ asked_of_key (method_of name.now descriptor.now)
+    ensures { result ≡ holds_of_key (method_of name.now descriptor.now)
         (λ key. takes_part key (bare row.now)) }
 {
     match flags(row, name, descriptor) {
@@ -45,7 +44,7 @@ fn takes_part<T: Told>(row: &ClassRow<T>, name: &Name, descriptor: &Name) -> boo
 /// Whether a class declares a public or a protected method of this name and descriptor.
 #[tactic(auto, using(crate::proofs::Named::open_named))]
 fn is_open<T: Told>(row: &ClassRow<T>, name: &Name, descriptor: &Name) -> bool
-    ensures { result ≡ asked_of_key (method_of name.now descriptor.now)
+    ensures { result ≡ holds_of_key (method_of name.now descriptor.now)
         (λ key. is_open key (bare row.now)) }
 {
     match flags(row, name, descriptor) {
@@ -62,7 +61,7 @@ fn opens_to<T: Told>(
     name: &Name,
     descriptor: &Name,
 ) -> bool
-    ensures { result ≡ asked_of_key (method_of name.now descriptor.now)
+    ensures { result ≡ holds_of_key (method_of name.now descriptor.now)
         (λ key. opens_to key (bare above.now) (bare between.now)) }
 {
     takes_part(between, name, descriptor)
@@ -79,7 +78,7 @@ fn overrides_by<T: Told>(
     name: &Name,
     descriptor: &Name,
 ) -> bool
-    ensures { result ≡ told_by_rows (method_of name.now descriptor.now) own.now above.now
+    ensures { result ≡ overrides_by_rows (method_of name.now descriptor.now) own.now above.now
         (map (λ r. r.value) between.now) }
 {
     takes_part(own, name, descriptor)
@@ -96,7 +95,7 @@ fn any_opens<T: Told>(
     name: &Name,
     descriptor: &Name,
 ) -> bool
-    ensures { result ≡ list_any (λ b. asked_of_key (method_of name.now descriptor.now)
+    ensures { result ≡ list_any (λ b. holds_of_key (method_of name.now descriptor.now)
         (λ key. opens_to key (bare above.now) (bare b))) (map (λ r. r.value) between.now) }
 {
     for row in between {
@@ -107,10 +106,10 @@ fn any_opens<T: Told>(
     false
 }
 
-/// Whether the method of this name and descriptor of a class overrides the one of its superclass at this place, counted from
-/// 0 in the rows of its superclasses, nearest first: directly, or through the methods of classes between (JVMS SE 8, 5.4.5). It looks at each class up to
-/// there once, and takes no memory. Where the descriptor is none of a method, or one of the two classes declares no such method, it
-/// does not.
+/// Whether the method of this name and descriptor of a class overrides the one of its superclass at this place, counted
+/// from 0 in the rows of its superclasses, nearest first: directly, or through the methods of classes between (JVMS SE 8,
+/// 5.4.5). It looks at each class up to there once, and takes no memory. Where the descriptor is none of a method, or one of
+/// the two classes declares no such method, it does not.
 pub fn overrides<T: Told>(
     lineage: &Lineage<T>,
     rows: &[Arc<ClassRow<T>>],

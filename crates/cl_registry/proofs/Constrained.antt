@@ -5,7 +5,7 @@ use Rattle.cl_classfile.specs.Files.{file_of}
 use Rattle.cl_model.specs.declared.class.Class.{Class}
 use Rattle.cl_model.specs.declared.need.Equality.{Equality}
 use Rattle.cl_model.specs.Content.{Content}
-use Rattle.cl_model.specs.Classes.{Above, AllAtHome, AtHome, superclass_of, superinterfaces_of, supers}
+use Rattle.cl_model.specs.Classes.{Above, AllAtHome, supers}
 use Rattle.cl_model.specs.Lineages.{Kin, IsLineage}
 use Rattle.cl_model.specs.Preparation.{constraints_of}
 use Rattle.cl_model.specs.States.{State, Need, Keeps, Met, Refused, AllMet, IsNext}
@@ -16,22 +16,16 @@ use Rattle.cl_model.proofs.Posted.{may_prepare}
 use Rattle.cl_model.proofs.Through.{reference_goes}
 use Rattle.cl_model.proofs.Trees.{lineage_is_derived}
 use Rattle.cl_model.proofs.Aims.{next_right}
-use Rattle.cl_model.proofs.Closed.{all_left}
-use Rattle.cl_model.proofs.Sound.{runs_are_sound}
 use Rattle.cl_config.specs.Views.{Configured}
 use Rattle.cl_constraints.proofs.Standing.{unrefused}
 use Rattle.cl_delegation.specs.Worlds.{world_of, setting_of}
-use Rattle.cl_hierarchy.specs.Imposed.{AreOf, Sprung, OfPreparation, OfReference, constraints_above, equal_need, known_by, needs_of}
-use Rattle.cl_hierarchy.specs.declared.equalities.Given.{Given}
-use Rattle.cl_hierarchy.specs.declared.equalities.Given.TheVariants as givens
+use Rattle.cl_hierarchy.specs.Imposed.{AreOf, Sprung, OfPreparation, OfReference, equal_need, needs_of}
 use Rattle.cl_hierarchy.specs.Lineages.{IsLined, Lined, kin_of}
-use Rattle.cl_hierarchy.proofs.Enough.{met_among}
-use Rattle.cl_hierarchy.proofs.MetAbove.{known_met, met_above}
 use Rattle.cl_findings.proofs.References.{through_made}
 use Rattle.cl_registry.specs.Allowed.{ImposedIsAllowed, MarkedIsAllowed, AllowedIsMarked}
 use Rattle.cl_findings.specs.Bases.{AreLineages}
-use Rattle.cl_registry.specs.Imposing.{ArePreparedAbove, HoldsFor, IsPreparedAbove, OriginStands}
-use Rattle.cl_registry.specs.Tables.{Shown, IsKept, state_of, steps}
+use Rattle.cl_registry.specs.Imposing.{ArePreparedAbove, OriginStands}
+use Rattle.cl_registry.specs.Tables.{Shown, IsKept, state_of}
 use Rattle.cl_registry.proofs.Allowed.{closed_of}
 
 -- ---- what is next in a list
@@ -49,7 +43,7 @@ pub lineage_at : (content : Content) (x : Shown) (l : Lined) → IsLined (Some c
 lineage_at content x l lined config =
     lineage_is_derived (world_of x.config content) (kin_of l) (subst (λ (c : Configured). IsLineage (world_of c content) (kin_of l)) config lined.lineage)
 
--- ---- superclasses that are prepared
+-- ---- supertypes that are prepared
 
 prepared_at_home : (content : Content) (x : Shown) (c : Class) (others : List Above) → IsClosed (world_of x.config content) (state_of x) → ArePreparedAbove x c others
     → AllAtHome (world_of x.config content) c (Contains (state_of x).prepared) others
@@ -57,50 +51,14 @@ prepared_at_home content x c [] closed h = tt
 prepared_at_home content x c (a ∷ others) closed h =
     (record { place = h.0.place; found = closed.homes c.loader h.0.place a.name h.0.recorded; holds = h.0.prepared }, prepared_at_home content x c others closed h.1)
 
--- the constraints of a class that is prepared are met
-prepared_met : (content : Content) (x : Shown) (k : Kin) → IsKept (Some content) x → IsLineage (world_of x.config content) k → Contains (state_of x).prepared k.class → AllMet (state_of x) (constraints_of k)
-prepared_met content x k kept lin h =
-    let w = world_of x.config content in
-    let is = (runs_are_sound (setting_of x.config x.script content) (steps x) kept.run).prepared k.class h in
-    subst (λ (b : Kin). AllMet (state_of x) (constraints_of b)) (one_lineage w k.class is.kin k is.lineage (lineage_is_derived w k lin)) is.imposed
-
--- its superclass is prepared too
-prepared_up : (content : Content) (x : Shown) (k : Kin) → IsKept (Some content) x → IsLineage (world_of x.config content) k → Contains (state_of x).prepared k.class
-    → AllAtHome (world_of x.config content) k.class (Contains (state_of x).prepared) (superclass_of k.file)
-prepared_up content x k kept lin h =
-    let w = world_of x.config content in
-    let P : Class → Type 0 = Contains (state_of x).prepared in
-    let is = (runs_are_sound (setting_of x.config x.script content) (steps x) kept.run).prepared k.class h in
-    let all = subst (λ (b : Kin). AllAtHome w k.class P (supers b.file)) (one_lineage w k.class is.kin k is.lineage (lineage_is_derived w k lin)) is.above in
-    all_left (λ (a : Above). AtHome w k.class P a.name) (superclass_of k.file) (superinterfaces_of k.file) all
-
--- and so those of all superclasses are, where the nearest is
-pub above_met : (content : Content) (x : Shown) (l : Lined) → IsKept (Some content) x → IsLined (Some content) l → l.config ≡ x.config → ArePreparedAbove x l.own.class (superclass_of (file_of l.own.file))
-    → AllMet (state_of x) (constraints_above (kin_of l))
-above_met content x l kept lined config h =
-    let w = world_of x.config content in
-    let lin = subst (λ (c : Configured). IsLineage (world_of c content) (kin_of l)) config lined.lineage in
-    met_above w (state_of x) (Contains (state_of x).prepared) (λ b one there. prepared_met content x b kept one there) (λ b one there. prepared_up content x b kept one there) (kin_of l) lin
-    (prepared_at_home content x l.own.class (superclass_of (file_of l.own.file)) (closed_of content x kept) h)
-
--- what is known where that is given holds
-pub given_met : (content : Content) (x : Shown) (l : Lined) (given : Given) → IsKept (Some content) x → IsLined (Some content) l → l.config ≡ x.config → HoldsFor x l given → AllMet (state_of x) (known_by given (kin_of l))
-given_met content x l givens.Nothing kept lined config h = tt
-given_met content x l givens.Superclass kept lined config h = above_met content x l kept lined config h
-
--- it holds where all direct supertypes are prepared
-pub holds_by : (x : Shown) (l : Lined) (given : Given) → ArePreparedAbove x l.own.class (supers (file_of l.own.file)) → HoldsFor x l given
-holds_by x l givens.Nothing h = tt
-holds_by x l givens.Superclass h = all_left (IsPreparedAbove x l.own.class) (superclass_of (file_of l.own.file)) (superinterfaces_of (file_of l.own.file)) h
-
 -- ---- equalities
 
 imposed_by : (content : Content) (x : Shown) (o : Sprung) (es : List Equality) (k : ℕ) (n : Equality) → IsKept (Some content) x → AreLineages (Some content) o → AreOf o (needs_of es) → OriginStands x o → AllMet (state_of x) (take k (needs_of es))
     → slice_get es k ≡ Some n → (Met (state_of x) (equal_need n) → ⊥) → (Refused (state_of x) (equal_need n) → ⊥) → MayConstrain (setting_of x.config x.script content) (state_of x) n.name n.one n.other
-imposed_by content x (OfPreparation l given) es k n kept lined are stands earlier at unmet free = record {
+imposed_by content x (OfPreparation l) es k n kept lined are stands earlier at unmet free = record {
   needs = constraints_of (kin_of l);
-  imposes = inl (l.own.class, stands.0.recorded, (kin_of l, lineage_at content x l lined stands.0.config, refl));
-  next = are.next (state_of x) (equal_need n) (given_met content x l given kept lined stands.0.config stands.1) (next_at (state_of x) es k n at earlier);
+  imposes = inl (l.own.class, stands.recorded, (kin_of l, lineage_at content x l lined stands.config, refl));
+  next = subst (λ (ns : List Need). IsNext (state_of x) ns (equal_need n)) are (next_at (state_of x) es k n at earlier);
   may_add = unrefused (state_of x) (equal_need n) unmet free;
 }
 imposed_by content x (OfReference d c index) es k n kept lined are stands earlier at unmet free =
@@ -121,13 +79,11 @@ imposed_is_allowed content x e k n kept listed may at unmet free = imposed_by co
 -- ---- preparations
 
 pub marked_is_allowed : MarkedIsAllowed
-marked_is_allowed content x l given needs kept listed ready free =
-    let above = all_left (IsPreparedAbove x l.own.class) (superclass_of (file_of l.own.file)) (superinterfaces_of (file_of l.own.file)) ready.above in
-    let known = known_met (state_of x) given (kin_of l) (above_met content x l kept listed.lineages ready.stands.config above) in
+marked_is_allowed content x l needs kept listed ready free =
     may_prepare (setting_of x.config x.script content) (state_of x) l.own.class (kin_of l) ready.stands.recorded free (lineage_at content x l listed.lineages ready.stands.config)
-    (prepared_at_home content x l.own.class (supers (file_of l.own.file)) (closed_of content x kept) ready.above) (listed.are.met (state_of x) known ready.imposed)
+    (prepared_at_home content x l.own.class (supers (file_of l.own.file)) (closed_of content x kept) ready.above) (subst (AllMet (state_of x)) listed.are ready.imposed)
 
-pub home_prepared : (content : Content) (x : Shown) (c : Class) (others : List Above) → AllAtHome (world_of x.config content) c (Contains (state_of x).prepared) others
+home_prepared : (content : Content) (x : Shown) (c : Class) (others : List Above) → AllAtHome (world_of x.config content) c (Contains (state_of x).prepared) others
     → AllAtHome (world_of x.config content) c (Keeps (state_of x) c.loader) others → ArePreparedAbove x c others
 home_prepared content x c [] h m = tt
 home_prepared content x c (a ∷ others) h m =
@@ -135,7 +91,7 @@ home_prepared content x c (a ∷ others) h m =
     (record { place = h.0.place; recorded = m.0.holds ∙ ap (λ (p : ℕ). Some p) same; prepared = h.0.holds }, home_prepared content x c others h.1 m.1)
 
 pub allowed_is_marked : AllowedIsMarked
-allowed_is_marked content x l given needs kept listed config may =
+allowed_is_marked content x l needs kept listed config may =
     let w = world_of x.config content in
     let s = state_of x in
     let lin = lineage_at content x l listed.lineages config in
@@ -145,7 +101,7 @@ allowed_is_marked content x l given needs kept listed config may =
       record {
         stands = record { config = config; recorded = may.preparable.recorded };
         above = home_prepared content x l.own.class (supers (file_of l.own.file)) above ((closed_of content x kept).above l.own.class (file_of l.own.file) may.preparable.recorded file.has_file);
-        imposed = met_among s (constraints_of (kin_of l)) (needs_of needs) listed.are.among (subst (λ (k : Kin). AllMet s (constraints_of k)) same may.preparable.imposed);
+        imposed = subst (AllMet s) (sym listed.are) (subst (λ (k : Kin). AllMet s (constraints_of k)) same may.preparable.imposed);
       },
       may.unprepared,
     )

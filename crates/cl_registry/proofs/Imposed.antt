@@ -16,14 +16,12 @@ use Rattle.std.proofs.lemmas.List.Elements.{Contains-push}
 use Rattle.cl_model.specs.States as states
 use Rattle.cl_model.specs.States.{State, Need, Equal, Met, Refused, AllMet, IsRecorded, Joined, recorded_definer}
 use Rattle.cl_model.specs.Machine.{Constrain, Prepare, after, May}
-use Rattle.cl_model.specs.Preparation.{constraints_of}
 use Rattle.cl_config.specs.Views.{Configured}
 use Rattle.cl_constraints.specs.Books.{IsBookOf, SaysRefused}
 use Rattle.cl_constraints.proofs.Standing.{unrefused}
 use Rattle.cl_delegation.specs.Worlds.{setting_of}
 use Rattle.cl_hierarchy.specs.Imposed.{AreOf, Listed, Sprung, OfPreparation, OfReference, equal_need, needs_of}
 use Rattle.cl_hierarchy.specs.Lineages.{IsWithinConfig, Lined, kin_of, rows_in, row_of}
-use Rattle.cl_hierarchy.proofs.Enough.{all_among}
 use Rattle.cl_hierarchy.specs.Rows.{Rowed}
 use Rattle.cl_registry.specs.declared.registry.RegistryFault.{RegistryFault}
 use Rattle.cl_registry.specs.declared.registry.RegistryFault.TheVariants.{Memory, Stray, Violates, AlreadyPosted, NotYet}
@@ -45,9 +43,9 @@ within_rows x l config h = subst (λ (c : Configured). AllByRecursion (IsWithinC
 
 -- the equalities of what stands in the tables name loaders that there are
 names_by : (told : Option Content) (x : Shown) (o : Sprung) (ns : List Need) → AreLineages told o → AreOf o ns → OriginStands x o → AllByRecursion (Names (λ l. l < length x.config.loaders)) ns
-names_by told x (OfPreparation l given) ns is are stands =
+names_by told x (OfPreparation l) ns is are stands =
     let P : ℕ → Type 0 = λ n. n < length x.config.loaders in
-    all_among (Names P) (constraints_of (kin_of l)) ns are.among (constraints P (kin_of l) (lined P l (within_rows x l stands.0.config is.within)))
+    subst (AllByRecursion (Names P)) (sym are) (constraints P (kin_of l) (lined P l (within_rows x l stands.config is.within)))
 names_by told x (OfReference d c index) ns is are stands =
     let P : ℕ → Type 0 = λ n. n < length x.config.loaders in
     subst (AllByRecursion (Names P)) (sym are.needs_are)

@@ -3,37 +3,33 @@ use Rattle.std.proofs.Common.{◌≡◌, ◌∙◌, ◌<◌, ℕ, Bool, true, fa
 use Rattle.std.specs.Prelude.{option_map}
 use Rattle.std.specs.List.{AllByRecursion}
 use Rattle.std.proofs.lemmas.List.{append-nil, append_cancel_right}
-use Rattle.cl_classfile.specs.Files.{Reference, file_of}
+use Rattle.cl_classfile.specs.Files.{Reference}
 use Rattle.cl_model.specs.declared.class.Class.{Class}
 use Rattle.cl_model.specs.declared.need.Equality.{Equality}
 use Rattle.cl_model.specs.Content.{Content}
 use Rattle.cl_model.specs.Homes.{World, home}
-use Rattle.cl_model.specs.Classes.{class, Above, AtHome, NoClassDef, class_accessible, superclass_of, superinterfaces_of}
-use Rattle.cl_model.specs.Lineages.{IsLineage, Kin}
-use Rattle.cl_model.specs.States.{State, Need, Verdict, recorded_definer, AllMet, IsRecorded, Keeps}
+use Rattle.cl_model.specs.Classes.{class, NoClassDef, class_accessible}
+use Rattle.cl_model.specs.Lineages.{Kin}
+use Rattle.cl_model.specs.States.{State, Need, Verdict, recorded_definer, AllMet}
 use Rattle.cl_model.specs.Works.{Work, Made, after_made, ◌>>=◌}
 use Rattle.cl_model.specs.Plans.{derive, load, resolve, resolve_in, through}
 use Rattle.cl_model.specs.Machine.{HasLineage}
 use Rattle.cl_model.proofs.Bind.{Bound, pieces, some_same, value_same}
-use Rattle.cl_model.proofs.Closed.{all_left, all_right}
+use Rattle.cl_model.proofs.Closed.{all_right}
 use Rattle.cl_model.proofs.Derived.{IsLoad, load_ok}
 use Rattle.cl_model.proofs.Planned.{one_lineage}
 use Rattle.cl_model.proofs.Progress.{IsEntry, derive_records, load_records, met_split}
 use Rattle.cl_model.proofs.Through.{resolves_through}
 use Rattle.cl_model.proofs.Trees.{derive_gives, lineage_is_derived}
-use Rattle.cl_config.specs.Views.{Configured}
 use Rattle.cl_delegation.specs.Worlds.{world_of}
 use Rattle.cl_hierarchy.specs.Imposed.{AreOf, OfPreparation, OfReference, Sprung, needs_of}
-use Rattle.cl_hierarchy.specs.Lineages.{IsLined, Lined, kin_of}
-use Rattle.cl_hierarchy.specs.declared.equalities.Given.{Given}
-use Rattle.cl_hierarchy.specs.declared.equalities.Given.TheVariants as givens
+use Rattle.cl_hierarchy.specs.Lineages.{kin_of}
 use Rattle.cl_findings.proofs.References.{opened}
-use Rattle.cl_registry.specs.Tables.{Shown, state_of, IsKept}
+use Rattle.cl_registry.specs.Tables.{Shown, state_of}
 use Rattle.cl_findings.specs.Bases.{AreLineages}
-use Rattle.cl_registry.specs.Imposing.{AreOfConfig, HoldsFor, HoldsIn, IsListOf, OriginStands}
+use Rattle.cl_registry.specs.Imposing.{AreOfConfig, IsListOf, OriginStands}
 use Rattle.cl_registry.specs.Allowed.{AllowedIsImposed}
-use Rattle.cl_registry.proofs.Allowed.{closed_of}
-use Rattle.cl_registry.proofs.Constrained.{home_prepared, lineage_at}
+use Rattle.cl_registry.proofs.Constrained.{lineage_at}
 use Rattle.cl_registry.proofs.LoadNeeds.{loads_only}
 
 -- ---- needs that are no records
@@ -89,23 +85,10 @@ module _ (w : World) (s : State) (d c : Kin) (r : Reference) (made m : Made Verd
 
 -- ---- what a list was made from stands
 
--- what is given for a list of a preparation holds in the tables
-held : (content : Content) (x : Shown) (l : Lined) (given : Given) → IsKept (Some content) x → IsLined (Some content) l → l.config ≡ x.config → IsRecorded (state_of x) l.own.class → HoldsIn (world_of x.config content) (state_of x) l given
-    → HoldsFor x l given
-held content x l givens.Nothing kept lined config recorded_definer h = tt
-held content x l givens.Superclass kept lined config recorded_definer h =
-    let w = world_of x.config content in
-    let f = file_of l.own.file in
-    let lin = subst (λ (c : Configured). IsLineage (world_of c content) (kin_of l)) config lined.lineage in
-    let stand = (closed_of content x kept).above l.own.class f recorded_definer lin.has_file in
-    home_prepared content x l.own.class (superclass_of f) h
-    (all_left (λ (a : Above). AtHome w l.own.class (Keeps (state_of x) l.own.class.loader) a.name) (superclass_of f) (superinterfaces_of f) stand)
-
-listed_stands : (content : Content) (x : Shown) (o : Sprung) (es : List Equality) (k : ℕ) (before : List Need) → IsKept (Some content) x → AreLineages (Some content) o → AreOf o (needs_of es) → AreOfConfig x.config o → k < length es
+listed_stands : (content : Content) (x : Shown) (o : Sprung) (es : List Equality) (k : ℕ) (before : List Need) → AreLineages (Some content) o → AreOf o (needs_of es) → AreOfConfig x.config o → k < length es
     → IsListOf (world_of x.config content) (state_of x) o (before ++ needs_of es) → AllMet (state_of x) before → OriginStands x o
-listed_stands content x (OfPreparation l given) es k before kept lined are config within list met =
-    (record { config = config; recorded = list.0 }, held content x l given kept lined config list.0 list.1)
-listed_stands content x (OfReference d c index) es k before kept lined are config within list met =
+listed_stands content x (OfPreparation l) es k before lined are config within list met = record { config = config; recorded = list.0 }
+listed_stands content x (OfReference d c index) es k before lined are config within list met =
     let w = world_of x.config content in
     let res = list.2.1 in
     let kin : res.kin ≡ kin_of d = one_lineage w d.own.class res.kin (kin_of d) res.above (lineage_at content x d lined.0 config.0) in
@@ -117,4 +100,4 @@ listed_stands content x (OfReference d c index) es k before kept lined are confi
 pub allowed_is_imposed : AllowedIsImposed
 allowed_is_imposed content x e k before kept listed config within list met =
     let both = met_split (state_of x) before (take k (needs_of e.needs)) met in
-    record { stands = listed_stands content x e.origin e.needs k before kept listed.lineages listed.are config within list both.0; within = within; earlier = both.1 }
+    record { stands = listed_stands content x e.origin e.needs k before listed.lineages listed.are config within list both.0; within = within; earlier = both.1 }

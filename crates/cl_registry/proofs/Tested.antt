@@ -6,22 +6,19 @@ use Rattle.cl_model.specs.declared.class.Class.{Class}
 use Rattle.cl_model.specs.declared.need.Equality.{Equality}
 use Rattle.cl_classfile.specs.Files.{file_of}
 use Rattle.cl_findings.specs.Findings.{Decides}
-use Rattle.cl_model.specs.Classes.{class, Above, class_accessible, same_class, superclass_of, supers}
+use Rattle.cl_model.specs.Classes.{class, Above, class_accessible, same_class, supers}
 use Rattle.cl_model.proofs.Complete.{is_class}
 use Rattle.std.proofs.lemmas.Map.Views.{Contains-from_any}
 use Rattle.indexmap.specs.IndexSet.{insert_key}
 use Rattle.cl_model.specs.States.{State, Need, Met, AllMet, Refused, recorded_definer}
 use Rattle.cl_model.specs.Tables.{Records}
-use Rattle.cl_hierarchy.specs.Imposed.{Listed, Sprung, OfPreparation, equal_need, needs_of}
-use Rattle.cl_hierarchy.specs.Lineages.{Lined}
-use Rattle.cl_hierarchy.specs.declared.equalities.Given.{Given}
-use Rattle.cl_hierarchy.specs.declared.equalities.Given.TheVariants as givens
+use Rattle.cl_hierarchy.specs.Imposed.{AreOf, Listed, Sprung, OfPreparation, equal_need, needs_of}
+use Rattle.cl_hierarchy.specs.Lineages.{IsLined, Lined}
 use Rattle.cl_hierarchy.specs.Rows.{Rowed}
 use Rattle.cl_model.specs.Content.{Content}
 use Rattle.std.proofs.lemmas.Option.{slice_get_read}
 use Rattle.cl_registry.proofs.Constrained.{marked_is_allowed}
-use Rattle.cl_findings.specs.Bases.{IsListed}
-use Rattle.cl_registry.specs.Imposing.{ArePreparedAbove, Constrains, HoldsFor, Imposes, IsNextOf, IsPreparedAbove, IsPreparedBy, IsReached, IsReady, IsReadyBy, IsStanding, MarksBy, MayImpose, MayPrepareAs, OriginStands, with_constrain}
+use Rattle.cl_registry.specs.Imposing.{ArePreparedAbove, Constrains, Imposes, IsNextOf, IsPreparedAbove, IsPreparedBy, IsReached, IsReady, IsReadyBy, IsStanding, MarksBy, MayImpose, MayPrepareAs, OriginStands, with_constrain}
 use Rattle.cl_registry.specs.declared.registry.RegistryFault.TheVariants.{Memory}
 use Rattle.cl_registry.specs.Refusals.{MarkRefusedFor}
 use Rattle.cl_registry.specs.Tables.{Shown, IsKept, LacksRecord, records_of, state_of}
@@ -105,11 +102,6 @@ ready_by x l needs false stands above h = λ ready. h ready.imposed
 
 -- ---- direct supertypes
 
--- a class that stands, and what is given for its list
-pub given_by : (x : Shown) (l : Lined) (b : Bool) → IsStanding x l → Decides b (ArePreparedAbove x l.own.class (superclass_of (file_of l.own.file))) → Decides b (IsStanding x l × HoldsFor x l givens.Superclass)
-given_by x l true stands h = (stands, h)
-given_by x l false stands off = λ two. off two.1
-
 -- the supertype that was looked up is prepared, if it is
 pub above_by : (x : Shown) (c : Class) (a : Above) (row : Rowed) (b : Bool) → Records (state_of x) c.loader a.name row.class → Decides b (Contains (state_of x).prepared row.class) → Decides b (IsPreparedAbove x c a)
 above_by x c a row true r h = record { place = row.class.loader; recorded = r.1; prepared = subst (λ (n : List ℕ). Contains (state_of x).prepared (class n row.class.loader)) r.0 h }
@@ -139,22 +131,22 @@ imposes_new x y e k n at unmet free is = subst (λ (o : Option Equality). IfSome
 -- ---- a preparation
 
 -- what may be marked the machine may prepare, where a content is told
-pub marks_as : (told : Option Content) (x : Shown) (e : Listed) (l : Lined) (given : Given) (c : Class) → OfPreparation l given ≡ e.origin → c ≡ l.own.class → IsKept told x → IsListed told e → IsReady x l (needs_of e.needs) → (Contains (state_of x).prepared c → ⊥) → MayPrepareAs told x c
-marks_as None x e l given c is own kept listed ready free = tt
-marks_as (Some content) x e l given c is own kept listed ready free =
+pub marks_as : (told : Option Content) (x : Shown) (e : Listed) (l : Lined) (c : Class) → OfPreparation l ≡ e.origin → c ≡ l.own.class → IsKept told x → IsLined told l → AreOf e.origin (needs_of e.needs) → IsReady x l (needs_of e.needs) → (Contains (state_of x).prepared c → ⊥) → MayPrepareAs told x c
+marks_as None x e l c is own kept lined are ready free = tt
+marks_as (Some content) x e l c is own kept lined are ready free =
     subst (λ (k : Class). MayPrepareAs (Some content) x k) (sym own)
-    (marked_is_allowed content x l given e.needs kept (subst (λ (o : Sprung). IsListed (Some content) (record { needs = e.needs; origin = o })) (sym is) listed) ready (subst (λ (k : Class). Contains (state_of x).prepared k → ⊥) own free))
+    (marked_is_allowed content x l e.needs kept (record { lineages = lined; are = subst (λ (o : Sprung). AreOf o (needs_of e.needs)) (sym is) are }) ready (subst (λ (k : Class). Contains (state_of x).prepared k → ⊥) own free))
 
-pub prepared_by : (x : Shown) (o : Sprung) (l : Lined) (given : Given) (c : Class) → OfPreparation l given ≡ o → c ≡ l.own.class → Contains (state_of x).prepared c → IsPreparedBy x o
-prepared_by x o l given c is own h = subst (λ (p : Sprung). IsPreparedBy x p) is (subst (λ (k : Class). Contains (state_of x).prepared k) own h)
+pub prepared_by : (x : Shown) (o : Sprung) (l : Lined) (c : Class) → OfPreparation l ≡ o → c ≡ l.own.class → Contains (state_of x).prepared c → IsPreparedBy x o
+prepared_by x o l c is own h = subst (λ (p : Sprung). IsPreparedBy x p) is (subst (λ (k : Class). Contains (state_of x).prepared k) own h)
 
 -- and so it is marked, where nothing changes
-pub marked_by : (x : Shown) (o : Sprung) (l : Lined) (given : Given) (c : Class) → OfPreparation l given ≡ o → c ≡ l.own.class → Contains (state_of x).prepared c → MarksBy x x o
-marked_by x o l given c is own h = subst (λ (p : Sprung). MarksBy x x p) is (inl (subst (λ (k : Class). Contains (state_of x).prepared k) own h, refl))
+pub marked_by : (x : Shown) (o : Sprung) (l : Lined) (c : Class) → OfPreparation l ≡ o → c ≡ l.own.class → Contains (state_of x).prepared c → MarksBy x x o
+marked_by x o l c is own h = subst (λ (p : Sprung). MarksBy x x p) is (inl (subst (λ (k : Class). Contains (state_of x).prepared k) own h, refl))
 
 -- memory ran out for a class that may be prepared and is not
-pub mark_lacks : (x : Shown) (e : Listed) (l : Lined) (given : Given) (c : Class) → OfPreparation l given ≡ e.origin → c ≡ l.own.class → IsReady x l (needs_of e.needs) → (Contains (state_of x).prepared c → ⊥) → MarkRefusedFor x e Memory
-mark_lacks x e l given c is own ready free = (
+pub mark_lacks : (x : Shown) (e : Listed) (l : Lined) (c : Class) → OfPreparation l ≡ e.origin → c ≡ l.own.class → IsReady x l (needs_of e.needs) → (Contains (state_of x).prepared c → ⊥) → MarkRefusedFor x e Memory
+mark_lacks x e l c is own ready free = (
   subst (λ (o : Sprung). IsReadyBy x o (needs_of e.needs)) is ready,
   λ h. free (subst (λ (k : Class). Contains (state_of x).prepared k) (sym own) (subst (λ (o : Sprung). IsPreparedBy x o) (sym is) h)),
 )

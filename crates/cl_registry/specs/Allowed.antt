@@ -11,7 +11,6 @@ use Rattle.cl_delegation.specs.Searches.{Located, LeadsTo}
 use Rattle.cl_delegation.specs.Worlds.{world_of}
 use Rattle.cl_hierarchy.specs.Drafts.{IsDraft, Drafted}
 use Rattle.cl_hierarchy.specs.Imposed.{Listed, OfPreparation, equal_need, needs_of}
-use Rattle.cl_hierarchy.specs.declared.equalities.Given.{Given}
 use Rattle.cl_hierarchy.specs.Lineages.{Lined}
 use Rattle.cl_findings.specs.Findings.{Answered, IsLookedUp, Rests, Stands}
 use Rattle.cl_registry.specs.declared.registry.RegistryFault.TheVariants.{Stray}
@@ -77,9 +76,9 @@ AllowedIsImposed =
 -- a class that may be marked, and is not prepared, may be prepared by the machine (5.4.2)
 abbrev pub MarkedIsAllowed : Type 0
 MarkedIsAllowed =
-    (content : Content) (x : Shown) (l : Lined) (given : Given) (needs : List Equality)
+    (content : Content) (x : Shown) (l : Lined) (needs : List Equality)
     → IsKept (Some content) x
-    → IsListed (Some content) (record { needs = needs; origin = OfPreparation l given })
+    → IsListed (Some content) (record { needs = needs; origin = OfPreparation l })
     → IsReady x l (needs_of needs)
     → (Contains (state_of x).prepared l.own.class → ⊥)
     → MayPrepare (machine x content) (state_of x) l.own.class
@@ -87,9 +86,9 @@ MarkedIsAllowed =
 -- the preparation of a class that the machine may make may be marked by its list, under this configuration (5.4.2)
 abbrev pub AllowedIsMarked : Type 0
 AllowedIsMarked =
-    (content : Content) (x : Shown) (l : Lined) (given : Given) (needs : List Equality)
+    (content : Content) (x : Shown) (l : Lined) (needs : List Equality)
     → IsKept (Some content) x
-    → IsListed (Some content) (record { needs = needs; origin = OfPreparation l given })
+    → IsListed (Some content) (record { needs = needs; origin = OfPreparation l })
     → l.config ≡ x.config
     → MayPrepare (machine x content) (state_of x) l.own.class
     → IsReady x l (needs_of needs) × (Contains (state_of x).prepared l.own.class → ⊥)

@@ -5,7 +5,7 @@ use Rattle.cl_classfile.specs.Files.{file_of}
 use Rattle.cl_model.specs.declared.class.Class.{Class}
 use Rattle.cl_model.specs.declared.event.Event.TheVariants as events
 use Rattle.cl_model.specs.declared.need.Equality.{Equality}
-use Rattle.cl_model.specs.Classes.{class, Above, AllAtHome, superclass_of, supers}
+use Rattle.cl_model.specs.Classes.{class, Above, supers}
 use Rattle.cl_model.specs.Homes.{World, home}
 use Rattle.cl_model.specs.Machine.{IsResolution, MayConstrain, MayPrepare}
 use Rattle.cl_model.specs.Preparation.{constraints_of}
@@ -13,9 +13,7 @@ use Rattle.cl_model.specs.Works.{Made}
 use Rattle.cl_model.specs.States.{State, Need, Verdict, recorded_definer, IsRecorded, Keeps, Met, Refused, AllMet}
 use Rattle.cl_model.specs.Content.{Content}
 use Rattle.cl_config.specs.Views.{Configured}
-use Rattle.cl_hierarchy.specs.Imposed.{Listed, AreEnough, Sprung, OfPreparation, OfReference, equal_need, known_by, needs_of}
-use Rattle.cl_hierarchy.specs.declared.equalities.Given.{Given}
-use Rattle.cl_hierarchy.specs.declared.equalities.Given.TheVariants as givens
+use Rattle.cl_hierarchy.specs.Imposed.{Listed, Sprung, OfPreparation, OfReference, equal_need, needs_of}
 use Rattle.cl_hierarchy.specs.Lineages.{Lined, kin_of}
 use Rattle.cl_hierarchy.specs.Rows.{row_accessible}
 use Rattle.cl_registry.specs.Tables.{Shown, records_of, state_of, machine, with_event}
@@ -41,15 +39,10 @@ pub record IsPreparedAbove (x : Shown) (c : Class) (a : Above) : Type 0 where
 abbrev pub ArePreparedAbove : Shown → Class → List Above → Type 0
 ArePreparedAbove x c others = AllByRecursion (IsPreparedAbove x c) others
 
--- what is given for a list of a class's preparation holds: its superclass, if it has one, is prepared (5.4.2)
-abbrev pub HoldsFor : Shown → Lined → Given → Type 0
-HoldsFor x l givens.Nothing = Unit {0}
-HoldsFor x l givens.Superclass = ArePreparedAbove x l.own.class (superclass_of (file_of l.own.file))
-
 -- what a list was made from stands in the tables (5.4.2, 5.4.3)
 abbrev pub OriginStands : Shown → Sprung → Type 0
 OriginStands x (OfReference d c index) = IsStanding x d × IsReached x d c
-OriginStands x (OfPreparation l given) = IsStanding x l × HoldsFor x l given
+OriginStands x (OfPreparation l) = IsStanding x l
 
 -- an equality of a list may be imposed: what the list was made from stands, and all equalities before it are met (5.3.4)
 pub record MayImpose (x : Shown) (e : Listed) (k : ℕ) : Type 0 where
@@ -85,7 +78,7 @@ pub record IsReady (x : Shown) (l : Lined) (needs : List Need) : Type 0 where
 -- a list is that of a preparation which may be made (5.4.2)
 abbrev pub IsReadyBy : Shown → Sprung → List Need → Type 0
 IsReadyBy x (OfReference d c index) needs = ⊥
-IsReadyBy x (OfPreparation l given) needs = IsReady x l needs
+IsReadyBy x (OfPreparation l) needs = IsReady x l needs
 
 -- the class whose preparation asks for this list may be prepared (5.4.2)
 abbrev pub MayMark : Shown → Listed → Type 0
@@ -104,7 +97,7 @@ Prepares old new c =
 -- the class whose preparation asks for a list is prepared from now on (5.4.2)
 abbrev pub MarksBy : Shown → Shown → Sprung → Type 0
 MarksBy old new (OfReference d c index) = ⊥
-MarksBy old new (OfPreparation l given) = Prepares old new l.own.class
+MarksBy old new (OfPreparation l) = Prepares old new l.own.class
 
 -- the same of a list
 abbrev pub Marks : Shown → Shown → Listed → Type 0
@@ -113,7 +106,7 @@ Marks old new e = MarksBy old new e.origin
 -- the class whose preparation asks for a list is prepared (5.4.2)
 abbrev pub IsPreparedBy : Shown → Sprung → Type 0
 IsPreparedBy x (OfReference d c index) = ⊥
-IsPreparedBy x (OfPreparation l given) = Contains (state_of x).prepared l.own.class
+IsPreparedBy x (OfPreparation l) = Contains (state_of x).prepared l.own.class
 
 -- ---- for the steps of a call
 
@@ -149,21 +142,13 @@ MayPrepareAs (Some content) x c = MayPrepare (machine x content) (state_of x) c
 -- they were made under this configuration
 abbrev pub AreOfConfig : Configured → Sprung → Type 0
 AreOfConfig config (OfReference d c index) = (d.config ≡ config) × (c.config ≡ config)
-AreOfConfig config (OfPreparation l given) = l.config ≡ config
+AreOfConfig config (OfPreparation l) = l.config ≡ config
 
--- what is given for a list of a class's preparation holds in a state: its superclass, if it has one, is prepared (5.4.2)
-abbrev pub HoldsIn : World → State → Lined → Given → Type 0
-HoldsIn w s l givens.Nothing = Unit {0}
-HoldsIn w s l givens.Superclass = AllAtHome w l.own.class (Contains s.prepared)
-    (superclass_of (file_of l.own.file))
-
--- the machine's own list for what a list was made from: the needs of a reference of a recorded class, which names the class c
--- with its home; of a recorded class's preparation, one that stands for all of its constraints, where what is given for it holds
--- (5.4.2, 5.4.3)
+-- the machine's own list for what a list was made from: the constraints of a recorded class's preparation, or the needs of a
+-- reference of a recorded class, which names the class c with its home (5.4.2, 5.4.3)
 abbrev pub IsListOf : World → State → Sprung → List Need → Type 0
-IsListOf w s (OfPreparation l given) needs =
-    IsRecorded s l.own.class × HoldsIn w s l given
-    × AreEnough (known_by given (kin_of l)) (constraints_of (kin_of l)) needs
+IsListOf w s (OfPreparation l) needs =
+    IsRecorded s l.own.class × (needs ≡ constraints_of (kin_of l))
 IsListOf w s (OfReference d c index) needs =
     IsRecorded s d.own.class × (home w d.own.class.loader c.own.class.name ≡ Some
     c.own.class.loader)

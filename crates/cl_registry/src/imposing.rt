@@ -6,13 +6,12 @@ ghost use Rattle.cl_classfile.specs.Files.{file_of};
 ghost use Rattle.cl_constraints.specs.Books.{Adds};
 ghost use Rattle.cl_findings.specs.Findings.{Decides};
 ghost use Rattle.cl_hierarchy.specs.Imposed.{equal_need, needs_of, sprung};
-ghost use Rattle.cl_hierarchy.specs.Lineages.{Lined};
-ghost use Rattle.cl_model.specs.Classes.{superclass_of, supers};
+ghost use Rattle.cl_model.specs.Classes.{supers};
 ghost use Rattle.cl_model.specs.declared.event.Event.TheVariants as events;
 ghost use Rattle.cl_model.specs.declared.need.Need.TheVariants as needs;
 ghost use Rattle.cl_model.specs.States.{IsRecorded, Met, Refused};
 ghost use Rattle.cl_model.specs.Texts.{EqualityNames};
-ghost use Rattle.cl_registry.specs.Imposing.{ArePreparedAbove, HoldsFor, IsPreparedAbove, IsPreparedBy, IsReached, IsReady, IsStanding, IsUnmetIn, Marks, MayConstrainAs, MayImpose, MayMark, MayPrepareAs, OriginStands, with_constrain, with_prepare};
+ghost use Rattle.cl_registry.specs.Imposing.{ArePreparedAbove, IsPreparedAbove, IsPreparedBy, IsReached, IsReady, IsStanding, IsUnmetIn, Marks, MayConstrainAs, MayImpose, MayMark, MayPrepareAs, OriginStands, with_constrain, with_prepare};
 ghost use Rattle.cl_registry.specs.Parts.{AddsEvent, HasRoom};
 ghost use Rattle.cl_registry.specs.declared.registry.RegistryFault.TheVariants.{Memory};
 ghost use Rattle.cl_registry.specs.Refusals.{AddRefusedFor, BlamesIn, ImposeSays, MarkRefusedFor, refusal_fault};
@@ -22,10 +21,9 @@ use crate::met::{are_met, is_met, note};
 use crate::registry::{Registry, RegistryFault};
 use crate::rounds::to_come;
 use crate::tables::has;
-use cl_config::Config;
 use cl_constraints::{BookFault, ConstraintBook, GroupedBook, Refusal};
 use cl_findings::bring_lineages;
-use cl_hierarchy::{ClassAt, ClassRow, Equalities, Given, Lineage, Origin, class_accessible};
+use cl_hierarchy::{ClassRow, Equalities, Lineage, Origin, class_accessible};
 use cl_model::{Class, Equality, Event, Need, Told};
 use cl_names::{Name, Seed};
 use indexmap::IndexSet;
@@ -149,9 +147,10 @@ impl<T: Told> Registry<T> {
         ensures says { ImposeSays T.told self.old self.new list.now place result }
     {
         bring_lineages(list);
-        let equality = &list.needs()[place];
+        let equalities = list.needs();
+        let equality = &equalities[place];
         if is_met(&self.book, self.met.as_slice(), place, equality) {
-            self.remember(alloc, place, equality);
+            self.remember(alloc, equalities, place);
             return Ok(());
         }
         let Ok(name) = equality.name.try_clone(alloc) else {
@@ -161,7 +160,7 @@ impl<T: Told> Registry<T> {
             Ok(()) => {}
             Err(fault) => return Err(fault),
         }
-        self.remember(alloc, place, equality);
+        self.remember(alloc, equalities, place);
         Ok(())
     }
 
@@ -189,17 +188,16 @@ impl<T: Told> Registry<T> {
     {
         // brings what the registry keeps
         let _ = &self.config;
-        bring_lineages(list);
-        let Origin::Preparation { class, given: _ } = list.origin() else {
+        let Origin::Preparation { lineage } = list.origin() else {
             return Err(RegistryFault::Stray);
         };
-        if !self.is_ready(class, list.needs()) {
+        if !self.is_ready(lineage, list.needs()) {
             return Err(RegistryFault::Stray);
         }
-        if self.look_prepared(class.class()) {
+        if self.look_prepared(lineage.class()) {
             return Ok(());
         }
-        match self.prepare(alloc, class.class()) {
+        match self.prepare(alloc, lineage.class()) {
             Ok(()) => {}
             Err(fault) => return Err(fault),
         }
@@ -227,48 +225,22 @@ impl<T: Told> Registry<T> {
     {
         match origin {
             Origin::Reference { d, c, index: _ } => {
-                if !self.has_class(d.config(), d.class()) {
+                if !self.has_lineage(d) {
                     return false;
                 }
                 self.reaches(d, c)
             }
-            Origin::Preparation { class, given } => self.has_given(class, *given),
+            Origin::Preparation { lineage } => self.has_lineage(lineage),
         }
     }
 
-    /// Whether the class of a preparation stands in the tables, and what is given for its list holds.
-    fn has_given(&self, class: &ClassAt<T>, given: Given) -> bool
-        ensures stands { Decides result (IsStanding self.now class.now
-            × HoldsFor self.now class.now given) }
+    /// Whether a lineage is of this configuration, and its class is recorded by its loader (JVMS SE 8, 5.3).
+    fn has_lineage(&self, lineage: &Lineage<T>) -> bool
+        ensures stands { Decides result (IsStanding self.now lineage.now) }
         ensures kept { IsKept T.told self.now }
     {
-        if !self.has_class(class.config(), class.class()) {
-            return false;
-        }
-        match given {
-            Given::Nothing => true,
-            Given::Superclass => self.superclass_prepared(class.own()),
-        }
-    }
-
-    /// Whether the superclass of a class, if it has one, is prepared, as its loader has recorded it.
-    fn superclass_prepared(&self, row: &ClassRow<T>) -> bool
-        ensures { Decides result (ArePreparedAbove self.now row.now.class
-            (superclass_of (file_of row.now.file))) }
-    {
-        match row.file().super_name() {
-            None => true,
-            Some(_) => self.super_prepared(row, 0),
-        }
-    }
-
-    /// Whether this is the registry's configuration, and the class's loader has recorded it (JVMS SE 8, 5.3).
-    fn has_class(&self, config: &Config, class: &Class) -> bool
-        ensures stands { (l : Lined) → l.config ≡ config.now → l.own.class ≡ class.now
-            → Decides result (IsStanding self.now l) }
-        ensures kept { IsKept T.told self.now }
-    {
-        if !config.is_same(&self.config) {
+        let class = lineage.class();
+        if !lineage.config().is_same(&self.config) {
             return false;
         }
         has(&self.tables, class.loader, &class.name, class.loader)
@@ -290,15 +262,15 @@ impl<T: Told> Registry<T> {
         class_accessible(c.own(), d.class())
     }
 
-    /// Whether a class may be prepared, whose preparation asks for these equalities.
-    fn is_ready(&self, class: &ClassAt<T>, equalities: &[Equality]) -> bool
-        ensures ready { Decides result (IsReady self.now class.now (needs_of equalities.now)) }
+    /// Whether the class of a lineage may be prepared, whose preparation asks for these equalities.
+    fn is_ready(&self, lineage: &Lineage<T>, equalities: &[Equality]) -> bool
+        ensures ready { Decides result (IsReady self.now lineage.now (needs_of equalities.now)) }
         ensures kept { IsKept T.told self.now }
     {
-        if !self.has_class(class.config(), class.class()) {
+        if !self.has_lineage(lineage) {
             return false;
         }
-        if !self.supers_prepared(class.own()) {
+        if !self.supers_prepared(lineage.own()) {
             return false;
         }
         are_met(&self.book, self.met.as_slice(), equalities)
@@ -333,12 +305,14 @@ impl<T: Told> Registry<T> {
     }
 
     /// Keeps that the equality at a place of a list is met.
-    fn remember(&mut self, alloc: Global, place: usize, equality: &Equality)
-        requires met { Met (state_of self.old) (equal_need equality.now) }
+    fn remember(&mut self, alloc: Global, list: &[Equality], place: usize)
+        requires within { place < length list.now }
+        requires met { IfSome (slice_get list.now place)
+            (λ e. Met (state_of self.old) (equal_need e)) }
         ensures unchanged { self.new ≡ self.old }
         ensures kept { IsKept T.told self.new }
     {
-        note(alloc, &mut self.met, place, equality);
+        note(alloc, &mut self.met, list, place);
     }
 
     /// Imposes an equality that is not met, under a copy of its name.

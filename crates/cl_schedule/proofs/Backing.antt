@@ -7,8 +7,6 @@ use Rattle.cl_config.specs.Views.{Configured}
 use Rattle.cl_findings.specs.Findings.{Answered, Based, BasisStands, IsLookedUp, IsWithin, Stands}
 use Rattle.cl_hierarchy.specs.Drafts.{Drafted}
 use Rattle.cl_hierarchy.specs.Imposed.{Sprung, OfReference, OfPreparation, needs_of}
-use Rattle.cl_hierarchy.specs.declared.equalities.Given.{Given}
-use Rattle.cl_hierarchy.specs.declared.equalities.Given.TheVariants as givens
 use Rattle.cl_hierarchy.specs.Lineages.{Lined}
 use Rattle.cl_hierarchy.specs.Rows.{FitsAs, Rowed}
 use Rattle.cl_model.specs.declared.answer.Answer as rust
@@ -17,14 +15,14 @@ use Rattle.cl_model.specs.declared.request.Request.{Request}
 use Rattle.cl_model.specs.declared.request.Request.TheVariants as requests
 use Rattle.cl_model.specs.declared.settled.Settled.{Settled}
 use Rattle.cl_model.specs.Content.{Content}
-use Rattle.cl_model.specs.Classes.{class, Above, superclass_of, supers}
+use Rattle.cl_model.specs.Classes.{class, Above, supers}
 use Rattle.cl_model.specs.Machine.{Setting}
 use Rattle.cl_model.specs.States.{Need, AllMet, Refused, recorded_definer}
 use Rattle.cl_model.specs.Tables.{Bears}
 use Rattle.cl_model.specs.Views.{request_of, verdict_of}
 use Rattle.cl_model.proofs.Sound.{runs_are_sound}
 use Rattle.cl_model.proofs.Tables.{may_bear}
-use Rattle.cl_registry.specs.Imposing.{ArePreparedAbove, HoldsFor, IsReadyBy, IsStanding, OriginStands}
+use Rattle.cl_registry.specs.Imposing.{ArePreparedAbove, IsReadyBy, IsStanding, OriginStands}
 use Rattle.cl_registry.specs.Posting.{AnswerBacked, IsBacked}
 use Rattle.cl_registry.specs.References.{Cited, cited_by, settled_by}
 use Rattle.cl_registry.specs.Settling.{FindingSettles}
@@ -81,7 +79,7 @@ enter_later told old new d kept h may = record {
 
 -- ---- what a list was made from, and what is met
 
-pub all_met_later : (old new : Shown) (ns : List Need) → GoesOn old new → AllMet (state_of old) ns → AllMet (state_of new) ns
+all_met_later : (old new : Shown) (ns : List Need) → GoesOn old new → AllMet (state_of old) ns → AllMet (state_of new) ns
 all_met_later old new [] h all = tt
 all_met_later old new (n ∷ ns) h all = (met_goes old new n h all.0, all_met_later old new ns h all.1)
 
@@ -100,11 +98,7 @@ above_prepared_later old new c (a ∷ above) h all =
       above_prepared_later old new c above h all.1,
     )
 
-holds_later : (old new : Shown) (l : Lined) (given : Given) → GoesOn old new → HoldsFor old l given → HoldsFor new l given
-holds_later old new l givens.Nothing h is = tt
-holds_later old new l givens.Superclass h is = above_prepared_later old new l.own.class (superclass_of (file_of l.own.file)) h is
-
-pub stands_for_later : (old new : Shown) (o : Sprung) → GoesOn old new → OriginStands old o → OriginStands new o
+stands_for_later : (old new : Shown) (o : Sprung) → GoesOn old new → OriginStands old o → OriginStands new o
 stands_for_later old new (OfReference d c index) h stands = (
   standing_later old new d h stands.0,
   record {
@@ -113,11 +107,11 @@ stands_for_later old new (OfReference d c index) h stands = (
     accessible = stands.1.accessible;
   },
 )
-stands_for_later old new (OfPreparation l given) h stands = (standing_later old new l h stands.0, holds_later old new l given h stands.1)
+stands_for_later old new (OfPreparation l) h stands = standing_later old new l h stands
 
 ready_by_later : (old new : Shown) (o : Sprung) (ns : List Need) → GoesOn old new → IsReadyBy old o ns → IsReadyBy new o ns
 ready_by_later old new (OfReference d c index) ns h is = is
-ready_by_later old new (OfPreparation l given) ns h is = record {
+ready_by_later old new (OfPreparation l) ns h is = record {
   stands = standing_later old new l h is.stands;
   above = above_prepared_later old new l.own.class (supers (file_of l.own.file)) h is.above;
   imposed = all_met_later old new ns h is.imposed;

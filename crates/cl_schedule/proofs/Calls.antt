@@ -80,8 +80,8 @@ did_impose x new l k may imposes = by_entry (slice_get l.needs k) refl imposes
 
 pub did_mark : (x new : Shown) (o : Sprung) → MarksBy x new o → Did x new (PreparesBy o)
 did_mark x new (OfReference d c index) marks = absurd marks
-did_mark x new (OfPreparation l given) (inl same) = inl same.1
-did_mark x new (OfPreparation l given) (inr more) = inr (Prepare l.own.class, refl, goes_event x new (events.Prepare l.own.class) more.1 refl)
+did_mark x new (OfPreparation l) (inl same) = inl same.1
+did_mark x new (OfPreparation l) (inr more) = inr (Prepare l.own.class, refl, goes_event x new (events.Prepare l.own.class) more.1 refl)
 
 -- ---- what is told of a refusal
 

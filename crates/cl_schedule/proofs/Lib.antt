@@ -1,4 +1,3 @@
-pub mod Onward
 pub mod Histories
 pub mod Serving
 pub mod States

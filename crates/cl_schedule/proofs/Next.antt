@@ -50,7 +50,7 @@ step_within s other call = (refl, refl)
 
 prepares_call : (o : Sprung) (e : Step) → PreparesBy o e → IsOfService e
 prepares_call (OfReference d c index) e is = absurd is
-prepares_call (OfPreparation l given) e is = subst IsOfService (sym is) tt
+prepares_call (OfPreparation l) e is = subst IsOfService (sym is) tt
 
 pub step_of_call : {A : Type 0} (x : Shown) (u : Turn A) (e : Step) → IsStepOf x u e → IsOfService e
 step_of_call x (turn.Define d) e is = subst IsOfService (sym is) tt
@@ -104,7 +104,7 @@ impose_next g s r o e n wanted at is may =
 
 prepare_next : (g : Setting) (s : State) (r : Request) (o : Sprung) (e : Step) → IsPreparedNext g s r o → PreparesBy o e → May g s e → IsNextStep g s (request_of r) e
 prepare_next g s r (OfReference d c index) e next is may = absurd is
-prepare_next g s r (OfPreparation l given) e next is may = subst (IsNextStep g s (request_of r)) (sym is) (next (subst (May g s) is may).unprepared)
+prepare_next g s r (OfPreparation l) e next is may = subst (IsNextStep g s (request_of r)) (sym is) (next (subst (May g s) is may).unprepared)
 
 -- what a turn asks for comes next, wherever it may happen
 pub next_of : {A : Type 0} (g : Setting) (x : Shown) (r : Request) (t new : Tasked) (u : Turn A) (e : Step) → Follows g (state_of x) r u → KeepsRequest t new u → t.request ≡ Some r → IsStepOf x u e → May g (state_of x) e → IsNextStep g (state_of x) (request_of r) e

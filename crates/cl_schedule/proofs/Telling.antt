@@ -53,7 +53,7 @@ imposed_later old new (Some n) h so = met_goes old new (equal_need n) h so
 
 marked_later : (old new : Shown) (o : Sprung) → GoesOn old new → IsPreparedBy old o → IsPreparedBy new o
 marked_later old new (OfReference d c index) h so = so
-marked_later old new (OfPreparation l given) h so = prepared_later old new l.own.class h so
+marked_later old new (OfPreparation l) h so = prepared_later old new l.own.class h so
 
 -- ---- each reply to each call
 

@@ -1,4 +1,3 @@
-pub mod Ahead
 pub mod Blames
 pub mod Serving
 pub mod Rounds

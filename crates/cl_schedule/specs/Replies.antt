@@ -65,7 +65,7 @@ RepliesWhere bears x waits told = MatchOption told (bears → ⊥) (λ r. IsRepl
 -- the class whose preparation asked for a list is prepared by this step (5.4.2)
 abbrev pub PreparesBy : Sprung → Step → Type 0
 PreparesBy (OfReference d c index) e = ⊥
-PreparesBy (OfPreparation l given) e = e ≡ Prepare l.own.class
+PreparesBy (OfPreparation l) e = e ≡ Prepare l.own.class
 
 -- a finding settles its reference by this step (5.4.3)
 abbrev pub SettlesBy : Shown → Answered → Step → Type 0

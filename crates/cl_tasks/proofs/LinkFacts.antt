@@ -1,16 +1,16 @@
 -- What a link was told of the tables, and what follows of them.
-use Rattle.std.proofs.Common.{◌≡◌, ◌∙◌, ◌<◌, ◌+◌, ℕ, zero, suc, List, [], ◌∷◌, ◌++◌, length, map, Option, Some, sym, ap, subst, arith}
+use Rattle.std.proofs.Common.{◌≡◌, ◌∙◌, ◌<◌, ◌≤◌, ◌+◌, ℕ, zero, suc, Bool, true, false, not, eqb, List, [], ◌∷◌, ◌++◌, length, map, Option, Some, refl, sym, ap, subst, arith, get_or}
+use Rattle.std.proofs.lemmas.Bool.{eqb-true}
 use Rattle.std.specs.Prelude.{slice_get, take, unwrap_or, Contains, option_map}
 use Rattle.std.specs.List.{AllByRecursion}
 use Rattle.std.proofs.lemmas.Option.{slice_get-map}
 use Rattle.std.proofs.lemmas.List.{length_push}
 use Rattle.cl_model.specs.declared.class.Class.{Class}
 use Rattle.cl_model.specs.declared.need.Equality.{Equality}
-use Rattle.cl_model.specs.States.{AllMet, recorded_definer, IsRecorded, Met}
+use Rattle.cl_model.specs.States.{State, AllMet, recorded_definer, IsRecorded, Met}
 use Rattle.cl_model.specs.Tables.{IsConsistent}
 use Rattle.cl_model.proofs.Bind.{some_same}
 use Rattle.cl_hierarchy.specs.Imposed.{Listed, OfPreparation, Sprung, needs_of, equal_need}
-use Rattle.cl_hierarchy.specs.declared.equalities.Given.{Given}
 use Rattle.cl_hierarchy.specs.Lineages.{Lined, rows_in}
 use Rattle.cl_hierarchy.specs.Rows.{Rowed}
 use Rattle.cl_hierarchy.proofs.Ends.{at_length}
@@ -22,7 +22,6 @@ use Rattle.cl_tasks.specs.Stages.{chain_facts, class_in, classes_in, goal_facts,
 use Rattle.cl_tasks.specs.Tasks.{Fact, HasLineage, IsPrepared}
 use Rattle.cl_tasks.specs.declared.stage.Chain.{Chain}
 use Rattle.cl_tasks.proofs.Facts.{stand_met, met_stand, prepared_all}
-use Rattle.cl_hierarchy.proofs.Enough.{each_met, met_each}
 
 -- ---- lists of facts
 
@@ -63,16 +62,42 @@ taken_more P xs k a h e p =
     let one : suc k ≡ k + 1 = omega arith in
     subst (λ (n : ℕ). AllByRecursion P (take n xs)) one (taken_next P xs k a h e p)
 
-pub met_more : (x : Shown) (e : Listed) (i : ℕ) (y : Equality) → slice_get e.needs i ≡ Some y → AllMet (state_of x) (take i (needs_of e.needs)) → Met (state_of x) (equal_need y) → AllMet (state_of x) (take (i + 1) (needs_of e.needs))
-met_more x e i y at met one =
-    each_met (state_of x) (take (i + 1) (needs_of e.needs))
-    (taken_more (Met (state_of x)) (needs_of e.needs) i (equal_need y) (met_each (state_of x) (take i (needs_of e.needs)) met) (slice_get-map equal_need e.needs i ∙ ap (λ (o : Option Equality). option_map equal_need o) at) one)
-
 pub mapped_at : {A B : Type 0} (f : A → B) (xs : List A) (k : ℕ) (a : A) → slice_get xs k ≡ Some a → slice_get (map f xs) k ≡ Some (f a)
 mapped_at f xs k a e = slice_get-map f xs k ∙ ap (λ (o : Option _). option_map f o) e
 
+pub met_more : (x : Shown) (e : Listed) (i : ℕ) (y : Equality) → slice_get e.needs i ≡ Some y → AllMet (state_of x) (take i (needs_of e.needs)) → Met (state_of x) (equal_need y) → AllMet (state_of x) (take (i + 1) (needs_of e.needs))
+met_more x e i y at met one = taken_more (Met (state_of x)) (needs_of e.needs) i (equal_need y) met (mapped_at equal_need e.needs i y at) one
+
 pub whole_length : (l : Lined) → length (rows_in l) ≡ length l.above + 1
 whole_length l = length_push l.above l.own
+
+-- ---- equalities of a loader with itself
+
+met_own : (s : State) (es : List Equality) (i : ℕ) (a b : Equality) (apart : Bool) → i < length es → apart ≡ not (eqb (get_or es i a).one (get_or es i b).other) → apart ≡ false → AllMet s (take i (needs_of es)) → AllMet s (take (suc i) (needs_of es))
+met_own s [] i a b apart lt told off met = absurd (omega (arith, lt))
+met_own s (y ∷ es) zero a b apart lt told off met = (record { path = []; along = eqb-true y.one y.other (not_apart (eqb y.one y.other) (sym told ∙ off)) }, tt)
+  where
+    not_apart : (t : Bool) → not t ≡ false → t ≡ true
+    not_apart true e = refl
+    not_apart false e = absurd cc
+met_own s (y ∷ es) (suc i) a b apart lt told off met = (met.0, met_own s es i a b apart (omega (arith, lt)) told off met.1)
+
+-- one of them more is met
+pub own_met : (s : State) (es : List Equality) (i : ℕ) (a b : Equality) (apart : Bool) → i < length es → apart ≡ not (eqb (get_or es i a).one (get_or es i b).other) → apart ≡ false → AllMet s (take i (needs_of es)) → AllMet s (take (i + 1) (needs_of es))
+own_met s es i a b apart lt told off met =
+    let one : suc i ≡ i + 1 = omega arith in
+    subst (λ (n : ℕ). AllMet s (take n (needs_of es))) one (met_own s es i a b apart lt told off met)
+
+-- where so many of a list are met that it has no more
+pub until_end : (s : State) (es : List Equality) (at : ℕ) → length es ≤ at → AllMet s (take at (needs_of es)) → AllMet s (take (length es) (needs_of es))
+until_end s [] at le met = tt
+until_end s (y ∷ es) zero le met = absurd (omega (arith, le))
+until_end s (y ∷ es) (suc at) le met = (met.0, until_end s es at (omega (arith, le)) met.1)
+
+-- the same of another name of the list
+pub met_of_same : (s : State) (place at : ℕ) (xs ys : List Equality) → xs ≡ ys → (AllMet s (take place (needs_of xs)) → AllMet s (take at (needs_of xs))) → AllMet s (take place (needs_of ys)) → AllMet s (take at (needs_of ys))
+met_of_same s place at xs ys same more met =
+    subst (λ (es : List Equality). AllMet s (take at (needs_of es))) same (more (subst (λ (es : List Equality). AllMet s (take place (needs_of es))) (sym same) met))
 
 -- ---- classes of a lineage
 
@@ -135,13 +160,13 @@ pub list_imposed : {A : Type 0} (x : Shown) (k : Chain A) (e : Listed) (place : 
 list_imposed x k e place h =
     stand_met x (take place (needs_of e.needs)) (so_second x (traced_facts e) (imposed_facts e place) (so_second x (chain_facts k) (traced_facts e ++ imposed_facts e place) h))
 
-pub list_traced : {A : Type 0} (x : Shown) (k : Chain A) (e : Listed) (place : ℕ) (at : Lined) (given : Given) → e.origin ≡ OfPreparation at given → AreSo x (list_facts k e place) → IsTraced x at.own.class at
-list_traced x k e place at given is h =
-    let here : AreSo x (sprung_facts (OfPreparation at given)) = subst (λ (from : Sprung). AreSo x (sprung_facts from)) is (so_first x (traced_facts e) (imposed_facts e place) (so_second x (chain_facts k) (traced_facts e ++ imposed_facts e place) h)) in
+pub list_traced : {A : Type 0} (x : Shown) (k : Chain A) (e : Listed) (place : ℕ) (at : Lined) → e.origin ≡ OfPreparation at → AreSo x (list_facts k e place) → IsTraced x at.own.class at
+list_traced x k e place at is h =
+    let here : AreSo x (sprung_facts (OfPreparation at)) = subst (λ (from : Sprung). AreSo x (sprung_facts from)) is (so_first x (traced_facts e) (imposed_facts e place) (so_second x (chain_facts k) (traced_facts e ++ imposed_facts e place) h)) in
     here.0
 
-pub list_of : {A : Type 0} (x : Shown) (k : Chain A) (e : Listed) (place : ℕ) (at : Lined) (given : Given) → e.origin ≡ OfPreparation at given → AreSo x (chain_facts k) → IsTraced x at.own.class at → AllMet (state_of x) (take place (needs_of e.needs))
+pub list_of : {A : Type 0} (x : Shown) (k : Chain A) (e : Listed) (place : ℕ) (at : Lined) → e.origin ≡ OfPreparation at → AreSo x (chain_facts k) → IsTraced x at.own.class at → AllMet (state_of x) (take place (needs_of e.needs))
     → AreSo x (list_facts k e place)
-list_of x k e place at given is chain traced met =
+list_of x k e place at is chain traced met =
     so_both x (chain_facts k) (traced_facts e ++ imposed_facts e place) chain
     (so_both x (traced_facts e) (imposed_facts e place) (subst (λ (from : Sprung). AreSo x (sprung_facts from)) (sym is) (traced, tt)) (met_stand x (take place (needs_of e.needs)) met))

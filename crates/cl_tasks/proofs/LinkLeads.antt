@@ -1,8 +1,8 @@
 -- What each step of a link leads to, but for those that prepare a class.
-use Rattle.std.proofs.Common.{◌≡◌, ◌∙◌, ◌<◌, ◌≤◌, ◌+◌, ◌-◌, ◌*◌, ◌^◌, ℕ, zero, suc, Bool, List, [], ◌∷◌, drop, length, Option, Some, None, inl, refl, sym, ap, subst, arith}
+use Rattle.std.proofs.Common.{Global, ◌≡◌, ◌∙◌, ◌<◌, ◌≤◌, ◌+◌, ◌-◌, ◌*◌, ◌^◌, ℕ, zero, suc, Bool, List, [], ◌∷◌, ◌++◌, drop, length, map, Option, Some, inl, refl, sym, ap, subst, arith}
 use Rattle.std.specs.Prelude.{slice_get, option_map, unwrap_or, Contains}
+use Rattle.std.specs.declared.sync.Arc.{Arc}
 use Rattle.std.proofs.lemmas.List.{length-map}
-use Rattle.std.proofs.lemmas.Option.{slice_get-map}
 use Rattle.cl_model.specs.declared.answer.Answer.TheVariants as answers
 use Rattle.cl_model.specs.declared.class.Class.{Class}
 use Rattle.cl_model.specs.declared.request.Request as request
@@ -23,11 +23,12 @@ use Rattle.cl_findings.specs.Findings.{Answered, IsLookedUp, loader_of, unground
 use Rattle.cl_findings.proofs.Links.{lineage_classes}
 use Rattle.cl_registry.specs.Posting.{IsBacked}
 use Rattle.cl_registry.specs.Tables.{NamesLoaders, Shown, records_of, state_of}
+use Rattle.cl_registry.specs.Traced.{IsTraced}
 use Rattle.cl_registry.proofs.Linked.{prepared_comes}
 use Rattle.cl_registry.proofs.Named.{recorded_is_named}
 use Rattle.cl_tasks.specs.Calls.{Calls, calls_in, equalities_in, link_calls, own_homes, past_loads}
 use Rattle.cl_tasks.specs.Follows.{CallsWithin, ServedIn}
-use Rattle.cl_tasks.specs.Linking.{ChainTold, DoneTold, GoalTold, MarkedTold, PreparedTold, WholeTold}
+use Rattle.cl_tasks.specs.Linking.{ChainTold, DoneTold, GoalTold, LineageTold, MarkedTold, PreparedTold, WholeTold}
 use Rattle.cl_tasks.specs.Measures.{chain_left, each_left, linking_left, most, prepared_left, whole_left}
 use Rattle.cl_tasks.specs.Rooms.{asking_room, chain_room, last_room, listed_room, prepared_room}
 use Rattle.cl_tasks.specs.Stages.{IsChain, IsGoal, behind, chain_calls, class_in, classes_in}
@@ -35,11 +36,12 @@ use Rattle.cl_tasks.specs.Steps.{LeadsBy}
 use Rattle.cl_tasks.specs.declared.stage.Chain.{Chain}
 use Rattle.cl_tasks.specs.declared.stage.Goal.{Goal}
 use Rattle.cl_tasks.specs.declared.stage.Link.TheVariants as links
+use Rattle.cl_tasks.specs.declared.stage.Next.{Next}
 use Rattle.cl_tasks.specs.declared.stage.Stage.TheVariants as stages
 use Rattle.cl_tasks.specs.declared.turn.Turn.TheVariants as turn
 use Rattle.cl_tasks.specs.Waits as waits
-use Rattle.cl_tasks.proofs.Lead.{HasPost, leads_post}
-use Rattle.cl_tasks.proofs.LinkFacts.{chain_goal, chain_of, chain_prepared, chain_whole, class_last, class_there, none, own_recorded, taken_more, whole_length}
+use Rattle.cl_tasks.proofs.Lead.{HasPost, leads_by, leads_post}
+use Rattle.cl_tasks.proofs.LinkFacts.{chain_goal, chain_of, chain_prepared, chain_whole, class_last, class_there, none, own_recorded, taken_more, traced_recorded, whole_length}
 use Rattle.cl_tasks.proofs.LinkPlan.{chain_within}
 use Rattle.cl_tasks.proofs.MemberFacts.{traced_as}
 use Rattle.cl_tasks.specs.Turns.{IsOf}
@@ -161,6 +163,46 @@ ask_leads told c k d chain is = record {
   follows = λ s x served h. tt;
 }
 
+pub trace_leads : {A : Type 0} (told : Option Content) (c : Configured) (k : Chain A) (d : Class) → IsChain c k → d ≡ class_in k.whole k.place
+    → LeadsBy told c k.goal.q k.goal.request (chain_room k) (ChainTold k) (record { stage = stages.Link (links.Tracing k); turn = turn.Lineage d })
+trace_leads told c k d chain is = record {
+  kept = chain;
+  number = refl;
+  asks = ap (λ (e : Class). waits.Tracing e) (sym is);
+  serves = refl;
+  left = one_more (chain_left (behind k));
+  calls = stay told c (ChainTold k) k.goal.request (past_loads 0 0 (chain_calls k.whole k.place + 1));
+  keeps = λ x h. record { frames = tt; facts = h };
+  backed = λ x config names fine h. subst (λ (e : Class). IsRecorded (state_of x) e) (sym is) (traced_recorded x k.whole.own.class k.whole k.place (chain_whole x k h) chain.within);
+  follows = λ s x served h. tt;
+}
+
+-- ---- the last class, whose lineage is the whole
+
+last_place : {A : Type 0} (c : Configured) (k : Chain A) → IsChain c k → length k.whole.above ≤ k.place → class_in k.whole k.place ≡ k.whole.own.class
+last_place c k chain le =
+    let many = whole_length k.whole in
+    let lt = chain.within in
+    let at : k.place ≡ length k.whole.above = omega (arith, many, lt, le) in
+    ap (λ (p : ℕ). class_in k.whole p) at ∙ class_last k.whole
+
+pub whole_of : {A : Type 0} (c : Configured) (k : Chain A) (l : Lined) → IsChain c k → length k.whole.above ≤ k.place → l ≡ k.whole → IsOf c (class_in k.whole k.place) l
+whole_of c k l chain le same = subst (λ (w : Lined). IsOf c (class_in k.whole k.place) w) (sym same) (record { class = sym (last_place c k chain le); config = chain.whole.config })
+
+-- a step that goes on from the whole asks for no lineage
+pub whole_leads : {A : Type 0} {n : Next A} (told : Option Content) (c : Configured) (k : Chain A) (l : Lined) → IsChain c k → length k.whole.above ≤ k.place → l ≡ k.whole
+    → LeadsBy told c k.goal.q k.goal.request (listed_room k) (LineageTold k l) n → LeadsBy told c k.goal.q k.goal.request (chain_room k) (ChainTold k) n
+whole_leads told c k l chain le same next =
+    leads_by (chain_room k) (ChainTold k) next (one_turn_less (chain_left (behind k)))
+    (fewer_calls told c (ChainTold k) k.goal.request 0 (chain_calls k.whole k.place) (chain_calls k.whole k.place + 1) (no_call (chain_calls k.whole k.place)))
+    (λ x h. record { before = h; now = subst (λ (w : Lined). IsTraced x (class_in k.whole k.place) w) (sym same) (subst (λ (d : Class). IsTraced x d k.whole) (sym (last_place c k chain le)) (chain_whole x k h)) })
+  where
+    one_turn_less : (a : ℕ) → a ≤ a + 1
+    one_turn_less a = omega arith
+
+    no_call : (a : ℕ) → 0 + a ≤ a + 1
+    no_call a = omega arith
+
 abbrev pub first_of : {A : Type 0} → Goal A → Lined → Chain A
 first_of g whole = record { goal = g; whole = whole; place = 0 }
 
@@ -176,14 +218,10 @@ marked_told c x k chain h =
     (taken_more (Contains (state_of x).prepared) (classes_in k.whole) k.place (class_in k.whole k.place) (chain_prepared x k h.before) (class_there k.whole k.place chain.within) h.now)
 
 pub last_told : {A : Type 0} (c : Configured) (x : Shown) (k : Chain A) → IsChain c k → length k.whole.above ≤ k.place → MarkedTold k x → DoneTold k.goal x
-last_told c x k chain le h =
-    let many = whole_length k.whole in
-    let lt = chain.within in
-    let at : k.place ≡ length k.whole.above = omega (arith, many, lt, le) in
-    record {
-      before = chain_goal x k h.before;
-      now = subst (λ (d : Class). Contains (state_of x).prepared d) (ap (λ (p : ℕ). class_in k.whole p) at ∙ class_last k.whole ∙ chain.whole.class) h.now;
-    }
+last_told c x k chain le h = record {
+  before = chain_goal x k h.before;
+  now = subst (λ (d : Class). Contains (state_of x).prepared d) (last_place c k chain le ∙ chain.whole.class) h.now;
+}
 
 pub first_chain : {A : Type 0} (c : Configured) (g : Goal A) (whole : Lined) → IsGoal c g → IsOf c g.class.value.class whole → IsChain c (first_of g whole)
 first_chain c g whole goal of = let many = whole_length whole in record { goal = goal; whole = of; within = omega (arith, many) }
@@ -191,11 +229,19 @@ first_chain c g whole goal of = let many = whole_length whole in record { goal =
 pub next_chain : {A : Type 0} (c : Configured) (k : Chain A) → IsChain c k → k.place < length k.whole.above → IsChain c (next_of k)
 next_chain c k chain lt = let many = whole_length k.whole in record { goal = chain.goal; whole = chain.whole; within = omega (arith, many, lt) }
 
-pub row_class : (l : Lined) (place : ℕ) (r : Rowed) → slice_get (rows_in l) place ≡ Some r → class_in l place ≡ r.class
-row_class l place r e = ap (λ (o : Option Class). unwrap_or o l.own.class) (slice_get-map (λ (y : Rowed). y.class) (rows_in l) place ∙ ap (λ (o : Option Rowed). option_map (λ (y : Rowed). y.class) o) e)
-
-pub no_row : (l : Lined) (place : ℕ) → slice_get (rows_in l) place ≡ None → class_in l place ≡ l.own.class
-no_row l place e = ap (λ (o : Option Class). unwrap_or o l.own.class) (slice_get-map (λ (y : Rowed). y.class) (rows_in l) place ∙ ap (λ (o : Option Rowed). option_map (λ (y : Rowed). y.class) o) e)
+-- the class at a place is that of the row above there, if there is one
+pub class_told : (l : Lined) (rows : List (Arc Rowed Global)) (place : ℕ) (o : Option (Arc Rowed Global)) → map (λ r. r.value) rows ≡ l.above → slice_get rows place ≡ o
+    → class_in l place ≡ unwrap_or (option_map (λ (r : Arc Rowed Global). r.value.class) o) l.own.class
+class_told l rows place o are at =
+    ap (λ (rs : List Rowed). unwrap_or (slice_get (map (λ (r : Rowed). r.class) (rs ++ l.own ∷ [])) place) l.own.class) (sym are) ∙ within rows place
+    ∙ ap (λ (x : Option (Arc Rowed Global)). unwrap_or (option_map (λ (r : Arc Rowed Global). r.value.class) x) l.own.class) at
+  where
+    within : (rs : List (Arc Rowed Global)) (k : ℕ) → unwrap_or (slice_get (map (λ (r : Rowed). r.class) (map (λ (r : Arc Rowed Global). r.value) rs ++ l.own ∷ [])) k) l.own.class
+        ≡ unwrap_or (option_map (λ (r : Arc Rowed Global). r.value.class) (slice_get rs k)) l.own.class
+    within [] zero = refl
+    within [] (suc k) = refl
+    within (r ∷ rs) zero = refl
+    within (r ∷ rs) (suc k) = within rs k
 
 -- ---- how many calls are left
 

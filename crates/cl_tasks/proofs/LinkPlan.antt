@@ -22,10 +22,8 @@ use Rattle.cl_model.proofs.Planned.{one_lineage, one_plan}
 use Rattle.cl_model.proofs.Progress.{IsKept, lineage_kept}
 use Rattle.cl_model.proofs.Trees.{lineage_is_derived}
 use Rattle.cl_model.proofs.Closed.{all_left, all_right}
-use Rattle.cl_hierarchy.specs.Imposed.{AreEnough, constraints_above}
 use Rattle.cl_hierarchy.specs.Lineages.{IsInOrder, Lined, kin_of, rows_in}
 use Rattle.cl_hierarchy.specs.Rows.{Rowed}
-use Rattle.cl_hierarchy.proofs.MetAbove.{front_met}
 use Rattle.cl_findings.specs.Findings.{loader_of}
 use Rattle.cl_findings.proofs.Answered.{linked_all}
 use Rattle.cl_findings.proofs.Links.{lineage_classes, next_in, split_at}
@@ -44,7 +42,6 @@ pub record IsThere (g : Setting) (s : State) (loader : ℕ) (l at : Lined) (plac
   pub split : lineage (kin_of l) ≡ front ++ kin_of at ∷ behind
   pub long : length front ≡ place
   pub linked : AllByRecursion (IsLinkedIn s) front
-  pub above : AllMet s (constraints_above (kin_of at))
 
 -- so many are taken of a list that has one more
 pub taken_long : {A : Type 0} (xs : List A) (place : ℕ) (a : A) → slice_get xs place ≡ Some a → length (take place xs) ≡ place
@@ -70,7 +67,6 @@ there g s loader l at place sound order lin other rec here prepared =
     let kept_at = (all_right (IsKept w s) parts.front (parts.at ∷ parts.behind) kept).0 in
     let kept_front = all_left (IsKept w s) parts.front (parts.at ∷ parts.behind) kept in
     let linked = linked_all g s parts.front sound kept_front (subst (λ (cs : List Class). AllByRecursion (Contains s.prepared) cs) (sym (parts.are ∙ ap (λ (cs : List Class). take place cs) list)) prepared) in
-    let above = front_met w s (kin_of l) parts.front parts.at parts.behind lin parts.split (all_map (IsKept w s) (IsLineage w) (λ b h. h.1) parts.front kept_front) kept_at.1 (imposed_of s parts.front linked) in
     let same : parts.at ≡ kin_of at = one_lineage w at.own.class parts.at (kin_of at) (subst (λ (c : Class). HasLineage w c parts.at) parts.class_is (lineage_is_derived w parts.at kept_at.1)) (lineage_is_derived w (kin_of at) other) in
     record {
       kept = rec;
@@ -80,7 +76,6 @@ there g s loader l at place sound order lin other rec here prepared =
       split = parts.split ∙ ap (λ (k : Kin). parts.front ++ k ∷ parts.behind) same;
       long = sym (length-map parts.front (λ (k : Kin). k.class)) ∙ ap (λ (cs : List Class). length cs) parts.are ∙ taken_long (classes ks) place at.own.class stands;
       linked = linked;
-      above = subst (λ (k : Kin). AllMet s (constraints_above k)) same above;
     }
 
 -- the calls of a lineage from a place on are those of the class there, and those behind it
@@ -109,9 +104,9 @@ module _ (g : Setting) (s : State) (r : request.Request) (l at : Lined) (place :
   goes = link_goes_on g.world s (loader_of r) l.own.class.loader l.own.class.name (kin_of l) sound.closed here.kept here.has
 
   -- an equality of the class comes next, where those before it are met
-  pub equality_next : (known needs : List Need) (k : ℕ) (n : Need) → AreEnough known (constraints_of (kin_of at)) needs → AllMet s known → slice_get needs k ≡ Some n → AllMet s (take k needs) → IsWanted g s r n
-  equality_next known needs k n are held there met =
-      let next : IsNext s (constraints_of (kin_of at)) n = are.next s n held (next_at s needs k n there met) in
+  pub equality_next : (needs : List Need) (k : ℕ) (n : Need) → needs ≡ constraints_of (kin_of at) → slice_get needs k ≡ Some n → AllMet s (take k needs) → IsWanted g s r n
+  equality_next needs k n are there met =
+      let next : IsNext s (constraints_of (kin_of at)) n = subst (λ (ns : List Need). IsNext s ns n) are (next_at s needs k n there met) in
       let all : IsNext s (flat_map constraints_of (lineage (kin_of l))) n =
       subst (λ (ks : List Kin). IsNext s (flat_map constraints_of ks) n) (sym here.split) (next_in s here.front here.behind (kin_of at) n (imposed_of s here.front here.linked) next) in
       record {

@@ -14,7 +14,7 @@ use Rattle.cl_model.specs.Views.{need_of}
 use Rattle.cl_model.proofs.Bind.{some_same}
 use Rattle.cl_config.specs.Views.{Configured}
 use Rattle.cl_hierarchy.specs.Imposed.{Listed, Sprung, equal_need}
-use Rattle.cl_hierarchy.specs.Lineages.{Lined}
+use Rattle.cl_hierarchy.specs.Lineages.{IsInOrder, Lined}
 use Rattle.cl_hierarchy.specs.Rows.{Rowed}
 use Rattle.cl_registry.specs.Imposing.{IsPreparedBy}
 use Rattle.cl_registry.specs.Tables.{Shown, state_of}
@@ -22,9 +22,9 @@ use Rattle.cl_registry.proofs.Schedules.{some_at}
 use Rattle.cl_tasks.specs.Deriving.{IsPast}
 use Rattle.cl_tasks.specs.Calls.{equalities_in, own_homes, past_loads}
 use Rattle.cl_tasks.specs.Follows.{CallsWithin, EndsAsRefused, Posts, Tells}
-use Rattle.cl_tasks.specs.Linking.{AskedTold, ListTold, MarkedTold, PreparedTold, RefusedTold, WholeTold}
+use Rattle.cl_tasks.specs.Linking.{AskedTold, LineageTold, ListTold, MarkedTold, PreparedTold, RefusedTold, WholeTold}
 use Rattle.cl_tasks.specs.Measures.{chain_left, linking_left, prepared_left, whole_left}
-use Rattle.cl_tasks.specs.Rooms.{chain_room, last_room, linking_room, marked_room, prepared_room, whole_room}
+use Rattle.cl_tasks.specs.Rooms.{chain_room, last_room, linking_room, listed_room, marked_room, prepared_room, whole_room}
 use Rattle.cl_tasks.specs.Stages.{IsAtPlace, IsChain, behind, chain_calls, chain_facts, class_in, linking_at, list_calls, task_at}
 use Rattle.cl_tasks.specs.Steps.{IsPlain, LeadsBy, Steps, task_room}
 use Rattle.cl_tasks.specs.Tasks.{Stands}
@@ -38,7 +38,7 @@ use Rattle.cl_tasks.specs.declared.turn.Reply.TheVariants as reply
 use Rattle.cl_tasks.proofs.Deriving.{past_derives}
 use Rattle.cl_tasks.proofs.Lead.{HasPost, plain_steps}
 use Rattle.cl_tasks.proofs.LinkFacts.{list_chain, list_imposed, list_of, list_traced, row_there, met_more}
-use Rattle.cl_tasks.proofs.LinkLeads.{fewer_calls, post_calls, post_room}
+use Rattle.cl_tasks.proofs.LinkLeads.{chain_some_calls, fewer_calls, post_calls, post_room}
 use Rattle.std.proofs.lemmas.Option.{none-some}
 
 same_turns : (m : ℕ) → m ≤ m
@@ -102,6 +102,15 @@ whole_steps told c g whole n l plain past =
     plain_steps (linking_at c (links.TracingWhole g)) (reply.Lineage whole) n refl refl refl l (same_turns whole_left) (one_made told c _ g.request 2 1 2)
     (λ x h. record { before = h.before.facts; now = h.now }) tt tt (λ h. tt) (past_derives _ [] n.stage past) tt plain
 
+pub traced_steps : {A : Type 0} (told : Option Content) (c : Configured) (k : Chain A) (lineage : Lined) (n : Next A) → LeadsBy told c k.goal.q k.goal.request (listed_room k) (LineageTold k lineage) n → IsPlain n.turn → IsPast n.stage
+    → Steps told (linking_at c (links.Tracing k)) (reply.Lineage lineage) n
+traced_steps told c k lineage n l plain past =
+    plain_steps (linking_at c (links.Tracing k)) (reply.Lineage lineage) n refl refl refl l (same_turns (chain_left (behind k))) (fewer_calls told c _ k.goal.request 1 (chain_calls k.whole k.place) (chain_calls k.whole k.place + 1) (one_traced (chain_calls k.whole k.place)))
+    (λ x h. record { before = h.before.facts; now = h.now }) tt tt (λ h. tt) (past_derives _ [] n.stage past) tt plain
+  where
+    one_traced : (a : ℕ) → 1 + a ≤ a + 1
+    one_traced a = omega arith
+
 -- ---- equalities
 
 imposed_told : {A : Type 0} (k : Chain A) (e : Listed) (i : ℕ) (x : Shown) (o : Option Equality) → slice_get e.needs i ≡ o → i < length e.needs → IsAtPlace k e → ListTold k e i x → IfSome o (λ n. Met (state_of x) (equal_need n)) → ListTold k e (i + 1) x
@@ -110,7 +119,7 @@ imposed_told k e i x None at lt place h one = absurd (past e.needs i at lt)
     past : (ys : List Equality) (j : ℕ) → slice_get ys j ≡ None → j < length ys → ⊥
     past ys j f g = let s = some_at ys j g in none-some s.0 (sym f ∙ s.1)
 imposed_told k e i x (Some y) at lt place h one =
-    list_of x k e (i + 1) place.at place.given place.prepares (list_chain x k e i h) (list_traced x k e i place.at place.given place.prepares h) (met_more x e i y at (list_imposed x k e i h) one)
+    list_of x k e (i + 1) place.at place.prepares (list_chain x k e i h) (list_traced x k e i place.at place.prepares h) (met_more x e i y at (list_imposed x k e i h) one)
 
 next_less : (a m p : ℕ) → p < m → a + ((m - (p + 1)) + 1) + 1 ≤ a + ((m - p) + 1)
 next_less a m p lt = omega (arith, lt)
@@ -172,6 +181,12 @@ asked_post c k = post_room (chain_left (behind k) + 1) 1 0 0 (chain_calls k.whol
   where
     two_calls : (a : ℕ) → 1 + 1 ≤ a + 2
     two_calls a = omega arith
+
+pub traced_post : {A : Type 0} (c : Configured) (k : Chain A) → IsChain c k → IsInOrder k.whole → HasPost (task_room (linking_at c (links.Tracing k)))
+traced_post c k chain order = post_room (chain_left (behind k)) 1 0 0 (chain_calls k.whole k.place + 1) (one_and_more (chain_calls k.whole k.place) (chain_some_calls k.whole k.place order chain.within))
+  where
+    one_and_more : (a : ℕ) → 1 ≤ a → 1 + 1 ≤ a + 1
+    one_and_more a le = omega (arith, le)
 
 -- and where its equalities are imposed
 pub list_post : (turns a m : ℕ) → HasPost (record { turns = turns; made = 1; calls = past_loads 0 0 (a + (m + 2)) })

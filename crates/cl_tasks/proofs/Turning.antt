@@ -67,6 +67,7 @@ link_has : {A : Type 0} (c : Configured) (l : Link A) → HasRequest (linking_at
 link_has c (links.LookingPrepared g) = (g.request, refl)
 link_has c (links.TracingWhole g) = (g.request, refl)
 link_has c (links.Asking k) = (k.goal.request, refl)
+link_has c (links.Tracing k) = (k.goal.request, refl)
 link_has c (links.Imposing k e i) = (k.goal.request, refl)
 link_has c (links.Marking k e) = (k.goal.request, refl)
 
@@ -98,6 +99,7 @@ link_config : {A : Type 0} (c : Configured) (l : Link A) → (linking_at c l).co
 link_config c (links.LookingPrepared g) = refl
 link_config c (links.TracingWhole g) = refl
 link_config c (links.Asking k) = refl
+link_config c (links.Tracing k) = refl
 link_config c (links.Imposing k e i) = refl
 link_config c (links.Marking k e) = refl
 

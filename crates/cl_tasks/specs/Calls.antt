@@ -116,7 +116,7 @@ abbrev pub reference_calls : Calls
 reference_calls = past_loads 0 1 4
 
 -- past the load of a request's own class: the post; before it, of a resolution, a look at the reference and one for its class; of a link, a look whether the
--- class is prepared, its lineage, the equalities, for each class of the lineage room for its lineage, and its preparation, or one look alone, and one more look, at the
+-- class is prepared, its lineage, the equalities, for each class of the lineage its lineage and its preparation, or one look alone, and one more look, at the
 -- first class that is not prepared (5.3, 5.4, 5.4.3)
 abbrev pub own_calls : Request → Calls
 own_calls (requests.Load loader name) = past_loads 0 0 1
@@ -136,7 +136,7 @@ while_loading absent hand more n = record n {
 abbrev pub all_calls : Request → Calls
 all_calls r = while_loading [] [] 1 (own_calls r)
 
--- of these classes of a lineage, each with room for its lineage, its equalities and its preparation (5.4.2)
+-- of these classes of a lineage, each with its lineage, its equalities and its preparation (5.4.2)
 abbrev pub link_calls : List Kin → ℕ
 link_calls [] = 0
 link_calls (k ∷ ks) = (length (constraints_of k) + 2) + link_calls ks

@@ -107,7 +107,7 @@ pub record IsWanted (g : Setting) (s : State) (r : Request) (n : Need) : Type 0 
 -- the preparation of a class is the next step of the request's service, unless it is prepared (5.4.2)
 abbrev pub IsPreparedNext : Setting → State → Request → Sprung → Type 0
 IsPreparedNext g s r (OfReference d c index) = ⊥
-IsPreparedNext g s r (OfPreparation l given) = (Contains s.prepared l.own.class → ⊥)
+IsPreparedNext g s r (OfPreparation l) = (Contains s.prepared l.own.class → ⊥)
     → IsNextStep g s (request_of r) (Prepare l.own.class)
 
 -- what the reference of the request's class is settled to is the next step of its service, unless it is settled (5.4.3)

@@ -66,7 +66,7 @@ reference_left = named_left + left_at Fresh [] 0
 abbrev pub checking_left : ℕ
 checking_left = reference_left + 1
 
--- a class of a lineage has no more turns than these: for its equalities, its preparation, and more (5.4.2)
+-- a class of a lineage has no more turns than these: for its lineage, its equalities, its preparation (5.4.2)
 abbrev pub each_left : ℕ
 each_left = most + 3
 

@@ -96,7 +96,7 @@ abbrev pub asking_room : {A : Type 0} → Chain A → Room
 asking_room k = room_of (chain_left (behind k) + 2)
     (past_loads 0 0 (chain_calls k.whole k.place + 2))
 
--- the same where that at the place is not (5.4)
+-- the same where that at the place is not, or is asked for its lineage otherwise (5.4)
 abbrev pub chain_room : {A : Type 0} → Chain A → Room
 chain_room k = room_of (chain_left (behind k) + 1)
     (past_loads 0 0 (chain_calls k.whole k.place + 1))

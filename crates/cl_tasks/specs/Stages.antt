@@ -211,7 +211,7 @@ behind c = length (rows_in c.whole) - c.place
 -- the lineages that a list was made from (5.4.2, 5.4.3)
 abbrev pub sprung_facts : Sprung → List Fact
 sprung_facts (OfReference d c index) = HasLineage d ∷ HasLineage c ∷ []
-sprung_facts (OfPreparation l given) = HasLineage l ∷ []
+sprung_facts (OfPreparation l) = HasLineage l ∷ []
 
 -- the same of a list
 abbrev pub traced_facts : Listed → List Fact
@@ -234,6 +234,9 @@ linking_at c (links.TracingWhole g) = settled_down c g.q g.request
 linking_at c (links.Asking k) = settled_down c k.goal.q k.goal.request
     (waits.LookingPrepared (class_in k.whole k.place)) (chain_facts k) (chain_left (behind k) + 1)
     (past_loads 0 0 (chain_calls k.whole k.place + 2))
+linking_at c (links.Tracing k) = settled_down c k.goal.q k.goal.request
+    (waits.Tracing (class_in k.whole k.place)) (chain_facts k) (chain_left (behind k))
+    (past_loads 0 0 (chain_calls k.whole k.place + 1))
 linking_at c (links.Imposing k e i) =
     settled_down c k.goal.q k.goal.request (waits.Imposing e.value i)
     (chain_facts k ++ (traced_facts e.value ++ imposed_facts e.value i))
@@ -380,6 +383,7 @@ abbrev pub IsLinking : {A : Type 0} → Configured → Link A → Type 0
 IsLinking c (links.LookingPrepared g) = IsGoal c g
 IsLinking c (links.TracingWhole g) = IsGoal c g
 IsLinking c (links.Asking k) = IsChain c k
+IsLinking c (links.Tracing k) = IsChain c k
 IsLinking c (links.Imposing k e i) = IsChain c k × IsAtPlace k e.value × (i < length e.value.needs)
 IsLinking c (links.Marking k e) = IsChain c k × IsAtPlace k e.value
 

@@ -11,6 +11,7 @@ ghost use Rattle.cl_tasks.specs.Stages.{linking_at, loading_at, next_loader, res
 ghost use Rattle.cl_tasks.specs.Turns.{Expects, IsReplyTo, equality_at};
 ghost use Rattle.cl_tasks.specs.Waits as waits;
 
+use crate::link::class_at;
 use crate::stage::{Link, Load, Resolution, Stage};
 use crate::turn::Reply;
 use cl_config::Config;
@@ -254,6 +255,7 @@ fn link_expects<T: Told>(config: &Config, link: &Link<T>, reply: &Reply<T>) -> b
         Link::LookingPrepared(_) => is_to_look_prepared(reply),
         Link::TracingWhole(goal) => is_to_trace(config, goal.class.class(), reply),
         Link::Asking(_) => is_to_look_prepared(reply),
+        Link::Tracing(chain) => is_to_trace(config, class_at(&chain.whole, chain.place), reply),
         Link::Imposing(_, list, place) => is_to_impose(list, *place, reply),
         Link::Marking(_, list) => is_to_mark(list, reply),
     }

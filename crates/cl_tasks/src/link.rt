@@ -1,12 +1,9 @@
 //! A request to link a class that is recorded: each class of its lineage in order, its loading constraints one by one, and
 //! then that it is prepared; those that are prepared already, as many as stand first, are passed (JVMS SE 8, 5.4, 5.4.2).
 
-ghost use Rattle.std.specs.Option.{option_map};
-ghost use Rattle.std.specs.Prelude.{◌≡◌, ◌≤◌, Some, IfOk, length, slice_get, true};
-ghost use Rattle.cl_hierarchy.specs.ClassesAt.{lined_at};
-ghost use Rattle.cl_hierarchy.specs.Imposed.{OfPreparation};
-ghost use Rattle.cl_hierarchy.specs.declared.equalities.Given.TheVariants as givens;
-ghost use Rattle.cl_hierarchy.specs.Lineages.{rows_in};
+ghost use Rattle.std.specs.Prelude.{◌≡◌, ◌≤◌, Some, IfOk, length, take, true};
+ghost use Rattle.cl_hierarchy.specs.Imposed.{OfPreparation, needs_of};
+ghost use Rattle.cl_model.specs.States.{AllMet, State};
 ghost use Rattle.cl_model.specs.Views.{need_of};
 ghost use Rattle.cl_model.specs.declared.answer.Answer.TheVariants as answers;
 ghost use Rattle.cl_model.specs.declared.verdict.Verdict.TheVariants as verdicts;
@@ -23,9 +20,9 @@ use crate::stage::{Chain, Goal, Link, Next, Stage};
 use crate::turn::Turn;
 use cl_config::Config;
 use cl_findings::{Finding, bring_lineages};
-use cl_hierarchy::{ClassRow, Equalities, Given, Lineage};
+use cl_hierarchy::{Equalities, Lineage};
 use cl_model::{Class, Need, Told};
-use cl_preparation::{Preparations, fewer_constraints_of};
+use cl_preparation::constraints_of;
 use std::alloc::{AllocError, Global};
 use std::sync::Arc;
 
@@ -93,10 +90,9 @@ pub(crate) fn take_whole<T: Told>(
     ensures plain { IsPlain result.turn }
     ensures past { IsPast result.stage }
 {
-    let whole = Preparations::of(whole);
     // brings that a `usize` counts them, and what the lineage keeps
     let _ = count_rows(&whole);
-    let _ = whole.lineage();
+    let _ = whole.class();
     ask(
         alloc,
         config,
@@ -109,34 +105,19 @@ pub(crate) fn take_whole<T: Told>(
 }
 
 /// How many classes stand above the class of a lineage.
-fn count_rows<T: Told>(whole: &Preparations<T>) -> usize
+fn count_rows<T: Told>(whole: &Lineage<T>) -> usize
     ensures { result ≡ length whole.now.above }
 {
-    whole.lineage().above().len()
-}
-
-/// The row at a place of a lineage, if there is one.
-fn row_at<T: Told>(whole: &Preparations<T>, place: usize) -> Option<&Arc<ClassRow<T>>>
-    ensures { option_map (λ r. r.now.value) result ≡ slice_get (rows_in whole.now) place }
-{
-    let above = whole.lineage().above();
-    if place == above.len() {
-        return Some(whole.lineage().own());
-    }
-    above.get(place)
+    whole.above().len()
 }
 
 /// The class at a place of a lineage; the class itself stands last.
-fn class_at<T: Told>(
-    alloc: Global,
-    whole: &Preparations<T>,
-    place: usize,
-) -> Result<Class, AllocError>
-    ensures { IfOk result (λ c. c ≡ class_in whole.now place) }
+pub(crate) fn class_at<T: Told>(whole: &Lineage<T>, place: usize) -> &Class
+    ensures { result.now ≡ class_in whole.now place }
 {
-    match row_at(whole, place) {
-        Some(row) => row.class().try_clone(alloc),
-        None => whole.lineage().class().try_clone(alloc),
+    match whole.above().get(place) {
+        Some(row) => row.class(),
+        None => whole.class(),
     }
 }
 
@@ -151,7 +132,7 @@ fn ask<T: Told>(alloc: Global, config: &Arc<Config>, chain: Chain<T>) -> Next<T>
     if chain.place >= count_rows(&chain.whole) {
         return trace(alloc, config, chain);
     }
-    let Ok(class) = class_at(alloc, &chain.whole, chain.place) else {
+    let Ok(class) = class_at(&chain.whole, chain.place).try_clone(alloc) else {
         return give_up(chain);
     };
     Next {
@@ -174,37 +155,9 @@ pub(crate) fn take_asked<T: Told>(
     ensures past { IsPast result.stage }
 {
     if !prepared {
-        return trace_first(alloc, config, chain);
+        return trace(alloc, config, chain);
     }
     pass(alloc, config, chain)
-}
-
-/// The same of the first class that is not prepared: those from its place on are, one after another, so that a survey of the
-/// lineage may spare each a look at all above it.
-fn trace_first<T: Told>(alloc: Global, config: &Arc<Config>, chain: Chain<T>) -> Next<T>
-    requires chain { IsChain config.now.value chain }
-    ensures leads { LeadsBy T.told config.now.value chain.goal.q chain.goal.request
-        (chain_room chain) (ChainTold chain) result }
-    ensures plain { IsPlain result.turn }
-    ensures past { IsPast result.stage }
-{
-    let Chain {
-        goal,
-        whole,
-        place: from,
-    } = chain;
-    match whole.with_survey(alloc, from) {
-        Err(_) => out_of_memory(goal.q, goal.request),
-        Ok(whole) => trace(
-            alloc,
-            config,
-            Chain {
-                goal,
-                whole,
-                place: from,
-            },
-        ),
-    }
 }
 
 /// The class at the place of a chain is prepared, and was so before: whether the next one is comes next, or the request's
@@ -217,7 +170,7 @@ fn pass<T: Told>(alloc: Global, config: &Arc<Config>, chain: Chain<T>) -> Next<T
     ensures past { IsPast result.stage }
 {
     // brings what the lineage keeps
-    let _ = chain.whole.lineage();
+    let _ = chain.whole.class();
     let Chain {
         goal,
         whole,
@@ -237,7 +190,8 @@ fn pass<T: Told>(alloc: Global, config: &Arc<Config>, chain: Chain<T>) -> Next<T
     )
 }
 
-/// The loading constraints of the class at the place of a chain come next, told from the lineage in hand.
+/// The loading constraints of the class at the place of a chain come next, once its lineage is there: that of the last, the
+/// request's own, is the whole.
 fn trace<T: Told>(alloc: Global, config: &Arc<Config>, chain: Chain<T>) -> Next<T>
     requires chain { IsChain config.now.value chain }
     ensures leads { LeadsBy T.told config.now.value chain.goal.q chain.goal.request
@@ -245,63 +199,54 @@ fn trace<T: Told>(alloc: Global, config: &Arc<Config>, chain: Chain<T>) -> Next<
     ensures plain { IsPlain result.turn }
     ensures past { IsPast result.stage }
 {
-    // brings what the lineage keeps
-    let _ = chain.whole.lineage();
-    let Chain {
-        goal,
-        mut whole,
-        place: at,
-    } = chain;
-    match list_at(alloc, &mut whole, at) {
-        Err(_) => out_of_memory(goal.q, goal.request),
-        Ok(list) => take_listed(
-            alloc,
-            config,
-            Chain {
-                goal,
-                whole,
-                place: at,
-            },
-            list,
-        ),
+    if chain.place >= count_rows(&chain.whole) {
+        return match chain.whole.try_clone() {
+            Err(_) => give_up(chain),
+            Ok(whole) => take_traced(alloc, config, chain, &whole),
+        };
+    }
+    match class_at(&chain.whole, chain.place).try_clone(alloc) {
+        Err(_) => give_up(chain),
+        Ok(class) => Next {
+            stage: Stage::Link(Link::Tracing(chain)),
+            turn: Turn::Lineage(class),
+        },
     }
 }
 
-/// Loading constraints of the class at a place that stand for all of them, since its superclass is prepared, to be shared.
-fn list_at<T: Told>(
-    alloc: Global,
-    whole: &mut Preparations<T>,
-    place: usize,
-) -> Result<Arc<Equalities<T>>, AllocError>
-    requires { place ≤ length whole.old.above }
-    ensures same { whole.new ≡ whole.old }
-    ensures origin { IfOk result (λ e. e.value.origin ≡ OfPreparation
-        (lined_at whole.old place) givens.Superclass) }
-{
-    let list = fewer_constraints_of(alloc, whole, place, Given::Superclass)?;
-    Arc::new(alloc, list).map_err(|_| AllocError)
-}
-
-/// The loading constraints of the class at the place of a chain came: the first of them comes next.
-fn take_listed<T: Told>(
+/// The lineage of the class at the place of a chain came: its loading constraints come next.
+pub(crate) fn take_traced<T: Told>(
     alloc: Global,
     config: &Arc<Config>,
     chain: Chain<T>,
-    list: Arc<Equalities<T>>,
+    lineage: &Lineage<T>,
 ) -> Next<T>
     requires chain { IsChain config.now.value chain }
-    requires list { list.value.origin ≡ OfPreparation (lined_at chain.whole chain.place)
-        givens.Superclass }
+    requires lineage { IsOf config.now.value (class_in chain.whole chain.place) lineage.now }
     ensures leads { LeadsBy T.told config.now.value chain.goal.q chain.goal.request
-        (listed_room chain) (LineageTold chain (lined_at chain.whole chain.place)) result }
+        (listed_room chain) (LineageTold chain lineage.now) result }
     ensures plain { IsPlain result.turn }
     ensures past { IsPast result.stage }
 {
-    // brings what the lineage and the list keep, and that a `usize` counts its equalities
-    let _ = chain.whole.lineage();
-    let _ = count_needs(&list);
-    bring_lineages(&list);
-    impose(alloc, config, chain, list, 0)
+    // brings what the lineage keeps
+    let _ = chain.whole.class();
+    match list_of(alloc, lineage) {
+        Err(_) => give_up(chain),
+        Ok(list) => {
+            // brings that a `usize` counts them, and what the list keeps
+            let _ = count_needs(&list);
+            bring_lineages(&list);
+            impose(alloc, config, chain, list, 0)
+        }
+    }
+}
+
+/// The loading constraints of a class, to be shared.
+fn list_of<T: Told>(alloc: Global, lineage: &Lineage<T>) -> Result<Arc<Equalities<T>>, AllocError>
+    ensures { IfOk result (λ e. e.value.origin ≡ OfPreparation lineage.now) }
+{
+    let list = constraints_of(alloc, lineage)?;
+    Arc::new(alloc, list).map_err(|_| AllocError)
 }
 
 /// How many equalities a list has.
@@ -311,7 +256,26 @@ pub(crate) fn count_needs<T: Told>(list: &Equalities<T>) -> usize
     list.needs().len()
 }
 
-/// Imposes the equality at this place of a list, or marks the class as prepared where none is left.
+/// The first place from this one on whose equality is of two loaders: one of a loader with itself stands from the start
+/// (JVMS SE 8, 5.3.4).
+fn next_of_two<T: Told>(list: &Equalities<T>, place: usize) -> usize
+    requires { place ≤ length list.now.needs }
+    ensures behind { place ≤ result }
+    ensures within { result ≤ length list.now.needs }
+    ensures met { (s : State) → AllMet s (take place (needs_of list.now.needs))
+        → AllMet s (take result (needs_of list.now.needs)) }
+{
+    let needs = list.needs();
+    for at in place..needs.len() {
+        if needs[at].one != needs[at].other {
+            return at;
+        }
+    }
+    needs.len()
+}
+
+/// Imposes the next equality of a list from this place on, or marks the class as prepared where none is left. Those of a
+/// loader with itself are not asked for.
 pub(crate) fn impose<T: Told>(
     alloc: Global,
     config: &Arc<Config>,
@@ -328,8 +292,29 @@ pub(crate) fn impose<T: Told>(
     ensures plain { IsPlain result.turn }
     ensures past { IsPast result.stage }
 {
+    let next = next_of_two(&list, place);
+    impose_at(alloc, config, chain, list, next)
+}
+
+/// Imposes the equality at this place of a list, or marks the class as prepared where none is left.
+fn impose_at<T: Told>(
+    alloc: Global,
+    config: &Arc<Config>,
+    chain: Chain<T>,
+    list: Arc<Equalities<T>>,
+    place: usize,
+) -> Next<T>
+    requires chain { IsChain config.now.value chain }
+    requires list { IsAtPlace chain list.value }
+    requires within { place ≤ length list.value.needs }
+    ensures leads { LeadsBy T.told config.now.value chain.goal.q chain.goal.request
+        (linking_room chain list.value place)
+        (ListTold chain list.value place) result }
+    ensures plain { IsPlain result.turn }
+    ensures past { IsPast result.stage }
+{
     // brings what the lineage and the list keep
-    let _ = chain.whole.lineage();
+    let _ = chain.whole.class();
     bring_lineages(&list);
     let Ok(shared) = Arc::try_clone(&list) else {
         return give_up(chain);
@@ -392,13 +377,13 @@ pub(crate) fn refuse_link<T: Told>(
     ensures ends { EndsAsRefused chain.goal.request need result.turn }
 {
     // brings what the lineage and the list keep
-    let _ = chain.whole.lineage();
+    let _ = chain.whole.class();
     bring_lineages(&list);
     let Chain {
         goal,
         whole,
         place: at,
     } = chain;
-    let finding = Finding::refused_link(goal.request, whole.into_lineage(), at, list, place, need);
+    let finding = Finding::refused_link(goal.request, whole, at, list, place, need);
     post(goal.q, finding)
 }

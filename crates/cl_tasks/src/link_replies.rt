@@ -7,7 +7,8 @@ ghost use Rattle.cl_tasks.specs.Turns.{Expects};
 
 use crate::leads::out_of_memory;
 use crate::link::{
-    count_needs, give_up, impose, refuse_link, take_asked, take_marked, take_prepared, take_whole,
+    count_needs, give_up, impose, refuse_link, take_asked, take_marked, take_prepared, take_traced,
+    take_whole,
 };
 use crate::stage::{Chain, Goal, Link, Next};
 use crate::turn::Reply;
@@ -49,6 +50,26 @@ pub(crate) fn after_whole_lineage<T: Told>(
     match reply {
         Reply::Lineage(whole) => take_whole(alloc, config, goal, whole),
         Reply::Memory => out_of_memory(goal.q, goal.request),
+        _ => unreachable!(),
+    }
+}
+
+/// The lineage of the class at the place of a chain was asked for.
+pub(crate) fn after_lineage<T: Told>(
+    alloc: Global,
+    config: &Arc<Config>,
+    chain: Chain<T>,
+    reply: Reply<T>,
+) -> Next<T>
+    requires chain { IsChain config.now.value chain }
+    requires expects { Expects (linking_at config.now.value (Link.Tracing chain)) reply }
+    ensures { Steps T.told (linking_at config.now.value (Link.Tracing chain)) reply result }
+{
+    // brings what the lineage keeps
+    let _ = chain.whole.class();
+    match reply {
+        Reply::Lineage(lineage) => take_traced(alloc, config, chain, &lineage),
+        Reply::Memory => give_up(chain),
         _ => unreachable!(),
     }
 }

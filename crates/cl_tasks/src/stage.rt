@@ -10,7 +10,6 @@ use cl_findings::{Finding, Target};
 use cl_hierarchy::{ClassRow, Equalities, Frame, Lineage, Path};
 use cl_members::Found;
 use cl_model::{Request, Told};
-use cl_preparation::Preparations;
 use std::alloc::Global;
 use std::sync::Arc;
 
@@ -90,7 +89,7 @@ pub struct Goal<T: Told> {
 #[derive(Drop)]
 pub struct Chain<T: Told> {
     pub goal: Goal<T>,
-    pub whole: Preparations<T>,
+    pub whole: Lineage<T>,
     pub place: usize,
 }
 
@@ -101,6 +100,7 @@ pub enum Link<T: Told> {
     TracingWhole(Goal<T>),
     /// Whether the class at the place is prepared is asked; no class of the lineage was found not to be yet.
     Asking(Chain<T>),
+    Tracing(Chain<T>),
     /// The equality at this place is being imposed.
     Imposing(Chain<T>, Arc<Equalities<T>>, usize),
     Marking(Chain<T>, Arc<Equalities<T>>),

@@ -7,8 +7,8 @@ ghost use Rattle.cl_tasks.specs.Steps.{Steps};
 ghost use Rattle.cl_tasks.specs.Turns.{Expects};
 
 use crate::link_replies::{
-    after_impose as after_link_impose, after_mark, after_place_look, after_prepared_look,
-    after_whole_lineage,
+    after_impose as after_link_impose, after_lineage, after_mark, after_place_look,
+    after_prepared_look, after_whole_lineage,
 };
 use crate::load_replies::{
     after_define, after_home_look, after_initiate, after_look, after_read, begin,
@@ -69,6 +69,7 @@ fn number_of_link<T: Told>(link: &Link<T>) -> u32
         Link::LookingPrepared(goal) => goal.q,
         Link::TracingWhole(goal) => goal.q,
         Link::Asking(chain) => chain.goal.q,
+        Link::Tracing(chain) => chain.goal.q,
         Link::Imposing(chain, _, _) => chain.goal.q,
         Link::Marking(chain, _) => chain.goal.q,
     }
@@ -132,6 +133,7 @@ pub(crate) fn step_of_link<T: Told>(
         Link::LookingPrepared(goal) => after_prepared_look(alloc, config, goal, reply),
         Link::TracingWhole(goal) => after_whole_lineage(alloc, config, goal, reply),
         Link::Asking(chain) => after_place_look(alloc, config, chain, reply),
+        Link::Tracing(chain) => after_lineage(alloc, config, chain, reply),
         Link::Imposing(chain, list, place) => {
             after_link_impose(alloc, config, chain, list, place, reply)
         }

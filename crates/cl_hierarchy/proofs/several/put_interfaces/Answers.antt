@@ -2,7 +2,7 @@ use Rattle.std.proofs.Common.{◌≡◌, ◌≤◌, ℕ, List, ap, arith, length
 use Rattle.cl_model.specs.Classes.{superinterfaces_of}
 use Rattle.cl_classfile.specs.Files.{file_of}
 use Rattle.cl_hierarchy.specs.Trees.{interface_places, interfaces_in}
-use Rattle.cl_hierarchy.proofs.Joining.{accepted_few, joins_all, joins_next, joins_none, joins_repeat}
+use Rattle.cl_hierarchy.proofs.Joining.{accepted_few, joins_all, joins_next, joins_none}
 use Rattle.cl_hierarchy.proofs.several.put_interfaces.Goals as goal
 
 pub loop-place-init : goal.loop-place-init
@@ -20,7 +20,3 @@ returns g c =
     let test = c.loop-place-test.false in
     let many : length (interfaces_in c.args.row.now) ≤ c.loop-place.place = omega (arith, few, count, test) in
     joins_all (interfaces_in c.args.row.now) c.loop-place.place c.args.classes.now.keys c.loop-place.classes.keys many c.loop-place.invariant
-
-pub loop-place-preserved-then-first_like-place : goal.loop-place-preserved-then-first_like-place
-loop-place-preserved-then-first_like-place g c =
-    joins_repeat (interfaces_in c.args.row.now) c.first_like.result c.loop-place.place c.args.classes.now.keys c.loop-place.classes.keys c.if-first_like-place.true c.first_like.ensures.same c.loop-place.invariant

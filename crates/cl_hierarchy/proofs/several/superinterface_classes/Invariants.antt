@@ -1,4 +1,4 @@
-use Rattle.std.proofs.Common.{length, map}
+use Rattle.std.proofs.Common.{[], ◌∷◌, ◌++◌, length, map}
 use Rattle.cl_model.specs.Classes.{is_among}
 use Rattle.cl_hierarchy.specs.Several.{superinterfaces_of_any}
 use Rattle.cl_hierarchy.specs.Trees.{kin_under, kins}
@@ -7,7 +7,7 @@ use Rattle.cl_hierarchy.proofs.several.superinterface_classes.Given as goal
 
 abbrev pub invariant-loop-row : goal.invariant-loop-row
 invariant-loop-row g l =
-    IsPassed (map (λ r. r.value) l.rows) (λ c. is_among (superinterfaces_of_any (map (λ r. kin_under (kins (map (λ x. x.value) l.rows)) r.value) l.some)) c) (map (λ r. r.value) l.rest) l.found.keys l.left.keys
+    IsPassed (map (λ r. r.value) l.above ++ l.own ∷ []) (λ c. is_among (superinterfaces_of_any (map (λ r. kin_under (kins (map (λ x. x.value) l.above ++ l.own ∷ [])) r.value) l.some)) c) (map (λ r. r.value) l.rest) l.found.keys l.left.keys
 
 abbrev pub decreases-loop-row : goal.decreases-loop-row
 decreases-loop-row g l = length l.rest

@@ -1,5 +1,5 @@
 use Rattle.cl_classfile.specs.Files.{declared_by, method_of}
-use Rattle.cl_preparation.proofs.Declared.{typed_at, declared_more}
+use Rattle.cl_preparation.proofs.Flags.{typed_at, declared_more}
 use Rattle.cl_preparation.proofs.method.methods_of.Goals as goal
 
 pub method_at-requires : goal.method_at-requires

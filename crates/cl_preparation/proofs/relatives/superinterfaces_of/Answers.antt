@@ -1,14 +1,12 @@
-use Rattle.std.proofs.Common.{◌∙◌, ap, map}
-use Rattle.cl_model.specs.Lineages.{superinterfaces}
-use Rattle.cl_hierarchy.specs.Lineages.{kin_at}
-use Rattle.cl_preparation.proofs.Constraints.{mapped_rows}
+use Rattle.std.proofs.Common.{◌≡◌, ◌∙◌, false, ap, sym, map}
+use Rattle.cl_hierarchy.specs.Lineages.{Lined, kin_at}
+use Rattle.cl_preparation.specs.Relatives.{names_interfaces}
+use Rattle.cl_preparation.proofs.Interfaces.{none_above}
 use Rattle.cl_preparation.proofs.relatives.superinterfaces_of.Goals as goal
 
-pub returns-then-has_none_over : goal.returns-then-has_none_over
-returns-then-has_none_over g c =
-    ap (map (kin_at c.args.lineage.now)) c.new.ensures.items ∙ c.has_none_over.ensures c.if-has_none_over.true
-
-pub returns : goal.returns
-returns g c =
-    mapped_rows (λ r. r.value) superinterfaces c.args.lineage.now c.in_ok-rows.rows.items c.as_slice.result.now c.in_ok-all.all.items
-    c.as_slice.ensures.value c.in_ok-all.ensures c.in_ok-rows.ensures.superinterfaces
+pub returns-then-not-any_names_interfaces : goal.returns-then-not-any_names_interfaces
+returns-then-not-any_names_interfaces g c =
+    let l : Lined = c.args.lineage.now in
+    let own : names_interfaces l.own ≡ false = ap names_interfaces (sym (c.deref.ensures ∙ c.own.ensures.own)) ∙ sym c.names_interfaces.ensures ∙ c.if-not-names_interfaces.true in
+    ap (map (λ r. kin_at l r.value)) c.new.ensures.items
+    ∙ none_above (λ r. r.value) l c.args.above.now c.requires own (sym c.any_names_interfaces.ensures ∙ c.if-not-any_names_interfaces.true)

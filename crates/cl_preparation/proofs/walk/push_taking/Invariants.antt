@@ -6,5 +6,5 @@ use Rattle.cl_preparation.proofs.walk.push_taking.Given as goal
 
 abbrev pub invariant-loop-class : goal.invariant-loop-class
 invariant-loop-class g l =
-    needs_of l.needs.items ++ equals_with l.method l.loader (filter (takes_part l.method) (map bare (drop l.class-index l.classes)))
-    ≡ needs_of l.initial.needs.items ++ equals_with l.method l.loader (filter (takes_part l.method) (map bare l.classes))
+    needs_of l.needs.items ++ equals_with l.method l.loader (filter (takes_part l.method) (map (λ r. bare r.value) (drop l.class-index l.classes)))
+    ≡ needs_of l.initial.needs.items ++ equals_with l.method l.loader (filter (takes_part l.method) (map (λ r. bare r.value) l.classes))

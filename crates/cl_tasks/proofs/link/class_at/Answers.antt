@@ -1,15 +1,15 @@
-use Rattle.std.proofs.Common.{sym}
-use Rattle.cl_tasks.proofs.LinkLeads.{no_row, row_class}
+use Rattle.std.proofs.Common.{Some, None, length, refl}
+use Rattle.std.proofs.lemmas.Option.{slice_get_past, slice_get_read}
+use Rattle.cl_tasks.proofs.LinkLeads.{class_told}
 use Rattle.cl_tasks.proofs.link.class_at.Goals as goal
 
 pub returns-in-Some : goal.returns-in-Some
 returns-in-Some g c =
-    let is = row_class c.args.whole.now c.args.place c.in-Some.row.now.value (sym c.in-Some.ensures) in
-    let copy = rw (c.class.ensures.class, c.deref.ensures) at c.try_clone.ensures in
-    rw is copy
+    let got = c.in-Some.ensures.lookup in
+    let at = slice_get_read c.above.result.now (length c.above.result.now) c.args.place c.in-Some.row.now refl got.3.0 got.1 in
+    rw (class_told c.args.whole.now c.above.result.now c.args.place (Some c.in-Some.row.now) c.above.ensures.rows at, c.class.ensures.class, c.deref.ensures) refl
 
 pub returns-in-None : goal.returns-in-None
 returns-in-None g c =
-    let is = no_row c.args.whole.now c.args.place (sym c.in-None.ensures) in
-    let copy = rw (c.class-in-None.ensures.class, c.lineage.ensures.whole) at c.try_clone-in-None.ensures in
-    rw is copy
+    let at = slice_get_past c.above.result.now c.args.place c.in-None.ensures.lookup.3 in
+    rw (class_told c.args.whole.now c.above.result.now c.args.place None c.above.ensures.rows at) c.class-in-None.ensures.class

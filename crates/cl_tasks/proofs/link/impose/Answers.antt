@@ -1,21 +1,7 @@
-use Rattle.std.proofs.Common.{◌≡◌, length, refl, arith}
-use Rattle.cl_tasks.proofs.PreparationLeads.{IsKnown, impose_leads, mark_leads}
+use Rattle.cl_tasks.proofs.PreparationLeads.{skipped_leads}
 use Rattle.cl_tasks.proofs.link.impose.Goals as goal
 
-pub returns-then-place-count_needs-clause-leads : goal.returns-then-place-count_needs-clause-leads
-returns-then-place-count_needs-clause-leads g c =
-    let kept = c.lineage.ensures.kept in
-    let listed = rw c.deref.ensures at c.bring_lineages.ensures in
-    let known : IsKnown g.T.Told.told c.args.chain c.args.list.value = record { place = c.requires.list; order = kept.order; whole = kept.lineage; listed = listed } in
-    let lt = rw (c.count_needs.ensures, c.deref-2.ensures) at c.if-place-count_needs.true in
-    impose_leads g.T.Told.told c.args.config.now.value c.args.chain c.args.list.value c.requires.chain known c.args.place c.args.list c.in-Ok.shared refl c.in-Ok.ensures lt
-
-pub returns-else-place-count_needs-clause-leads : goal.returns-else-place-count_needs-clause-leads
-returns-else-place-count_needs-clause-leads g c =
-    let kept = c.lineage.ensures.kept in
-    let listed = rw c.deref.ensures at c.bring_lineages.ensures in
-    let known : IsKnown g.T.Told.told c.args.chain c.args.list.value = record { place = c.requires.list; order = kept.order; whole = kept.lineage; listed = listed } in
-    let lt = rw (c.count_needs.ensures, c.deref-2.ensures) at c.if-place-count_needs.false in
-    let le = c.requires.within in
-    let all : c.args.place ≡ length c.args.list.value.needs = omega (arith, lt, le) in
-    mark_leads g.T.Told.told c.args.config.now.value c.args.chain c.args.list.value c.requires.chain known c.args.place c.args.list c.in-Ok.shared refl c.in-Ok.ensures all
+pub returns-clause-leads : goal.returns-clause-leads
+returns-clause-leads g c =
+    skipped_leads g.T.Told.told c.args.config.now.value c.args.chain c.args.list.value c.args.place c.next_of_two-next.result c.requires.list c.next_of_two-next.ensures.behind (rw c.deref.ensures at c.next_of_two-next.ensures.met)
+    c.impose_at.ensures.leads

@@ -20,5 +20,5 @@ pub returns-clause-leads : goal.returns-clause-leads
 returns-clause-leads g c =
     let k = c.args.chain in
     leads_by (chain_room k) (MarkedTold k) c.ask.ensures.leads (passed_turns (length (rows_in k.whole)) k.place c.requires.chain.within)
-    (passed_calls g.T.Told.told c.args.config.now.value k c.requires.chain c.lineage.ensures.kept.order)
+    (passed_calls g.T.Told.told c.args.config.now.value k c.requires.chain c.class.ensures.kept.order)
     (λ x h. marked_told c.args.config.now.value x k c.requires.chain h)

@@ -10,7 +10,7 @@ use Rattle.cl_tasks.proofs.link.take_asked.Goals as goal
 pub returns-then-not-prepared-clause-leads : goal.returns-then-not-prepared-clause-leads
 returns-then-not-prepared-clause-leads g c =
     let k = c.args.chain in
-    leads_by (chain_room k) (AskedTold k c.args.prepared) c.trace_first.ensures.leads (asked_turns k)
+    leads_by (chain_room k) (AskedTold k c.args.prepared) c.trace.ensures.leads (asked_turns k)
     (stay g.T.Told.told c.args.config.now.value (AskedTold k c.args.prepared) k.goal.request (past_loads 0 0 (chain_calls k.whole k.place + 1))) (λ x h. h.before)
 
 pub returns-clause-leads : goal.returns-clause-leads

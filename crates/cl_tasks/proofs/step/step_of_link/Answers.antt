@@ -18,6 +18,12 @@ after_place_look-requires g c = record { chain = rw c.in-Asking.is at c.requires
 pub returns-in-Asking : goal.returns-in-Asking
 returns-in-Asking g c = rw c.in-Asking.is c.after_place_look.ensures
 
+pub after_lineage-requires : goal.after_lineage-requires
+after_lineage-requires g c = record { chain = rw c.in-Tracing.is at c.requires.kept; expects = rw c.in-Tracing.is at c.requires.expects }
+
+pub returns-in-Tracing : goal.returns-in-Tracing
+returns-in-Tracing g c = rw c.in-Tracing.is c.after_lineage.ensures
+
 pub after_impose-requires : goal.after_impose-requires
 after_impose-requires g c =
     let kept = rw c.in-Imposing.is at c.requires.kept in

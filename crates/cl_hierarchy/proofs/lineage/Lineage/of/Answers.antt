@@ -4,11 +4,11 @@ use Rattle.cl_hierarchy.proofs.RowTables.{supers_before}
 use Rattle.cl_hierarchy.proofs.Told.{told_made, told_some, row_in, told_in}
 use Rattle.cl_hierarchy.proofs.lineage.Lineage.of.Goals as goal
 
-pub lineage_rows-requires-clause-ordered : goal.lineage_rows-requires-clause-ordered
-lineage_rows-requires-clause-ordered g c = supers_before _ _ _ c.requires
+pub rows_in_order-requires-clause-ordered : goal.rows_in_order-requires-clause-ordered
+rows_in_order-requires-clause-ordered g c = supers_before _ _ _ c.requires
 
-pub lineage_rows-requires-clause-start : goal.lineage_rows-requires-clause-start
-lineage_rows-requires-clause-start g c = row_in _ _ _ c.args.class.now _ c.requires (sym c.in-Some.ensures)
+pub rows_in_order-requires-clause-start : goal.rows_in_order-requires-clause-start
+rows_in_order-requires-clause-start g c = row_in _ _ _ c.args.class.now _ c.requires (sym c.in-Some.ensures)
 
 pub unreachable-requires : goal.unreachable-requires
 unreachable-requires g c =

@@ -1,24 +1,22 @@
-use Rattle.std.proofs.Common.{refl}
 use Rattle.cl_model.specs.Lineages.{Kin, alone, once}
 use Rattle.cl_hierarchy.specs.Tours.{stops, told_at}
-use Rattle.cl_hierarchy.proofs.Inside.{ordered, row_stands, rows_inside, table_at, told_inside}
+use Rattle.cl_hierarchy.proofs.Inside.{ordered, own_stands, rows_inside, table_at, told_inside}
 use Rattle.cl_hierarchy.proofs.lineage.Lineage.rows_by_tour.Goals as goal
 
 pub rows_in_order-requires-clause-ordered : goal.rows_in_order-requires-clause-ordered
 rows_in_order-requires-clause-ordered g c =
-    ordered c.args.self.now _ c.in_ok-table.table refl c.above.ensures.kept.order (table_at c.args.self.now c.in_ok-table.table _ c.own.result.now.value c.in_ok-table.ensures c.above.ensures.rows c.own.ensures.own)
+    ordered c.args.self.now c.in_ok-table.table _ c.above.ensures.kept.order (table_at c.args.self.now c.in_ok-table.table _ _ c.in_ok-table.ensures c.above.ensures.rows c.own.ensures.own) c.own.ensures.own
 
 pub rows_in_order-requires-clause-start : goal.rows_in_order-requires-clause-start
 rows_in_order-requires-clause-start g c =
-    row_stands c.args.self.now _ c.in_ok-table.table refl c.above.ensures.kept.order (table_at c.args.self.now c.in_ok-table.table _ c.own.result.now.value c.in_ok-table.ensures c.above.ensures.rows c.own.ensures.own)
-    c.args.row.now.value c.requires
+    own_stands c.args.self.now c.in_ok-table.table _ c.above.ensures.kept.order (table_at c.args.self.now c.in_ok-table.table _ _ c.in_ok-table.ensures c.above.ensures.rows c.own.ensures.own) c.own-2.ensures.own
 
 pub returns-clause-told : goal.returns-clause-told
 returns-clause-told g c =
-    told_inside c.args.self.now _ c.in_ok-table.table refl c.above.ensures.kept.order (table_at c.args.self.now c.in_ok-table.table _ c.own.result.now.value c.in_ok-table.ensures c.above.ensures.rows c.own.ensures.own)
-    (λ v. v.items) (λ r. r.value) (λ (k : Kin). once (told_at c.args.order (stops c.args.order (alone k) c.args.wanted))) c.args.row.now.value c.requires c.rows_in_order.result c.rows_in_order.ensures.kins c.rows_in_order.ensures.rows
+    told_inside c.args.self.now c.in_ok-table.table _ c.above.ensures.kept.order (table_at c.args.self.now c.in_ok-table.table _ _ c.in_ok-table.ensures c.above.ensures.rows c.own.ensures.own) c.own-2.ensures.own
+    (λ v. v.items) (λ r. r.value) (λ (k : Kin). once (told_at c.args.order (stops c.args.order (alone k) c.args.wanted))) c.rows_in_order.result c.rows_in_order.ensures.kins c.rows_in_order.ensures.rows
 
 pub returns-clause-rows : goal.returns-clause-rows
 returns-clause-rows g c =
-    rows_inside c.args.self.now _ c.in_ok-table.table refl c.above.ensures.kept.order (table_at c.args.self.now c.in_ok-table.table _ c.own.result.now.value c.in_ok-table.ensures c.above.ensures.rows c.own.ensures.own)
+    rows_inside c.args.self.now c.in_ok-table.table _ c.above.ensures.kept.order (table_at c.args.self.now c.in_ok-table.table _ _ c.in_ok-table.ensures c.above.ensures.rows c.own.ensures.own) c.own.ensures.own
     (λ v. v.items) (λ r. r.value) c.rows_in_order.result c.rows_in_order.ensures.rows

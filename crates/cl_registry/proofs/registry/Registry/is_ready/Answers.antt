@@ -1,4 +1,4 @@
-use Rattle.std.proofs.Common.{◌∙◌, subst, sym}
+use Rattle.std.proofs.Common.{◌∙◌, subst}
 use Rattle.std.specs.List.{AllByRecursion}
 use Rattle.cl_classfile.specs.Files.{file_of}
 use Rattle.cl_findings.specs.Findings.{Decides}
@@ -16,6 +16,6 @@ use Rattle.cl_registry.proofs.registry.Registry.is_ready.Goals as goal
 pub returns-clause-ready : goal.returns-clause-ready
 returns-clause-ready g c =
     let x : Shown = shown_of c.self.inside in
-    ready_by c.args.self.now c.args.class.now c.args.equalities.now c.are_met.result (c.if-not-has_class.ensures.stands c.args.class.now (sym (c.deref.ensures ∙ c.config.ensures.config)) (sym c.class.ensures.class))
-    (subst (λ (r : Rowed). AllByRecursion (IsPreparedAbove c.args.self.now r.class) (supers (file_of r.file))) (c.deref-2.ensures ∙ c.own.ensures.own) c.if-not-supers_prepared.ensures)
+    ready_by c.args.self.now c.args.lineage.now c.args.equalities.now c.are_met.result c.if-not-has_lineage.ensures.stands
+    (subst (λ (r : Rowed). AllByRecursion (IsPreparedAbove c.args.self.now r.class) (supers (file_of r.file))) (c.deref.ensures ∙ c.own.ensures.own) c.if-not-supers_prepared.ensures)
     (subst (λ (y : Shown). Decides c.are_met.result (AllMet (state_of y) (needs_of c.args.equalities.now))) c.self.view_is (c.are_met.ensures (state_of x) (standing_with (state_of x) _ _ c.as_slice.ensures.value c.self.invariant.book c.self.invariant.met)))

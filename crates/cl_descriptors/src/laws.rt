@@ -3,6 +3,7 @@
 ghost use Rattle.std.specs.Prelude.{◌≡◌, ◌↔◌, ℕ, List, Some, IsTrue};
 ghost use Rattle.cl_descriptors.specs.declared.types.FieldType.{FieldType};
 ghost use Rattle.cl_descriptors.specs.declared.types.MethodType.{MethodType};
+ghost use Rattle.cl_descriptors.specs.declared.limits.TheConstants.{MOST_DIMENSIONS, MOST_UNITS};
 ghost use Rattle.cl_descriptors.specs.Types.{SpellsField, SpellsMethod};
 ghost use Rattle.cl_descriptors.specs.Reading.{whole_field, whole_method};
 ghost use Rattle.cl_descriptors.specs.contracts.types.FieldTypePartialEq.TheImpl as fields;
@@ -28,4 +29,10 @@ pub fn one_method_spelling()
 pub fn equal_types_are_the_same()
     ensures fields { (s t : FieldType) → IsTrue (fields.ghosts.eq s t) ↔ (s ≡ t) }
     ensures methods { (m n : MethodType) → IsTrue (methods.ghosts.eq m n) ↔ (m ≡ n) }
+{}
+
+/// The limits in numbers: definitions and code speak of them by name.
+pub fn limits()
+    ensures dimensions { MOST_DIMENSIONS ≡ 255 }
+    ensures units { MOST_UNITS ≡ 255 }
 {}

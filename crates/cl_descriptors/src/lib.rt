@@ -2,7 +2,7 @@
 #![tactic(auto)]
 
 mod cloning;
-mod laws;
+pub mod laws;
 mod limits;
 mod naming;
 mod piece;

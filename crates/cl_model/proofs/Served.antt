@@ -1,12 +1,12 @@
 -- What the examples of runs rest on.
-use Rattle.std.proofs.Common.{ap, inl, inr, Result, slice_get, ◌≡◌, ◌≢◌, ℕ, zero, suc, arith, [], ◌∷◌, ◌++◌, List, Option, Some, None, Ok, Err, sym, subst, ◌∙◌, refl, codes}
+use Rattle.std.proofs.Common.{ap, inl, inr, Result, slice_get, ◌≡◌, ◌≢◌, ◌⊎◌, ℕ, zero, suc, arith, [], ◌∷◌, ◌++◌, List, Option, Some, None, Ok, Err, sym, subst, ◌∙◌, refl, codes}
 use Rattle.std.specs.Prelude.{Contains, IsSome}
 use Rattle.cl_classfile.specs.Files.{Name, File}
 use Rattle.cl_model.specs.declared.class.Class.{Class}
 use Rattle.cl_model.specs.Homes.{World}
 use Rattle.cl_model.specs.Classes.{class, Error, ClassNotFound, IsGood}
 use Rattle.cl_model.specs.Lineages.{Kin, Bare, alone}
-use Rattle.cl_model.specs.States.{State, Verdict, Need, Met, Said, Entry, Equal, Equality, Joined, IsPathBetween, MayAdd, answer_to, recorded_definer, settled_to, start}
+use Rattle.cl_model.specs.States.{State, Verdict, Need, Met, Said, Entry, Equal, Equality, Joined, IsPathBetween, Linked, MayAdd, answer_to, recorded_definer, settled_to, start}
 use Rattle.cl_model.specs.Works.{Made}
 use Rattle.cl_model.specs.Plans.{derive, resolve, Plan, Request}
 use Rattle.cl_model.specs.Machine.{HasLineage, IsResolution, Answers, Setting, Scheduled, IsPlan, RestsOn, MayPost, MaySay, NextRound, Prepare, state_after}
@@ -29,6 +29,29 @@ joined_alone ks name a b none h = along h.path (subst (λ (es : List Equality). 
     along : (path : List ℕ) → IsPathBetween [] name a path b → a ≡ b
     along [] h = h
     along (c ∷ cs) h = absurd (no_equality h.0.equality h.0.imposed)
+
+-- that T is the same in app and another loader
+abbrev pub for_t : ℕ → List Equality
+for_t other = record { name = codes "p/T"; one = app; other = other } ∷ []
+
+-- by that equality alone each of its loaders is joined with both alone
+pub joined_in_pair : (o a b : ℕ) → (a ≡ app) ⊎ (a ≡ o) → Joined (for_t o) (codes "p/T") a b → (b ≡ app) ⊎ (b ≡ o)
+joined_in_pair o a b one h = ends a h.path b one h.along
+  where
+    only_one : (e : Equality) → Contains (for_t o) e → record { name = codes "p/T"; one = app; other = o } ≡ e
+    only_one e (zero, l, h) = h
+    only_one e (suc x, l, h) = absurd (omega arith)
+
+    step : (a b : ℕ) → Linked (for_t o) (codes "p/T") a b → (b ≡ app) ⊎ (b ≡ o)
+    step a b h = along h.ends
+      where
+        along : ((h.equality.one ≡ a) × (h.equality.other ≡ b)) ⊎ ((h.equality.one ≡ b) × (h.equality.other ≡ a)) → (b ≡ app) ⊎ (b ≡ o)
+        along (inl e) = inr (sym e.1 ∙ sym (ap (λ (k : Equality). k.other) (only_one h.equality h.imposed)))
+        along (inr e) = inl (sym e.0 ∙ sym (ap (λ (k : Equality). k.one) (only_one h.equality h.imposed)))
+
+    ends : (a : ℕ) (path : List ℕ) (b : ℕ) → (a ≡ app) ⊎ (a ≡ o) → IsPathBetween (for_t o) (codes "p/T") a path b → (b ≡ app) ⊎ (b ≡ o)
+    ends a [] b one e = subst (λ (l : ℕ). (l ≡ app) ⊎ (l ≡ o)) e one
+    ends a (l ∷ ls) b one e = ends l ls b (step a l e.0) e.1
 
 -- without an equality a record may be added where there is none
 pub free_entry : (s : State) (name : Name) (loader place : ℕ) → s.equalities ≡ [] → recorded_definer s.records loader name ≡ None → MayAdd s (Entry loader name place)

@@ -1,11 +1,11 @@
 -- Worlds of the examples of references and the constraints that they impose (JVMS SE 8, 5.3.4, 5.4.3).
-use Rattle.std.specs.Prelude.{ℕ, List, [], ◌∷◌, Option, Some, codes}
+use Rattle.std.specs.Prelude.{ℕ, ◌+◌, List, [], ◌∷◌, Option, Some, codes}
 use Rattle.cl_descriptors.specs.declared.types.Base.TheVariants as bases
-use Rattle.cl_classfile.specs.Files.{File, ToClass, ToField, ToMethod}
+use Rattle.cl_classfile.specs.Files.{File, ToClass, ToField, ToMethod, ToInterfaceMethod}
 use Rattle.cl_classfile.specs.Flags as flag
 use Rattle.cl_model.specs.Homes.{World}
 use Rattle.cl_model.specs.States.{Need, Verdict}
-use Rattle.cl_model.specs.Examples.{boot, app, plug, kid, root, plain, under, of_package, taking_none, taking_t, an_array, a_class, an_array_of, method_key, with_fields, with_methods, referring_file, world_with_files, resolve_of, ends_at, ResolveNeeds}
+use Rattle.cl_model.specs.Examples.{boot, app, plug, kid, root, plain, under, of_package, interface_named, taking_none, taking_t, an_int, an_array, a_class, an_array_of, method_key, with_fields, with_methods, with_interfaces, referring_file, world_with_files, resolve_of, ends_at, ResolveNeeds}
 
 -- a class with a method that takes a T (4.6)
 abbrev pub svc : File
@@ -85,3 +85,50 @@ from_u i = ends_at references (resolve_of plug "q/U" i)
 -- this reference of q/U needs these in turn past the load of q/U (5.4.3)
 abbrev pub NeedsPast : ℕ → List Need → Type 0
 NeedsPast i needs = ResolveNeeds references plug "q/U" i needs
+
+-- the root has x, h, f protected, k for its package, and o; plug has q/A with m, v private, a constructor and `<clinit>`, the
+-- interface q/I with y, h and a constructor, the interface q/J with x, which names f, and q/B under q/A, which implements
+-- q/I and q/J, has y, m and `<clinit>`, and names these and what nobody has (5.4.2 to 5.4.5)
+abbrev pub nearest : World
+nearest = world_with_files ((
+  boot,
+  with_fields ((flag.public, an_int "x") ∷ [])
+      (with_methods ((flag.public, taking_none "h") ∷ (flag.protected, taking_none "f")
+      ∷ (0, taking_t "k") ∷ (flag.public, taking_t "o") ∷ []) root),
+)
+    ∷ (
+      plug,
+      with_methods ((flag.public, taking_none "m") ∷ (flag.private, taking_none "v")
+          ∷ (flag.public, taking_t "<init>") ∷ (flag.public, taking_t "<clinit>") ∷ [])
+          (plain "q/A"),
+    )
+    ∷ (
+      plug,
+      with_fields ((flag.public + flag.static, an_int "y") ∷ [])
+          (with_methods ((flag.public, taking_none "h") ∷ (flag.public, taking_t "<init>") ∷ [])
+          (interface_named "q/I")),
+    )
+    ∷ (
+      plug,
+      with_fields ((flag.public + flag.static, an_int "x") ∷ []) (referring_file
+          (ToMethod (a_class "java/lang/Object") (taking_none "f") ∷ []) (interface_named "q/J")),
+    )
+    ∷ (
+      plug,
+      with_fields ((flag.public, an_int "y") ∷ [])
+          (with_methods ((flag.public, taking_none "m") ∷ (flag.public, taking_t "<clinit>") ∷ [])
+          (with_interfaces ("q/I" ∷ "q/J" ∷ []) (referring_file (
+          ToMethod (a_class "q/B") (taking_none "m")
+          ∷ ToField (a_class "q/B") (an_int "y")
+          ∷ ToField (a_class "q/B") (an_int "x")
+          ∷ ToInterfaceMethod (a_class "q/I") (taking_none "h")
+          ∷ ToMethod (a_class "q/B") (taking_none "v")
+          ∷ ToMethod (a_class "java/lang/Object") (taking_t "k")
+          ∷ ToMethod (a_class "q/I") (taking_none "z")
+          ∷ []) (under "q/B" "q/A")))),
+    )
+    ∷ [])
+
+-- what this reference of q/B is resolved to in that world (5.4.3)
+abbrev pub from_b : ℕ → Option Verdict
+from_b i = ends_at nearest (resolve_of plug "q/B" i)

@@ -6,7 +6,7 @@ use Rattle.cl_model.specs.Homes.{World}
 use Rattle.cl_model.specs.States.{State, start, Verdict, IsMethod, IsLinked, BadEntry, Linkage, Said, OutOfMemory}
 use Rattle.cl_model.specs.Plans.{Request}
 use Rattle.cl_model.specs.Machine.{Setting, Step, Define, Initiate, Constrain, Settle, Prepare, Post, NextRound, AnswersPlan, state_after}
-use Rattle.cl_model.specs.Examples.{boot, app, plug, kid, object, the_root, in_app, in_plug, in_kid, own, same_t, load_of, resolve_of, link_of, root, under, taking_t, a_class, with_methods, referring_file, world_with_files}
+use Rattle.cl_model.specs.Examples.{boot, app, plug, kid, object, the_root, in_boot, in_app, in_plug, in_kid, own, same_t, load_of, resolve_of, link_of, root, under, taking_t, a_class, with_methods, referring_file, world_with_files}
 use Rattle.cl_model.specs.ExampleReferences.{svc, service, three_users}
 
 -- a setting of one round without requests
@@ -51,14 +51,21 @@ constrained =
     ∷ Initiate object boot app ∷ Define (in_app "p/Svc") ∷ Initiate (codes "p/Svc") app plug
     ∷ Constrain (codes "p/T") app plug ∷ Define (in_app "p/T") ∷ []
 
--- what stands after the references of two users are resolved and T is defined in one of them (5.3.4)
-abbrev pub across : List Step
-across =
+-- what stands after the reference of one of two users is resolved (5.3.4)
+abbrev pub used : List Step
+used =
     Define the_root ∷ Initiate object boot plug ∷ Define (in_plug "p/Use")
     ∷ Initiate object boot app ∷ Define (in_app "p/Svc") ∷ Initiate (codes "p/Svc") app plug
     ∷ Constrain (codes "p/T") app plug ∷ Initiate object boot kid ∷ Define (in_kid "p/Use")
-    ∷ Initiate (codes "p/Svc") app kid ∷ Constrain (codes "p/T") app kid ∷ Define (in_plug "p/T")
-    ∷ []
+    ∷ Initiate (codes "p/Svc") app kid ∷ []
+
+-- what stands after those of both are resolved and T is defined in one of them (5.3.4)
+abbrev pub across : List Step
+across = used ++ Constrain (codes "p/T") app kid ∷ Define (in_plug "p/T") ∷ []
+
+-- what stands where T is defined in both before the second is resolved (5.3.4)
+abbrev pub both_users_defined : List Step
+both_users_defined = used ++ Define (in_plug "p/T") ∷ Define (in_kid "p/T") ∷ []
 
 -- three requests in the first two of three rounds
 abbrev pub in_rounds : Setting
@@ -154,3 +161,17 @@ below_hidden = Define the_root ∷ Initiate object boot app ∷ Define (in_app "
 abbrev pub joined_with_kid : List Step
 joined_with_kid = Define the_root ∷ Initiate object boot app ∷ Define (in_app "p/T")
     ∷ Constrain (codes "p/T") app kid ∷ []
+
+-- the root stands in plug (5.3)
+abbrev pub root_in_plug : State
+root_in_plug = standing_after (Define the_root ∷ Initiate object boot plug ∷ [])
+
+-- the root stands in app (5.3)
+abbrev pub root_in_app : State
+root_in_app = standing_after (Define the_root ∷ Initiate object boot app ∷ [])
+
+-- R stands in app, its superclass is prepared, and its superinterface is not (5.4.2)
+abbrev pub interface_unprepared : State
+interface_unprepared = standing_after (Define the_root ∷ Initiate object boot app
+    ∷ Define (in_boot "b/I") ∷ Initiate (codes "b/I") boot app ∷ Define (in_app "p/R")
+    ∷ Prepare the_root ∷ [])

@@ -7,6 +7,7 @@ mod directories;
 mod event;
 pub mod examples;
 pub mod frame_laws;
+pub mod further_examples;
 mod key;
 pub mod laws;
 mod loader;

@@ -7,36 +7,8 @@ ghost use Rattle.cl_program.specs.Files.{GivesText, IsUnread, LacksText};
 use crate::fault::Fault;
 use crate::limits::MOST_INPUT_BYTES;
 use cl_source::ReadFile;
-use cl_streams::{InputFault, read_bytes};
-use std::alloc::{AllocError, Global};
-use std::fs;
-use std::io::ErrorKind;
-
-/// A host's files, as the words name them: whatever the system opens at a path, a pipe too, which a host as a source
-/// of classes leaves alone.
-#[derive(Drop)]
-pub struct NamedFiles<'a> {
-    pub host: &'a HostRuntime,
-}
-
-impl ReadFile for NamedFiles<'_> {
-    fn read_file(
-        &self,
-        alloc: Global,
-        path: &str,
-        most: usize,
-    ) -> Result<Option<Vec<u8>>, InputFault> {
-        match fs::open(self.host, path) {
-            Ok(mut file) => Ok(Some(read_bytes(alloc, &mut file, most)?)),
-            Err(error) if error.kind() == ErrorKind::NotFound => Ok(None),
-            Err(_) => Err(InputFault::Unread),
-        }
-    }
-
-    fn another(&self, _alloc: Global) -> Result<Self, AllocError> {
-        Ok(NamedFiles { host: self.host })
-    }
-}
+use cl_streams::InputFault;
+use std::alloc::Global;
 
 /// The bytes of the file at a path, of which there are at most so many.
 pub(crate) fn bytes_at<F: ReadFile>(

@@ -18,6 +18,5 @@ pub use asked::{Asked, Options, RunWords};
 pub use directories::OpenDirectories;
 pub use ending::{fail, refuse_words};
 pub use fault::{Fault, ThreadFault};
-pub use files::NamedFiles;
 pub use limits::MOST_INPUT_BYTES;
 pub use run::run_asked;

@@ -3,7 +3,7 @@
 ghost use Rattle.std.specs.Prelude.{◌<◌, ◌^◌, ℕ, List, IfOk, ⊤};
 ghost use Rattle.cl_source.specs.Seen.{Seen, FileOf, file_seen};
 
-use cl_streams::{InputFault, read_limited};
+use cl_streams::{InputFault, read_bytes, read_limited};
 use std::alloc::{AllocError, Global};
 use std::fs;
 use std::io::{self, ErrorKind};
@@ -57,6 +57,31 @@ impl ReadFile for HostRuntime {
 
     fn another(&self, _alloc: Global) -> Result<HostRuntime, AllocError> {
         self.clone()
+    }
+}
+
+/// A host's files, as the words of a program name them: whatever the system opens at a path, a pipe too, which the host
+/// as a source of classes leaves alone.
+#[derive(Drop)]
+pub struct NamedFiles<'a> {
+    pub host: &'a HostRuntime,
+}
+
+impl ReadFile for NamedFiles<'_> {
+    fn read_file(
+        &self,
+        alloc: Global,
+        path: &str,
+        most: usize,
+    ) -> Result<Option<Vec<u8>>, InputFault> {
+        match fs::open(self.host, path) {
+            Ok(mut file) => Ok(Some(read_bytes(alloc, &mut file, most)?)),
+            Err(error) => answer_of(&error),
+        }
+    }
+
+    fn another(&self, _alloc: Global) -> Result<Self, AllocError> {
+        Ok(NamedFiles { host: self.host })
     }
 }
 

@@ -13,7 +13,7 @@ pub mod source;
 
 pub use directory::DirSource;
 pub use faulty::FaultySource;
-pub use files::ReadFile;
+pub use files::{NamedFiles, ReadFile};
 pub use memory::{MemorySource, PutRefused, Telling};
 pub use size::MOST_CLASS_BYTES;
 pub use source::{ClassBytes, Outcome, Probe, Source, SourceFault};

@@ -4,7 +4,8 @@
 mod run;
 mod words;
 
-use cl_program::{Fault, NamedFiles, fail, refuse_words};
+use cl_program::{Fault, fail, refuse_words};
+use cl_source::NamedFiles;
 use run::run_over;
 use std::io::ErrorKind;
 use std::process::ExitCode;

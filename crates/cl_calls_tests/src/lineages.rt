@@ -1,12 +1,10 @@
 //! Lineages, and what is accessible to whom: what stands above a class, each ancestor once and supertypes first.
 
-ghost use Rattle.std.specs.Prelude.{◌≤◌, length};
-
 use crate::access::{MEMBERS, PACKAGES, SEEN, ask_members, ask_seen};
 use crate::given::{Told, record, registry};
 use cl_config::Config;
 use cl_given::{APP, BOOT, LOADERS, Named, bytes_of, class_name, config, put, telling_source};
-use cl_hierarchy::{ClassRow, Lineage, Lineages};
+use cl_hierarchy::{ClassRow, Lineage};
 use cl_model::{Class, LoaderId, Untold};
 use cl_names::Name;
 use cl_registry::Registry;
@@ -221,85 +219,6 @@ fn has_superinterfaces(
     is_so
 }
 
-/// Whether the lineage of a class begins, up to a place, with that of another.
-fn has_front(
-    alloc: Global,
-    tables: &Registry<Untold>,
-    class: u16,
-    place: usize,
-    of: u16,
-) -> Result<bool, AllocError> {
-    let of = class_of(alloc, of)?;
-    let lineage = lineage(alloc, tables, class)?;
-    let found = lineage.front(place);
-    drop(lineage);
-    let Some(front) = found? else {
-        return Ok(false);
-    };
-    let is_so = *front.class() == of && front.above().len() == place;
-    drop(front);
-    Ok(is_so)
-}
-
-/// Whether just these classes stand above the class at a place of a lineage, in this order.
-fn stands_at(
-    alloc: Global,
-    tables: &Registry<Untold>,
-    class: u16,
-    place: usize,
-    above: &[u16],
-) -> Result<bool, AllocError> {
-    let whole = Lineages::of(lineage(alloc, tables, class)?);
-    let found = whole.lineage_at(alloc, place);
-    drop(whole);
-    let Some(part) = found? else {
-        return Ok(false);
-    };
-    let is_so = are_of(alloc, part.above(), above);
-    drop(part);
-    is_so
-}
-
-/// Whether just these are the superinterfaces of the class at a place of a lineage, in this order.
-fn are_over(
-    alloc: Global,
-    whole: &Lineages<Untold>,
-    place: usize,
-    wanted: &[u16],
-) -> Result<bool, AllocError>
-    requires { place ≤ length whole.now.above }
-{
-    let rows = whole.superinterfaces_at(alloc, place)?;
-    for (row, class) in rows.iter().zip(wanted) {
-        if row.class().name != name_of(alloc, *class)? {
-            return Ok(false);
-        }
-    }
-    Ok(rows.len() == wanted.len())
-}
-
-/// The same, asked before the supertypes of all classes were looked for, after, and once those superinterfaces are kept.
-fn has_over_at(
-    alloc: Global,
-    tables: &Registry<Untold>,
-    class: u16,
-    place: usize,
-    wanted: &[u16],
-) -> Result<bool, AllocError> {
-    let mut whole = Lineages::of(lineage(alloc, tables, class)?);
-    if place > whole.lineage().above().len() {
-        drop(whole);
-        return Ok(false);
-    }
-    let before = are_over(alloc, &whole, place, wanted)?;
-    whole.find_supers(alloc)?;
-    let after = are_over(alloc, &whole, place, wanted)?;
-    whole.find_superinterfaces(alloc, place)?;
-    let kept = are_over(alloc, &whole, place, wanted)?;
-    drop(whole);
-    Ok(before && after && kept)
-}
-
 pub const CLASS: u16 = 0x21;
 
 const INTERFACE: u16 = 0x601;
@@ -340,16 +259,6 @@ fn ask_classes<R: Abort>(
     assert!(rt; has_superinterfaces(alloc, tables, D, &[J3, J1, J2])?);
     assert!(rt; stands_under(alloc, tables, 6003, &[TOP, 6000, 6001, 6002])?);
     assert!(rt; has_superinterfaces(alloc, tables, 6003, &[6001, 6000, 6002])?);
-    assert!(rt; has_front(alloc, tables, D, 4, D)?);
-    assert!(rt; !has_front(alloc, tables, D, 3, J2)?);
-    assert!(rt; !has_front(alloc, tables, 6003, 3, 6002)?);
-    assert!(rt; stands_at(alloc, tables, 6003, 2, &[TOP, 6000])?);
-    assert!(rt; stands_at(alloc, tables, 6003, 3, &[TOP, 6000])?);
-    assert!(rt; stands_at(alloc, tables, D, 3, &[TOP])?);
-    assert!(rt; !stands_at(alloc, tables, D, 5, &[TOP])?);
-    assert!(rt; has_over_at(alloc, tables, 6003, 3, &[6000])?);
-    assert!(rt; has_over_at(alloc, tables, 6003, 4, &[6001, 6000, 6002])?);
-    assert!(rt; has_over_at(alloc, tables, D, 0, &[])?);
     assert!(rt; is_subclass(alloc, tables, QE, P)?);
     assert!(rt; !is_subclass(alloc, tables, QE, QE)?);
     Ok(())
@@ -455,9 +364,6 @@ fn ask_chain<R: Abort>(
     assert!(rt; has_superinterfaces(alloc, tables, LAST, &[])?);
     assert!(rt; is_subclass(alloc, tables, LAST, FIRST)?);
     assert!(rt; !is_subclass(alloc, tables, FIRST, LAST)?);
-    assert!(rt; has_front(alloc, tables, LAST, 2500, 3499)?);
-    assert!(rt; has_front(alloc, tables, LAST, 1, FIRST)?);
-    assert!(rt; !has_front(alloc, tables, LAST, 5001, LAST)?);
     Ok(())
 }
 

@@ -6,9 +6,9 @@ use crate::given::{
 use cl_config::Config;
 use cl_findings::Finding;
 use cl_given::{APP, BOOT, LOADERS, Named, PLUG, bytes_of, class_name, config, telling_source};
-use cl_hierarchy::{Equalities, Given, Lineage};
+use cl_hierarchy::Equalities;
 use cl_model::{Class, LoaderId, Request, Untold};
-use cl_preparation::{Preparations, constraints_of, fewer_constraints_of};
+use cl_preparation::constraints_of;
 use cl_registry::{Registry, RegistryFault};
 use std::alloc::{AllocError, Global};
 use std::process::Abort;
@@ -24,47 +24,32 @@ const FILES: [(u16, Named); 5] = [
     (PLUG, T),
 ];
 
-/// Those that are left where the superclass is prepared.
-fn equalities_left(
-    alloc: Global,
-    lineage: Lineage<Untold>,
-) -> Result<Equalities<Untold>, AllocError> {
-    let place = lineage.above().len();
-    let mut whole = Preparations::of(lineage);
-    fewer_constraints_of(alloc, &mut whole, place, Given::Superclass)
-}
-
 /// The constraints of a class's preparation.
 fn list(
     alloc: Global,
     tables: &Registry<Untold>,
     class: &Class,
-    call: Call,
 ) -> Result<Equalities<Untold>, RegistryFault> {
     let lineage = tables.lineage(alloc, class)?;
-    if call == ImposeLeft {
-        return Ok(equalities_left(alloc, lineage)?);
-    }
     Ok(constraints_of(alloc, &lineage)?)
 }
 
-/// What a registry is asked: to record a name at a loader; of a class, to impose the first constraint of its list, of what is left
-/// of that where its superclass is prepared, or one past its end, or to mark it.
+/// What a registry is asked: to record a name at a loader; of a class, to impose the first constraint of its list, or one past its
+/// end, or to mark it.
 #[derive(Clone, Copy, PartialEq, Eq)]
 enum Call {
     Record,
     Impose,
-    ImposeLeft,
     ImposePast,
     Mark,
 }
 
-use Call::{Impose, ImposeLeft, ImposePast, Mark, Record};
+use Call::{Impose, ImposePast, Mark, Record};
 use Named::{Service, Sub, T, Top};
 use Told::{Done, Stray, Violates};
 
 /// What is asked in order of tables in which nothing of `p/T` is recorded.
-const STEPS: [(Call, u16, Named, Told); 22] = [
+const STEPS: [(Call, u16, Named, Told); 20] = [
     (Mark, PLUG, Sub, Stray),
     (Record, BOOT, Top, Done),
     (Record, APP, Top, Done),
@@ -79,10 +64,8 @@ const STEPS: [(Call, u16, Named, Told); 22] = [
     // what stands above it is not prepared
     (Mark, PLUG, Sub, Stray),
     (Mark, APP, Service, Stray),
-    (ImposeLeft, PLUG, Sub, Stray),
     (Mark, BOOT, Top, Done),
     (Mark, APP, Service, Done),
-    (ImposeLeft, PLUG, Sub, Done),
     (Mark, PLUG, Sub, Done),
     (Mark, PLUG, Sub, Done),
     (Record, APP, T, Done),
@@ -133,7 +116,7 @@ fn ask(
         );
     }
     let class = class(alloc, loader, name)?;
-    match list(alloc, tables, &class, call) {
+    match list(alloc, tables, &class) {
         Ok(list) => Ok(ask_of(alloc, tables, call, list)),
         Err(fault) => Ok(kind_of(&fault)),
     }
@@ -147,7 +130,7 @@ fn ask_of(
     list: Equalities<Untold>,
 ) -> Told {
     let done = match call {
-        Impose | ImposeLeft => tables.impose(alloc, &list, 0),
+        Impose => tables.impose(alloc, &list, 0),
         ImposePast => tables.impose(alloc, &list, 1),
         _ => tables.mark_prepared(alloc, &list),
     };
@@ -206,7 +189,7 @@ fn record_all(
 /// The list of the subclass by tables in which it is recorded.
 fn sub_list(alloc: Global, tables: &Registry<Untold>) -> Result<Equalities<Untold>, AllocError> {
     let sub = class(alloc, PLUG, bytes_of(Sub))?;
-    match list(alloc, tables, &sub, Impose) {
+    match list(alloc, tables, &sub) {
         Ok(list) => Ok(list),
         Err(_) => Err(AllocError),
     }

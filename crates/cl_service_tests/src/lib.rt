@@ -1,8 +1,19 @@
-//! What only calls can ask of serving a script, and rows cannot: replies that a task does not wait for, sources of which a
-//! read fails, long chains and long scripts. There is nothing here but tests.
+//! What only calls can ask of tasks, of serving a script by one worker and by several, and of the program: replies that a task
+//! does not wait for, reads, readers and writers that are refused, which numbers seats draw, seeds of one's own. There is
+//! nothing here but tests. Whole runs are rows of tests/program.
 #![tactic(auto)]
 
 #[cfg(test)]
+mod draws;
+#[cfg(test)]
+mod given;
+#[cfg(test)]
+mod runs;
+#[cfg(test)]
 mod service;
 #[cfg(test)]
+mod serving;
+#[cfg(test)]
 mod tasks;
+#[cfg(test)]
+mod workers;

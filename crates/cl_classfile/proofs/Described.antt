@@ -1,13 +1,13 @@
 -- What is a descriptor is text, and what has a ; is no name.
-use Rattle.std.proofs.Common.{◌≡◌, ℕ, zero, suc, ◌<◌, Bool, true, false, not, cond, eqb, ◌&&◌, ◌||◌, List, [], ◌∷◌, ◌++◌, length, get_or, Option, Some, None, refl, sym, ap, subst, ◌∙◌, append_assoc, arith}
+use Rattle.std.proofs.Common.{◌≡◌, ℕ, zero, suc, ◌<◌, Bool, true, false, not, cond, eqb, ◌&&◌, List, [], ◌∷◌, ◌++◌, length, get_or, Option, Some, None, refl, sym, ap, subst, ◌∙◌, append_assoc, arith}
 use Rattle.std.specs.Prelude.{bytes_eq, codes, is_some, nat_le, replicate, option_to_list}
 use Rattle.std.specs.List.{AllByRecursion, flat_map, list_all}
 use Rattle.std.specs.Cmp.Lexicographic.{same_text}
 use Rattle.cl_names.specs.Text.{IsModifiedUtf8, unit, is_text}
-use Rattle.cl_names.specs.Kind.{init, clinit, is_allowed, is_special, has_no_angle, has_unqualified_form, has_class_form, has_method_form, is_class_name, is_unqualified_name, is_method_name}
+use Rattle.cl_names.specs.Kind.{init, clinit, is_allowed, is_special, has_unqualified_form, has_class_form, has_method_form, is_class_name, is_unqualified_name, is_method_name}
 use Rattle.cl_names.proofs.Texts.{cons_text, no_units, text_from_test, test_of}
 use Rattle.cl_names.proofs.Levels.{parts_from, class_parts}
-use Rattle.cl_descriptors.specs.Types.{IsBase, spelling_of_base, spelling_of_field, spelling_of_return, spelling_of_method}
+use Rattle.cl_descriptors.specs.Types.{IsBase, spelling_of_base, spelling_of_field, spelling_of_return}
 use Rattle.cl_descriptors.specs.Reading.{form_of}
 use Rattle.cl_descriptors.specs.Answers.{FormOf}
 use Rattle.cl_descriptors.specs.declared.types.Base.{Base}

@@ -15,7 +15,7 @@ use Rattle.cl_classfile.proofs.Codec.{IsBytes, bind_ok, ok_is}
 use Rattle.cl_classfile.proofs.Spelled.{structure}
 use Rattle.cl_classfile.proofs.Quiet.{is_header, in_header}
 use Rattle.cl_classfile.proofs.Fitting.{pool_told}
-use Rattle.cl_classfile.proofs.Tables.{tables_say, file_says, file_told}
+use Rattle.cl_classfile.proofs.Tables.{version_told, tables_say, file_says, file_told}
 
 pub ended : {A : Type 0} (b : Bool) (x y : A) → cond b (Ok x) (Err Trailing) ≡ Ok y → (b ≡ true) × (x ≡ y)
 ended true x y e = (refl, cc)
@@ -55,7 +55,7 @@ read_again bytes f s =
 -- parts that the widths can say are judged as their bytes are
 pub parts_as_read : (f : Structure) → Fits f → parts_of f ≡ read_of (spelling f)
 unfolding parts_of read_of
-parts_as_read f h = rw (pool_told f.pool h.pool, whole_again f h) refl
+parts_as_read f h = rw (version_told f.version h.version, pool_told f.pool h.pool, whole_again f h) refl
 
 -- a file that passed the tests
 pub is_class_file : (f : Structure) (u v : Unit {0}) → Fits f → checked_entries f.pool 1 f.pool ≡ Ok u → checked_tables (map entry_traits f.pool) f.pool f ≡ Ok v → IsClassFile f

@@ -1,12 +1,16 @@
 -- The faults of the header, in the words of its bytes.
-use Rattle.std.proofs.Common.{◌≡◌, ◌≢◌, ℕ, ◌^◌, ◌<◌, ◌≤◌, Bool, true, false, eqb, ltb, ◌&&◌, List, ◌++◌, length, take, drop, Ok, Err, refl, sym, ap, ◌∙◌, arith, inl, inr}
+use Rattle.std.proofs.Common.{◌≡◌, ◌≢◌, ℕ, ◌^◌, ◌<◌, ◌≤◌, Bool, true, false, eqb, ltb, List, ◌++◌, length, take, drop, Ok, Err, refl, sym, ap, subst, ◌∙◌, arith, inl, inr}
 use Rattle.std.specs.Int.{Width, w16, w32, byte_len, from_be_bytes, to_be_bytes}
 use Rattle.std.proofs.lemmas.Bool.{cases_lt, lt-ltb, le-ltb, eqb-true}
 use Rattle.std.proofs.lemmas.List.{take_at, length-drop}
-use Rattle.cl_classfile.specs.declared.fault.Fault.TheVariants.{BadMagic, Version, Truncated}
-use Rattle.cl_classfile.specs.Structure.{magic, version, HasOtherMagic, HasOtherVersion}
-use Rattle.cl_classfile.specs.Reading.{Reader, number_at, then_at, magic_at, version_at, header_at, two_at}
-use Rattle.cl_classfile.proofs.Codec.{both, IsBytes, IsBytes-drop, IsCodec, number16, number32, ok_is, also}
+use Rattle.cl_classfile.specs.declared.fault.Fault.TheVariants as faults
+use Rattle.cl_classfile.specs.declared.fault.Fault.TheVariants.{BadMagic, Truncated}
+use Rattle.cl_classfile.specs.declared.version.Version.{Version}
+use Rattle.cl_classfile.specs.Versions.{is_supported, version_spelling, NumbersFit, SpellsOther}
+use Rattle.cl_classfile.proofs.Spelled.{numbers}
+use Rattle.cl_classfile.specs.Structure.{magic, HasOtherMagic, HasOtherVersion}
+use Rattle.cl_classfile.specs.Reading.{Reader, number_at, then_at, map_at, magic_at, version_at, header_at, two_at}
+use Rattle.cl_classfile.proofs.Codec.{IsBytes, IsBytes-drop, IsCodec, number32, ok_is}
 use Rattle.cl_classfile.proofs.Judging.{tests}
 
 -- a number stands where there are bytes enough
@@ -60,17 +64,11 @@ magic_of bytes fits =
 
 data Two (bytes : List ℕ) : Type 0 where
   Cut : length bytes < 4 → version_at bytes ≡ Err Truncated → Two bytes
-  Other : 4 ≤ length bytes → take 4 bytes ≢ version → version_at bytes ≡ Err Version → Two bytes
-  Right : 4 ≤ length bytes → take 4 bytes ≡ version → (v : ℕ × ℕ) (rest : List ℕ) → version_at bytes ≡ Ok (v, rest) → Two bytes
+  Other : 4 ≤ length bytes → SpellsOther (take 4 bytes) → version_at bytes ≡ Err faults.Version → Two bytes
+  Right : 4 ≤ length bytes → (v : Version) → (SpellsOther (take 4 bytes) → ⊥) → (rest : List ℕ) → version_at bytes ≡ Ok (v, rest) → Two bytes
 
-abbrev numbers_at : Reader (ℕ × ℕ)
-numbers_at = then_at (number_at w16) (λ first. number_at w16)
-
-abbrev numbers_spelling : ℕ × ℕ → List ℕ
-numbers_spelling v = to_be_bytes w16 v.0 ++ to_be_bytes w16 v.1
-
-numbers : IsCodec numbers_at numbers_spelling (λ v. (v.0 < 2 ^ 16) × (v.1 < 2 ^ 16))
-numbers = also (number_at w16) (number_at w16) (to_be_bytes w16) (to_be_bytes w16) (λ n. n < 2 ^ 16) (λ n. n < 2 ^ 16) number16 number16
+abbrev numbers_at : Reader Version
+numbers_at = map_at (then_at (number_at w16) (λ first. number_at w16)) (λ v. record { major = v.1; minor = v.0 })
 
 cut_at : (bytes : List ℕ) → length bytes < 4 → numbers_at bytes ≡ Err Truncated
 cut_at bytes lt =
@@ -85,18 +83,16 @@ version_of bytes fits =
     elim (cases_lt (length bytes) 4) [
       | inl lt ↦ Cut lt (rw (cut_at bytes lt) refl)
       | inr le ↦
-          let v : ℕ × ℕ = (from_be_bytes w16 (take 2 bytes), from_be_bytes w16 (take 2 (drop 2 bytes))) in
+          let v : Version = record { major = from_be_bytes w16 (take 2 (drop 2 bytes)); minor = from_be_bytes w16 (take 2 bytes) } in
           let rest : List ℕ = drop 2 (drop 2 bytes) in
           let read : numbers_at bytes ≡ Ok (v, rest) = rw (long w16 bytes (omega arith), long w16 (drop 2 bytes) (omega (arith, length-drop 2 bytes))) refl in
-          let stands : take 4 bytes ≡ numbers_spelling v = front numbers_at numbers_spelling (λ v. (v.0 < 2 ^ 16) × (v.1 < 2 ^ 16)) numbers bytes (v, rest) 4 fits read refl in
-          elim (tests (eqb v.0 0 && eqb v.1 52)) [
+          let stands : take 4 bytes ≡ version_spelling v = front numbers_at version_spelling NumbersFit numbers bytes (v, rest) 4 fits read refl in
+          elim (tests (is_supported v)) [
             | inl t ↦
-                let b = both (eqb v.0 0) (eqb v.1 52) t in
-                Right le (stands ∙ ap (λ (n : ℕ). to_be_bytes w16 n ++ to_be_bytes w16 v.1) (eqb-true v.0 0 b.0) ∙ ap (λ (n : ℕ). to_be_bytes w16 0 ++ to_be_bytes w16 n) (eqb-true v.1 52 b.1)) v rest (rw (read, t) refl)
-            | inr t ↦
-                Other le
-                (λ is. differ (eqb v.0 0 && eqb v.1 52) t (ap (λ (k : ℕ × ℕ). eqb k.0 0 && eqb k.1 52) (same_value numbers_at numbers_spelling (λ v. (v.0 < 2 ^ 16) × (v.1 < 2 ^ 16)) numbers bytes (v, rest) (0, 52) fits read (omega arith, omega arith) (sym stands ∙ is))))
-                (rw (read, t) refl)
+                Right le v
+                (λ o. let same : v ≡ o.numbers = same_value numbers_at version_spelling NumbersFit numbers bytes (v, rest) o.numbers fits read o.fit (sym stands ∙ o.spelled) in differ (is_supported o.numbers) o.other (subst (λ (u : Version). is_supported u ≡ true) same t))
+                rest (rw (read, t) refl)
+            | inr t ↦ Other le (record { numbers = v; fit = (numbers.takes bytes (v, rest) fits read).1; spelled = stands; other = t }) (rw (read, t) refl)
           ]
     ]
 
@@ -110,8 +106,8 @@ magic_says bytes fits e =
       | Magic.Other le differs h ↦ (le, differs)
       | Magic.Right le is n h ↦ elim (version_of (drop 4 bytes) (IsBytes-drop 4 bytes fits)) [
         | Two.Cut lt v ↦ absurd (let k : header_at bytes ≡ Err Truncated = rw (h, v) refl in cc)
-        | Two.Other few differs v ↦ absurd (let k : header_at bytes ≡ Err Version = rw (h, v) refl in cc)
-        | Two.Right few same found rest v ↦ absurd (let k : header_at bytes ≡ Ok ((n, found), rest) = rw (h, v) refl in cc)
+        | Two.Other few differs v ↦ absurd (let k : header_at bytes ≡ Err faults.Version = rw (h, v) refl in cc)
+        | Two.Right few w none rest v ↦ absurd (let k : header_at bytes ≡ Ok ((n, w), rest) = rw (h, v) refl in cc)
       ]
     ]
 
@@ -124,7 +120,7 @@ magic_told bytes fits o =
       | Magic.Right le is n h ↦ absurd (o.1 is)
     ]
 
-pub version_says : (bytes : List ℕ) → IsBytes bytes → header_at bytes ≡ Err Version → HasOtherVersion bytes
+pub version_says : (bytes : List ℕ) → IsBytes bytes → header_at bytes ≡ Err faults.Version → HasOtherVersion bytes
 unfolding header_at
 version_says bytes fits e =
     elim (magic_of bytes fits) [
@@ -133,11 +129,11 @@ version_says bytes fits e =
       | Magic.Right le is n h ↦ elim (version_of (drop 4 bytes) (IsBytes-drop 4 bytes fits)) [
         | Two.Cut lt v ↦ absurd (let k : header_at bytes ≡ Err Truncated = rw (h, v) refl in cc)
         | Two.Other few differs v ↦ (omega (arith, length-drop 4 bytes), is, differs)
-        | Two.Right few same found rest v ↦ absurd (let k : header_at bytes ≡ Ok ((n, found), rest) = rw (h, v) refl in cc)
+        | Two.Right few w none rest v ↦ absurd (let k : header_at bytes ≡ Ok ((n, w), rest) = rw (h, v) refl in cc)
       ]
     ]
 
-pub version_told : (bytes : List ℕ) → IsBytes bytes → HasOtherVersion bytes → header_at bytes ≡ Err Version
+pub version_told : (bytes : List ℕ) → IsBytes bytes → HasOtherVersion bytes → header_at bytes ≡ Err faults.Version
 unfolding header_at
 version_told bytes fits o =
     elim (magic_of bytes fits) [
@@ -146,6 +142,6 @@ version_told bytes fits o =
       | Magic.Right le is n h ↦ elim (version_of (drop 4 bytes) (IsBytes-drop 4 bytes fits)) [
         | Two.Cut lt v ↦ absurd (omega (arith, o.0, length-drop 4 bytes))
         | Two.Other few differs v ↦ rw (h, v) refl
-        | Two.Right few same found rest v ↦ absurd (o.2 same)
+        | Two.Right few w none rest v ↦ absurd (none o.2)
       ]
     ]

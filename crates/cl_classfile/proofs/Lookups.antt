@@ -5,8 +5,9 @@ use Rattle.std.specs.List.{AllByRecursion}
 use Rattle.cl_descriptors.specs.declared.types.Descriptor.TheVariants as descriptors
 use Rattle.cl_descriptors.specs.Reading.{whole_field, whole_method}
 use Rattle.cl_descriptors.proofs.Methods.{whole_field_again, whole_method_again}
+use Rattle.cl_classfile.specs.declared.version.Owner.{Owner}
 use Rattle.cl_classfile.specs.declared.entry.Entry.{Entry}
-use Rattle.cl_classfile.specs.Structure.{Structure, MemberInfo, IsClassFile}
+use Rattle.cl_classfile.specs.Structure.{owner_of, Structure, MemberInfo, IsClassFile}
 use Rattle.cl_classfile.specs.declared.numbers.Numbers.{Numbers}
 use Rattle.cl_classfile.specs.declared.index.Places.{Places}
 use Rattle.cl_classfile.specs.Indexes.{Lead, led_to}
@@ -93,7 +94,7 @@ field_keyed pool b m k =
       read_is = rw read refl;
     }
 
-method_keyed : (pool : List Entry) (b : Bool) (m : MemberInfo) → KeepsMethod pool b m → IsKeyed method_of pool m
+method_keyed : (pool : List Entry) (b : Owner) (m : MemberInfo) → KeepsMethod pool b m → IsKeyed method_of pool m
 method_keyed pool b m k =
     let read : whole_method k.descriptor.text ≡ Some k.descriptor.kind.0 = whole_method_again k.descriptor.text k.descriptor.kind.0 k.descriptor.kind.1 in
     record {
@@ -119,7 +120,7 @@ pub method_is : (f : Structure) → IsClassFile f → (name descriptor : Name)
     → option_map (linked_method f) (find (has_texts f.pool name descriptor) f.methods) ≡ option_map (λ m. Some m) (method_named (file_of f) name descriptor)
 method_is f is name descriptor =
     either_is method_of reads_methods f.pool name descriptor (method_of name descriptor) refl f.methods
-    (each (method_keyed f.pool (has f.flags interface)) f.methods is.kept.methods.each)
+    (each (method_keyed f.pool (owner_of f)) f.methods is.kept.methods.each)
 
 -- ---- what a search found, r, with what g tells of it: the members are those that the file showed, and so is the pool
 

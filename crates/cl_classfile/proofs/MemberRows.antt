@@ -10,6 +10,7 @@ use Rattle.cl_descriptors.specs.Types.{units_of_method}
 use Rattle.cl_descriptors.specs.Answers.{UnitsOf, IsFieldDescriptor}
 use Rattle.cl_descriptors.specs.Reading.{units_of}
 use Rattle.cl_descriptors.proofs.Forms.{units_are, units_told}
+use Rattle.cl_classfile.specs.declared.version.Owner.{Owner}
 use Rattle.cl_classfile.specs.declared.entry.Entry.{Entry}
 use Rattle.cl_classfile.specs.declared.entry.Entry.TheVariants.{Utf8}
 use Rattle.cl_classfile.specs.declared.fault.Fault.{Fault}
@@ -90,31 +91,31 @@ text_is test name says pool i Kind h e =
     let same : h.text ≡ name = says h.text (ap test (sym (special_at pool i h.text h.is_text)) ∙ e) in
     h.is_text ∙ ap (λ (t : List ℕ). Some (Utf8 t)) same
 
-plain_says : (s : Special) (of_interface : Bool) (flags : ℕ) → keeps_method_flags s of_interface flags ≡ true → is_clinit s ≡ false → is_method_flags of_interface flags ≡ true
-plain_says names.Plain of_interface flags h e = h
-plain_says names.Init of_interface flags h e = (both (is_method_flags of_interface flags) (is_init_flags flags) h).0
-plain_says names.Clinit of_interface flags h e = absurd cc
-plain_says names.Angle of_interface flags h e = h
+plain_says : (s : Special) (owner : Owner) (flags : ℕ) → keeps_method_flags s owner flags ≡ true → is_clinit s ≡ false → is_method_flags owner flags ≡ true
+plain_says names.Plain owner flags h e = h
+plain_says names.Init owner flags h e = (both (is_method_flags owner flags) (is_init_flags flags) h).0
+plain_says names.Clinit owner flags h e = absurd cc
+plain_says names.Angle owner flags h e = h
 
-init_flags_say : (s : Special) (of_interface : Bool) (flags : ℕ) → keeps_method_flags s of_interface flags ≡ true → is_init s ≡ true → is_init_flags flags ≡ true
-init_flags_say names.Plain of_interface flags h e = absurd cc
-init_flags_say names.Init of_interface flags h e = (both (is_method_flags of_interface flags) (is_init_flags flags) h).1
-init_flags_say names.Clinit of_interface flags h e = absurd cc
-init_flags_say names.Angle of_interface flags h e = absurd cc
+init_flags_say : (s : Special) (owner : Owner) (flags : ℕ) → keeps_method_flags s owner flags ≡ true → is_init s ≡ true → is_init_flags flags ≡ true
+init_flags_say names.Plain owner flags h e = absurd cc
+init_flags_say names.Init owner flags h e = (both (is_method_flags owner flags) (is_init_flags flags) h).1
+init_flags_say names.Clinit owner flags h e = absurd cc
+init_flags_say names.Angle owner flags h e = absurd cc
 
-flags_told : (s : Special) (of_interface : Bool) (flags : ℕ) → (is_clinit s ≡ false → is_method_flags of_interface flags ≡ true) → (is_init s ≡ true → is_init_flags flags ≡ true) → keeps_method_flags s of_interface flags ≡ true
-flags_told names.Plain of_interface flags p q = p refl
-flags_told names.Init of_interface flags p q = all (is_method_flags of_interface flags) (is_init_flags flags) (p refl) (q refl)
-flags_told names.Clinit of_interface flags p q = refl
-flags_told names.Angle of_interface flags p q = p refl
+flags_told : (s : Special) (owner : Owner) (flags : ℕ) → (is_clinit s ≡ false → is_method_flags owner flags ≡ true) → (is_init s ≡ true → is_init_flags flags ≡ true) → keeps_method_flags s owner flags ≡ true
+flags_told names.Plain owner flags p q = p refl
+flags_told names.Init owner flags p q = all (is_method_flags owner flags) (is_init_flags flags) (p refl) (q refl)
+flags_told names.Clinit owner flags p q = refl
+flags_told names.Angle owner flags p q = p refl
 
-abbrev keeps_methods : List Entry → Bool → MemberInfo → Bool
-keeps_methods pool of_interface m = keeps_method (map entry_traits pool) of_interface m
+abbrev keeps_methods : List Entry → Owner → MemberInfo → Bool
+keeps_methods pool owner m = keeps_method (map entry_traits pool) owner m
 
-method_says : (pool : List Entry) (of_interface : Bool) (m : MemberInfo) → keeps_methods pool of_interface m ≡ true → KeepsMethod pool of_interface m
-method_says pool of_interface m h =
+method_says : (pool : List Entry) (owner : Owner) (m : MemberInfo) → keeps_methods pool owner m ≡ true → KeepsMethod pool owner m
+method_says pool owner m h =
     let name = traits pool m.name_index in
-    let flags = keeps_method_flags name.special of_interface m.flags in
+    let flags = keeps_method_flags name.special owner m.flags in
     let fits = has_room (has m.flags static) (traits pool m.descriptor_index).units in
     let a = both (flags && name.method) fits h in
     let b = both flags name.method a.0 in
@@ -122,17 +123,17 @@ method_says pool of_interface m h =
     record {
       flags = λ other. elim (tests (is_clinit name.special)) [
         | inl e ↦ absurd (other (text_is is_clinit clinit clinit_says pool m.name_index (IsNameOf IsMethod) named e))
-        | inr e ↦ plain_says name.special of_interface m.flags b.0 e
+        | inr e ↦ plain_says name.special owner m.flags b.0 e
       ];
-      init_flags = λ is. init_flags_say name.special of_interface m.flags b.0 (ap is_init (special_at pool m.name_index init is));
+      init_flags = λ is. init_flags_say name.special owner m.flags b.0 (ap is_init (special_at pool m.name_index init is));
       name = named;
       descriptor = text_says (λ t. has_room (has m.flags static) t.units) (TakesUnits (has m.flags static)) (room (has m.flags static)) pool m.descriptor_index a.1;
     }
 
-method_told : (pool : List Entry) (of_interface : Bool) (m : MemberInfo) → KeepsMethod pool of_interface m → keeps_methods pool of_interface m ≡ true
-method_told pool of_interface m k =
+method_told : (pool : List Entry) (owner : Owner) (m : MemberInfo) → KeepsMethod pool owner m → keeps_methods pool owner m ≡ true
+method_told pool owner m k =
     let name = traits pool m.name_index in
-    let flags : keeps_method_flags name.special of_interface m.flags ≡ true = flags_told name.special of_interface m.flags
+    let flags : keeps_method_flags name.special owner m.flags ≡ true = flags_told name.special owner m.flags
     (λ e. k.flags (λ is. differ (is_clinit name.special) (ap is_clinit (special_at pool m.name_index clinit is)) e))
     (λ e. k.init_flags (text_is is_init init init_says pool m.name_index (IsNameOf IsMethod) k.name e)) in
     all _ _
@@ -245,46 +246,46 @@ pub record IsList (Keeps : MemberInfo → Type 0) (pool : List Entry) (ms : List
   pub fits : AllFit MemberFits ms
   pub kept : KeepMembers Keeps pool ms
 
-list_says : (kind : Kind) (of_interface : Bool) (pool : List Entry) (Keeps : MemberInfo → Type 0) → ((m : MemberInfo) → keeps_member kind (map entry_traits pool) of_interface m ≡ true → MemberFits m × Keeps m) → (ms : List MemberInfo) (u : Unit {0})
-    → checked_list kind (map entry_traits pool) of_interface pool ms ≡ Ok u → IsList Keeps pool ms
+list_says : (kind : Kind) (owner : Owner) (pool : List Entry) (Keeps : MemberInfo → Type 0) → ((m : MemberInfo) → keeps_member kind (map entry_traits pool) owner m ≡ true → MemberFits m × Keeps m) → (ms : List MemberInfo) (u : Unit {0})
+    → checked_list kind (map entry_traits pool) owner pool ms ≡ Ok u → IsList Keeps pool ms
 unfolding checked_list
-list_says kind of_interface pool Keeps says ms u h =
-    let keeps = keeps_member kind (map entry_traits pool) of_interface in
+list_says kind owner pool Keeps says ms u h =
+    let keeps = keeps_member kind (map entry_traits pool) owner in
     let k = choice_ok (is_short (length ms)) (checked_members keeps pool [] ms) BadMember u h in
     let each = each_says keeps (λ m. MemberFits m × Keeps m) says pool [] ms u k.1 in
     let parts = both_of MemberFits Keeps ms each.0 in
     record { fits = (ltb-true (length ms) (2 ^ 16) k.0, parts.0); kept = record { each = parts.1; new = each.1 } }
 
-list_told : (kind : Kind) (of_interface : Bool) (pool : List Entry) (Keeps : MemberInfo → Type 0) → ((m : MemberInfo) → MemberFits m × Keeps m → keeps_member kind (map entry_traits pool) of_interface m ≡ true) → (ms : List MemberInfo)
-    → AllFit MemberFits ms → KeepMembers Keeps pool ms → checked_list kind (map entry_traits pool) of_interface pool ms ≡ Ok tt
+list_told : (kind : Kind) (owner : Owner) (pool : List Entry) (Keeps : MemberInfo → Type 0) → ((m : MemberInfo) → MemberFits m × Keeps m → keeps_member kind (map entry_traits pool) owner m ≡ true) → (ms : List MemberInfo)
+    → AllFit MemberFits ms → KeepMembers Keeps pool ms → checked_list kind (map entry_traits pool) owner pool ms ≡ Ok tt
 unfolding checked_list
-list_told kind of_interface pool Keeps told ms fits kept =
-    let keeps = keeps_member kind (map entry_traits pool) of_interface in
+list_told kind owner pool Keeps told ms fits kept =
+    let keeps = keeps_member kind (map entry_traits pool) owner in
     rw ((short_tells (length ms)).1 fits.0) (each_told keeps (λ m. MemberFits m × Keeps m) told pool [] ms (of_both MemberFits Keeps ms fits.1 kept.each) kept.new)
 
-pub fields_say : (pool : List Entry) (of_interface : Bool) (ms : List MemberInfo) (u : Unit {0}) → checked_list kinds.Field (map entry_traits pool) of_interface pool ms ≡ Ok u → IsList (KeepsField pool of_interface) pool ms
-fields_say pool of_interface =
-    list_says kinds.Field of_interface pool (KeepsField pool of_interface) (λ m h. let k = both (member_fits m) (keeps_fields pool of_interface m) h in ((member_tells m).0 k.0, field_says pool of_interface m k.1))
+pub fields_say : (pool : List Entry) (owner : Owner) (ms : List MemberInfo) (u : Unit {0}) → checked_list kinds.Field (map entry_traits pool) owner pool ms ≡ Ok u → IsList (KeepsField pool owner.of_interface) pool ms
+fields_say pool owner =
+    list_says kinds.Field owner pool (KeepsField pool owner.of_interface) (λ m h. let k = both (member_fits m) (keeps_fields pool owner.of_interface m) h in ((member_tells m).0 k.0, field_says pool owner.of_interface m k.1))
 
-pub fields_told : (pool : List Entry) (of_interface : Bool) (ms : List MemberInfo) → AllFit MemberFits ms → KeepMembers (KeepsField pool of_interface) pool ms → checked_list kinds.Field (map entry_traits pool) of_interface pool ms ≡ Ok tt
-fields_told pool of_interface =
-    list_told kinds.Field of_interface pool (KeepsField pool of_interface) (λ m h. all (member_fits m) (keeps_fields pool of_interface m) ((member_tells m).1 h.0) (field_told pool of_interface m h.1))
+pub fields_told : (pool : List Entry) (owner : Owner) (ms : List MemberInfo) → AllFit MemberFits ms → KeepMembers (KeepsField pool owner.of_interface) pool ms → checked_list kinds.Field (map entry_traits pool) owner pool ms ≡ Ok tt
+fields_told pool owner =
+    list_told kinds.Field owner pool (KeepsField pool owner.of_interface) (λ m h. all (member_fits m) (keeps_fields pool owner.of_interface m) ((member_tells m).1 h.0) (field_told pool owner.of_interface m h.1))
 
-pub methods_say : (pool : List Entry) (of_interface : Bool) (ms : List MemberInfo) (u : Unit {0}) → checked_list kinds.Method (map entry_traits pool) of_interface pool ms ≡ Ok u → IsList (KeepsMethod pool of_interface) pool ms
-methods_say pool of_interface =
-    list_says kinds.Method of_interface pool (KeepsMethod pool of_interface) (λ m h. let k = both (member_fits m) (keeps_methods pool of_interface m) h in ((member_tells m).0 k.0, method_says pool of_interface m k.1))
+pub methods_say : (pool : List Entry) (owner : Owner) (ms : List MemberInfo) (u : Unit {0}) → checked_list kinds.Method (map entry_traits pool) owner pool ms ≡ Ok u → IsList (KeepsMethod pool owner) pool ms
+methods_say pool owner =
+    list_says kinds.Method owner pool (KeepsMethod pool owner) (λ m h. let k = both (member_fits m) (keeps_methods pool owner m) h in ((member_tells m).0 k.0, method_says pool owner m k.1))
 
-pub methods_told : (pool : List Entry) (of_interface : Bool) (ms : List MemberInfo) → AllFit MemberFits ms → KeepMembers (KeepsMethod pool of_interface) pool ms → checked_list kinds.Method (map entry_traits pool) of_interface pool ms ≡ Ok tt
-methods_told pool of_interface =
-    list_told kinds.Method of_interface pool (KeepsMethod pool of_interface) (λ m h. all (member_fits m) (keeps_methods pool of_interface m) ((member_tells m).1 h.0) (method_told pool of_interface m h.1))
+pub methods_told : (pool : List Entry) (owner : Owner) (ms : List MemberInfo) → AllFit MemberFits ms → KeepMembers (KeepsMethod pool owner) pool ms → checked_list kinds.Method (map entry_traits pool) owner pool ms ≡ Ok tt
+methods_told pool owner =
+    list_told kinds.Method owner pool (KeepsMethod pool owner) (λ m h. all (member_fits m) (keeps_methods pool owner m) ((member_tells m).1 h.0) (method_told pool owner m h.1))
 
 -- ---- one after the other, as a loop does
 
 -- a count can say how many there are
-pub counted : (kind : Kind) (traits : List Traits) (of_interface : Bool) (pool : List Entry) (ms : List MemberInfo) → length ms ≤ MOST_COUNTED
-    → checked_list kind traits of_interface pool ms ≡ checked_members (keeps_member kind traits of_interface) pool [] ms
+pub counted : (kind : Kind) (traits : List Traits) (owner : Owner) (pool : List Entry) (ms : List MemberInfo) → length ms ≤ MOST_COUNTED
+    → checked_list kind traits owner pool ms ≡ checked_members (keeps_member kind traits owner) pool [] ms
 unfolding checked_list
-counted kind traits of_interface pool ms le = rw ((short_tells (length ms)).1 (omega arith)) refl
+counted kind traits owner pool ms le = rw ((short_tells (length ms)).1 (omega arith)) refl
 
 -- the members from i on are still to be looked at
 abbrev pub AreLookedAt : (MemberInfo → Bool) → List Entry → List MemberInfo → ℕ → Type 0

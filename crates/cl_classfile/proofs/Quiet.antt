@@ -5,11 +5,13 @@ use Rattle.std.specs.List.{list_any}
 use Rattle.cl_classfile.specs.declared.entry.Entry.{Entry}
 use Rattle.cl_classfile.specs.declared.entry.Entry.TheVariants.{Unusable}
 use Rattle.cl_classfile.specs.declared.fault.Fault.{Fault}
-use Rattle.cl_classfile.specs.declared.fault.Fault.TheVariants.{BadMagic, Version, Truncated, Trailing, BadPool, BadFlags, BadMember, Duplicate, BadSupertype}
+use Rattle.cl_classfile.specs.declared.fault.Fault.TheVariants as faults
+use Rattle.cl_classfile.specs.declared.version.Version.{Version}
+use Rattle.cl_classfile.specs.declared.fault.Fault.TheVariants.{BadMagic, Truncated, Trailing, BadPool, BadFlags, BadMember, Duplicate, BadSupertype}
 use Rattle.cl_classfile.specs.Flags.{has, interface, is_class_flags}
 use Rattle.cl_classfile.specs.declared.members.Kind.{Kind}
 use Rattle.cl_classfile.specs.declared.members.Kind.TheVariants as kinds
-use Rattle.cl_classfile.specs.Structure.{Structure, MemberInfo, Attribute}
+use Rattle.cl_classfile.specs.Structure.{owner_of, Structure, MemberInfo, Attribute}
 use Rattle.cl_classfile.specs.Widths.{is_short, all_fit, attribute_fits}
 use Rattle.cl_classfile.specs.Tags as tags
 use Rattle.cl_classfile.specs.Files.{class_name}
@@ -22,7 +24,7 @@ use Rattle.cl_classfile.proofs.Judging.{differ}
 -- the header's own faults
 abbrev pub is_header : Fault → Bool
 is_header BadMagic = true
-is_header Version = true
+is_header faults.Version = true
 is_header Truncated = false
 is_header Trailing = false
 is_header (BadPool i) = false
@@ -171,9 +173,9 @@ unfolding checked_entries
 rows entries i [] = ok tt
 rows entries i (e ∷ es) = bind (kept_entry entries i e) _ (choice (keeps_entry (map entry_traits entries) entries e) (Ok e) (Err (BadPool i)) (ok e) (err (BadPool i) refl)) (λ x. rows entries (i + 1) es)
 
-class_tables : (f : Structure) → IsQuiet (checked_class f.pool f.flags f.this_class f.super_class f.interfaces)
+class_tables : (f : Structure) → IsQuiet (checked_class f.version.major f.pool f.flags f.this_class f.super_class f.interfaces)
 class_tables f =
-    choice (is_short f.flags && is_class_flags f.flags) _ (Err BadFlags)
+    choice (is_short f.flags && is_class_flags f.version.major f.flags) _ (Err BadFlags)
     (choice (keeps_names f.pool (has f.flags interface) f.super_class (class_name f.pool f.this_class) && keeps_interfaces f.pool f.interfaces) (Ok tt) (Err BadSupertype) (ok tt) (err BadSupertype refl)) (err BadFlags refl)
 
 each_member : (keeps : MemberInfo → Bool) (entries : List Entry) (before ms : List MemberInfo) → IsQuiet (checked_members keeps entries before ms)
@@ -183,16 +185,16 @@ each_member keeps entries before (m ∷ ms) =
     choice (keeps m) _ (Err BadMember)
     (choice (list_any (λ e. same_member entries e m) before) (Err Duplicate) _ (err Duplicate refl) (each_member keeps entries (before ++ m ∷ []) ms)) (err BadMember refl)
 
-all_members : (kind : Kind) (f : Structure) (ms : List MemberInfo) → IsQuiet (checked_list kind (map entry_traits f.pool) (has f.flags interface) f.pool ms)
+all_members : (kind : Kind) (f : Structure) (ms : List MemberInfo) → IsQuiet (checked_list kind (map entry_traits f.pool) (owner_of f) f.pool ms)
 unfolding checked_list
-all_members kind f ms = choice (is_short (length ms)) _ (Err BadMember) (each_member (keeps_member kind (map entry_traits f.pool) (has f.flags interface)) f.pool [] ms) (err BadMember refl)
+all_members kind f ms = choice (is_short (length ms)) _ (Err BadMember) (each_member (keeps_member kind (map entry_traits f.pool) (owner_of f)) f.pool [] ms) (err BadMember refl)
 
 tables_checked : (f : Structure) → IsQuiet (checked_tables (map entry_traits f.pool) f.pool f)
 unfolding checked_tables
 tables_checked f =
-    bind (checked_class f.pool f.flags f.this_class f.super_class f.interfaces) _ (class_tables f) (λ class.
-    bind (checked_list kinds.Field (map entry_traits f.pool) (has f.flags interface) f.pool f.fields) _ (all_members kinds.Field f f.fields) (λ fields.
-    bind (checked_list kinds.Method (map entry_traits f.pool) (has f.flags interface) f.pool f.methods) _ (all_members kinds.Method f f.methods) (λ methods.
+    bind (checked_class f.version.major f.pool f.flags f.this_class f.super_class f.interfaces) _ (class_tables f) (λ class.
+    bind (checked_list kinds.Field (map entry_traits f.pool) (owner_of f) f.pool f.fields) _ (all_members kinds.Field f f.fields) (λ fields.
+    bind (checked_list kinds.Method (map entry_traits f.pool) (owner_of f) f.pool f.methods) _ (all_members kinds.Method f f.methods) (λ methods.
     choice (all_fit attribute_fits f.attributes) (Ok tt) (Err BadMember) (ok tt) (err BadMember refl))))
 
 file : (f : Structure) → IsQuiet (kept_file f)
@@ -210,7 +212,7 @@ rest = also pool_at _ pool (λ p. also class_at _ class (λ c. also interfaces_a
 
 -- what follows the header, and what is asked of it
 abbrev Header : Type 0
-Header = (ℕ × (ℕ × ℕ)) × List ℕ
+Header = (ℕ × Version) × List ℕ
 
 parts_behind : Header → Result (FileParts × List ℕ) Fault
 parts_behind x = rest_at x.1 >>= λ y. Ok ((x.0, y.0), y.1)
@@ -232,7 +234,7 @@ behind x =
     let three : IsQuiet (whole_behind x) = bind (structure_behind x) _ two (λ s. choice (eqb (length s.1) 0) (Ok s.0) (Err Trailing) (ok _) (err Trailing refl)) in
     bind (whole_behind x) kept_file three file
 
-by_header : (bytes : List ℕ) (f : Fault) (r : Result ((ℕ × (ℕ × ℕ)) × List ℕ) Fault) → is_header f ≡ true → read_of bytes ≡ Err f → header_at bytes ≡ r → header_at bytes ≡ Err f
+by_header : (bytes : List ℕ) (f : Fault) (r : Result ((ℕ × Version) × List ℕ) Fault) → is_header f ≡ true → read_of bytes ≡ Err f → header_at bytes ≡ r → header_at bytes ≡ Err f
 unfolding read_of whole_of structure_at parts_at parts_behind structure_behind whole_behind file_behind rest_at
 by_header bytes f (Ok x) h e is = let k : read_of bytes ≡ file_behind x = rw is refl in absurd (differ (is_header f) h ((behind x).quiet f (sym k ∙ e)))
 by_header bytes f (Err g) h e is = let k : read_of bytes ≡ Err g = rw is refl in is ∙ ap (λ (d : Fault). Err d) (err_is g f (sym k ∙ e))

@@ -1,39 +1,49 @@
 -- Each reader of a structure takes what spells it, and reads again what was spelled.
-use Rattle.std.proofs.Common.{◌≡◌, ℕ, ◌^◌, ◌<◌, true, eqb, ◌&&◌, List, ◌++◌, length, refl, sym, ap, subst, ◌∙◌, append_assoc, arith}
+use Rattle.std.proofs.Common.{◌≡◌, ℕ, ◌^◌, ◌<◌, true, eqb, List, ◌++◌, length, refl, sym, ap, subst, ◌∙◌, append_assoc, arith}
 use Rattle.std.specs.Int.{w16, w32, to_be_bytes}
 use Rattle.std.specs.List.{flat_map}
 use Rattle.std.proofs.lemmas.Bool.{eqb-true}
-use Rattle.cl_classfile.specs.declared.fault.Fault.TheVariants.{BadMagic, Version}
-use Rattle.cl_classfile.specs.Structure.{Structure, counted_list, pool_spelling, member_spelling, attribute_spelling, magic, version, spelling, AllFit, PoolFits, AttributeFits, MemberFits, Fits}
-use Rattle.cl_classfile.specs.Reading.{Reader, number_at, then_at, sized_at, each_at, counted_at, magic_at, version_at, header_at, pool_at, class_at, interfaces_at, attribute_at, attributes_at, member_at, members_at, tables_at, FileParts, parts_at, structure_of, structure_at, two_at}
-use Rattle.cl_classfile.proofs.Codec.{both, bind_ok, Takes, Takes-then, IsCodec, number16, number32, also, sized, tested, mapped, many, EachFits, each_of_all, all_of_each}
+use Rattle.cl_classfile.specs.declared.fault.Fault.TheVariants as faults
+use Rattle.cl_classfile.specs.declared.fault.Fault.TheVariants.{BadMagic}
+use Rattle.cl_classfile.specs.declared.version.Version.{Version}
+use Rattle.cl_classfile.specs.Versions.{is_supported, version_spelling, NumbersFit, VersionFits}
+use Rattle.cl_classfile.specs.Structure.{Structure, counted_list, pool_spelling, member_spelling, attribute_spelling, magic, spelling, AllFit, PoolFits, AttributeFits, MemberFits, Fits}
+use Rattle.cl_classfile.specs.Reading.{Reader, number_at, then_at, map_at, sized_at, each_at, counted_at, magic_at, version_at, header_at, pool_at, class_at, interfaces_at, attribute_at, attributes_at, member_at, members_at, tables_at, FileParts, parts_at, structure_of, structure_at, two_at}
+use Rattle.cl_classfile.proofs.Codec.{bind_ok, Takes, Takes-then, IsCodec, number16, number32, also, sized, tested, mapped, many, EachFits, each_of_all, all_of_each}
 use Rattle.cl_classfile.proofs.Pooled.{pool}
 
 -- ---- the parts of the file
 
-abbrev pub header_spelling : ℕ × (ℕ × ℕ) → List ℕ
-header_spelling p = to_be_bytes w32 p.0 ++ (to_be_bytes w16 p.1.0 ++ to_be_bytes w16 p.1.1)
+abbrev pub numbers_spelling : ℕ × ℕ → List ℕ
+numbers_spelling v = to_be_bytes w16 v.0 ++ to_be_bytes w16 v.1
 
-abbrev pub HeaderFits : ℕ × (ℕ × ℕ) → Type 0
-HeaderFits p = ((p.0 < 2 ^ 32) × (eqb p.0 0xcafebabe ≡ true)) × (((p.1.0 < 2 ^ 16) × (p.1.1 < 2 ^ 16)) × (eqb p.1.0 0 && eqb p.1.1 52 ≡ true))
+-- two numbers, as a version
+pub numbers : IsCodec (map_at two_at (λ v. record { major = v.1; minor = v.0 })) version_spelling NumbersFit
+unfolding two_at
+numbers =
+    mapped (then_at (number_at w16) (λ first. number_at w16)) numbers_spelling (λ v. (v.0 < 2 ^ 16) × (v.1 < 2 ^ 16)) (λ v. record { major = v.1; minor = v.0 }) (λ v. (v.minor, v.major)) version_spelling NumbersFit
+    (also (number_at w16) (number_at w16) (to_be_bytes w16) (to_be_bytes w16) (λ n. n < 2 ^ 16) (λ n. n < 2 ^ 16) number16 number16)
+    (λ v h. (refl, h)) (λ v h. (h, refl, refl))
+
+abbrev pub header_spelling : ℕ × Version → List ℕ
+header_spelling p = to_be_bytes w32 p.0 ++ version_spelling p.1
+
+abbrev pub HeaderFits : ℕ × Version → Type 0
+HeaderFits p = ((p.0 < 2 ^ 32) × (eqb p.0 0xcafebabe ≡ true)) × (NumbersFit p.1 × (is_supported p.1 ≡ true))
 
 pub header : IsCodec header_at header_spelling HeaderFits
-unfolding header_at magic_at version_at two_at
+unfolding header_at magic_at version_at
 header =
     also magic_at version_at _ _ _ _
     (tested (number_at w32) (to_be_bytes w32) (λ n. n < 2 ^ 32) (λ n. eqb n 0xcafebabe) BadMagic number32)
-    (tested (then_at (number_at w16) (λ minor. number_at w16)) _ _ (λ v. eqb v.0 0 && eqb v.1 52) Version (also (number_at w16) (number_at w16) _ _ _ _ number16 number16))
+    (tested (map_at two_at (λ v. record { major = v.1; minor = v.0 })) version_spelling NumbersFit is_supported faults.Version numbers)
 
 -- the header that is read has one spelling
-header_says : (p : ℕ × (ℕ × ℕ)) → HeaderFits p → header_spelling p ≡ magic ++ version
-header_says p h =
-    let v = both (eqb p.1.0 0) (eqb p.1.1 52) h.1.1 in
-    ap (λ (n : ℕ). to_be_bytes w32 n ++ (to_be_bytes w16 p.1.0 ++ to_be_bytes w16 p.1.1)) (eqb-true p.0 0xcafebabe h.0.1)
-    ∙ ap (λ (n : ℕ). magic ++ (to_be_bytes w16 n ++ to_be_bytes w16 p.1.1)) (eqb-true p.1.0 0 v.0)
-    ∙ ap (λ (n : ℕ). magic ++ (to_be_bytes w16 0 ++ to_be_bytes w16 n)) (eqb-true p.1.1 52 v.1)
+header_says : (p : ℕ × Version) → HeaderFits p → header_spelling p ≡ magic ++ version_spelling p.1
+header_says p h = ap (λ (n : ℕ). to_be_bytes w32 n ++ version_spelling p.1) (eqb-true p.0 0xcafebabe h.0.1)
 
-header_fits : HeaderFits (0xcafebabe, (0, 52))
-header_fits = ((omega arith, refl), ((omega arith, omega arith), refl))
+header_fits : (v : Version) → VersionFits v → HeaderFits (0xcafebabe, v)
+header_fits v h = ((omega arith, refl), ((h.minor, h.major), h.supported))
 
 abbrev class_spelling : ℕ × (ℕ × ℕ) → List ℕ
 class_spelling p = to_be_bytes w16 p.0 ++ (to_be_bytes w16 p.1.0 ++ to_be_bytes w16 p.1.1)
@@ -109,19 +119,20 @@ unfolding parts_at
 parts = also header_at _ _ _ _ _ header (also pool_at _ _ _ _ _ pool (also class_at _ _ _ _ _ class (also interfaces_at tables_at _ _ _ _ interfaces tables)))
 
 abbrev parts_of : Structure → FileParts
-parts_of f = ((0xcafebabe, (0, 52)), (f.pool, ((f.flags, (f.this_class, f.super_class)), (f.interfaces, (f.fields, (f.methods, f.attributes))))))
+parts_of f = ((0xcafebabe, f.version), (f.pool, ((f.flags, (f.this_class, f.super_class)), (f.interfaces, (f.fields, (f.methods, f.attributes))))))
 
-joined : (header pool flags this super rest : List ℕ) → header ≡ magic ++ version → header ++ (pool ++ ((flags ++ (this ++ super)) ++ rest)) ≡ magic ++ (version ++ (pool ++ (flags ++ (this ++ (super ++ rest)))))
-joined header pool flags this super rest e = rw e (simp append_assoc)
+joined : (header version pool flags this super rest : List ℕ) → header ≡ magic ++ version → header ++ (pool ++ ((flags ++ (this ++ super)) ++ rest)) ≡ magic ++ (version ++ (pool ++ (flags ++ (this ++ (super ++ rest)))))
+joined header version pool flags this super rest e = rw e (simp append_assoc)
 
 -- the parts' spelling is the file's
 there : (p : FileParts) → HeaderFits p.0 → parts_spelling p ≡ spelling (structure_of p)
 there p h =
-    joined (header_spelling p.0) (pool_spelling p.1.0) (to_be_bytes w16 p.1.1.0.0) (to_be_bytes w16 p.1.1.0.1.0) (to_be_bytes w16 p.1.1.0.1.1)
+    joined (header_spelling p.0) (version_spelling p.0.1) (pool_spelling p.1.0) (to_be_bytes w16 p.1.1.0.0) (to_be_bytes w16 p.1.1.0.1.0) (to_be_bytes w16 p.1.1.0.1.1)
     (counted_list (to_be_bytes w16) p.1.1.1.0 ++ (counted_list member_spelling p.1.1.1.1.0 ++ (counted_list member_spelling p.1.1.1.1.1.0 ++ counted_list attribute_spelling p.1.1.1.1.1.1))) (header_says p.0 h)
 
 says : (p : FileParts) → PartsFit p → Fits (structure_of p)
 says p h = record {
+  version = record { minor = h.0.1.0.0; major = h.0.1.0.1; supported = h.0.1.1 };
   pool = h.1.0;
   flags = h.1.1.0.0;
   this_class = h.1.1.0.1.0;
@@ -136,4 +147,4 @@ pub structure : IsCodec structure_at spelling Fits
 unfolding structure_at
 structure =
     mapped parts_at parts_spelling PartsFit structure_of parts_of spelling Fits parts (λ p h. (there p h.0, says p h))
-    (λ f h. ((header_fits, (h.pool, ((h.flags, (h.this_class, h.super_class)), (h.interfaces, (h.fields, (h.methods, h.attributes)))))), there (parts_of f) header_fits, refl))
+    (λ f h. ((header_fits f.version h.version, (h.pool, ((h.flags, (h.this_class, h.super_class)), (h.interfaces, (h.fields, (h.methods, h.attributes)))))), there (parts_of f) (header_fits f.version h.version), refl))

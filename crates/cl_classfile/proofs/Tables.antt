@@ -6,6 +6,11 @@ use Rattle.std.specs.List.{AllByRecursion}
 use Rattle.std.specs.Cmp.Lexicographic.{same_text}
 use Rattle.std.proofs.lemmas.Bool.{eqb-true, ltb-true}
 use Rattle.cl_names.specs.Kind.{IsNameOf, IsClass}
+use Rattle.cl_classfile.specs.declared.fault.Fault.TheVariants as faults
+use Rattle.cl_classfile.specs.declared.version.Version.{Version}
+use Rattle.cl_classfile.specs.Versions.{is_supported, VersionFits}
+use Rattle.cl_classfile.specs.Widths.{is_short}
+use Rattle.cl_classfile.specs.Checking.{checked_version}
 use Rattle.cl_classfile.specs.declared.entry.Entry.{Entry}
 use Rattle.cl_classfile.specs.declared.entry.Entry.TheVariants.{Class}
 use Rattle.cl_classfile.specs.declared.members.Kind.TheVariants as kinds
@@ -13,7 +18,7 @@ use Rattle.cl_classfile.specs.declared.fault.Fault.{Fault}
 use Rattle.cl_classfile.specs.declared.fault.Fault.TheVariants.{BadFlags, BadMember, BadSupertype}
 use Rattle.cl_classfile.specs.Flags.{has, interface, is_class_flags}
 use Rattle.cl_classfile.specs.Pool.{EntryFits, KeepsEntry}
-use Rattle.cl_classfile.specs.Structure.{Structure, PoolFits, Fits, object, NamesClass, KeepsSuper, KeepsInterface, KeepsTables, IsClassFile}
+use Rattle.cl_classfile.specs.Structure.{owner_of, Structure, PoolFits, Fits, object, NamesClass, KeepsSuper, KeepsInterface, KeepsTables, IsClassFile}
 use Rattle.cl_classfile.specs.Members.{AllFit, AttributeFits, MemberFits}
 use Rattle.cl_classfile.specs.Widths.{is_short, all_fit, attribute_fits}
 use Rattle.cl_classfile.specs.Files.{class_name}
@@ -113,13 +118,13 @@ checks_say true false u h = absurd cc
 checks_say false kept u h = absurd cc
 
 abbrev class_checked : Structure → Result (Unit {0}) Fault
-class_checked f = checked_class f.pool f.flags f.this_class f.super_class f.interfaces
+class_checked f = checked_class f.version.major f.pool f.flags f.this_class f.super_class f.interfaces
 
 abbrev fields_checked : Structure → Result (Unit {0}) Fault
-fields_checked f = checked_list kinds.Field (map entry_traits f.pool) (has f.flags interface) f.pool f.fields
+fields_checked f = checked_list kinds.Field (map entry_traits f.pool) (owner_of f) f.pool f.fields
 
 abbrev methods_checked : Structure → Result (Unit {0}) Fault
-methods_checked f = checked_list kinds.Method (map entry_traits f.pool) (has f.flags interface) f.pool f.methods
+methods_checked f = checked_list kinds.Method (map entry_traits f.pool) (owner_of f) f.pool f.methods
 
 -- a file whose tests were passed keeps the tables, and what stands behind its pool fits its widths
 pub record IsTested (f : Structure) : Type 0 where
@@ -135,13 +140,13 @@ tested f u c d e v rows class fields methods attributes =
     let of_interface = has f.flags interface in
     let entries = rows_say f.pool 1 f.pool u rows in
     let names = keeps_names f.pool of_interface f.super_class (class_name f.pool f.this_class) in
-    let a = checks_say (is_short f.flags && is_class_flags f.flags) (names && keeps_interfaces f.pool f.interfaces) c class in
-    let flags = both (is_short f.flags) (is_class_flags f.flags) a.0 in
+    let a = checks_say (is_short f.flags && is_class_flags f.version.major f.flags) (names && keeps_interfaces f.pool f.interfaces) c class in
+    let flags = both (is_short f.flags) (is_class_flags f.version.major f.flags) a.0 in
     let k = both names (keeps_interfaces f.pool f.interfaces) a.1 in
     let n = names_say f.pool entries of_interface f.this_class f.super_class (class_name f.pool f.this_class) refl k.0 in
     let interfaces = (all_tell (λ i. is_some (class_name f.pool i)) (KeepsInterface f.pool) (interface_tells f.pool entries) f.interfaces).0 k.1 in
-    let each_field = fields_say f.pool of_interface f.fields d fields in
-    let each_method = methods_say f.pool of_interface f.methods e methods in
+    let each_field = fields_say f.pool (owner_of f) f.fields d fields in
+    let each_method = methods_say f.pool (owner_of f) f.methods e methods in
     let some_attributes = test_ok (all_fit attribute_fits f.attributes) BadMember tt v attributes in
     record {
       kept = record {
@@ -185,15 +190,28 @@ file_told f fits kept =
     let super = super_told f.pool of_interface kept.name f.super_class kept.super_class in
     let interfaces = (all_tell (λ i. is_some (class_name f.pool i)) (KeepsInterface f.pool) (interface_tells f.pool kept.pool) f.interfaces).1 (fits.interfaces.0, kept.interfaces) in
     let class : class_checked f ≡ Ok tt = rw ((short_tells f.flags).1 fits.flags, kept.flags, named, super, interfaces) refl in
-    let fields : fields_checked f ≡ Ok tt = fields_told f.pool of_interface f.fields fits.fields kept.fields in
-    let methods : methods_checked f ≡ Ok tt = methods_told f.pool of_interface f.methods fits.methods kept.methods in
+    let fields : fields_checked f ≡ Ok tt = fields_told f.pool (owner_of f) f.fields fits.fields kept.fields in
+    let methods : methods_checked f ≡ Ok tt = methods_told f.pool (owner_of f) f.methods fits.methods kept.methods in
     let attributes : checked_attributes f.attributes ≡ Ok tt = rw ((attributes_tell f.attributes).1 fits.attributes) refl in
     rw (rows_told f.pool 1 f.pool fits.pool.1 kept.pool, class, fields, methods, attributes) refl
 
 -- ---- parts that no bytes were read for
 
-fitting : (f : Structure) → PoolFits f.pool → IsTested f → Fits f
-fitting f pool t = record {
+version_picked : (v : Version) (u : Unit {0}) (b c d : Bool) → is_short v.minor ≡ b → is_short v.major ≡ c → is_supported v ≡ d → cond (b && c && d) (Ok tt) (Err faults.Version) ≡ Ok u → VersionFits v
+version_picked v u true true true e f g h = record { minor = (short_tells v.minor).0 e; major = (short_tells v.major).0 f; supported = g }
+version_picked v u false c d e f g h = absurd cc
+version_picked v u true false d e f g h = absurd cc
+version_picked v u true true false e f g h = absurd cc
+
+version_says : (v : Version) (u : Unit {0}) → checked_version v ≡ Ok u → VersionFits v
+version_says v u h = version_picked v u (is_short v.minor) (is_short v.major) (is_supported v) refl refl refl h
+
+pub version_told : (v : Version) → VersionFits v → checked_version v ≡ Ok tt
+version_told v h = rw ((short_tells v.minor).1 h.minor, (short_tells v.major).1 h.major, h.supported) refl
+
+fitting : (f : Structure) → VersionFits f.version → PoolFits f.pool → IsTested f → Fits f
+fitting f version pool t = record {
+  version = version;
   pool = pool;
   flags = t.flags;
   this_class = within f.pool f.this_class (Class t.kept.this_class.index) pool.0 t.kept.this_class.is_entry;
@@ -208,13 +226,14 @@ fitting f pool t = record {
 pub parts_say : (f g : Structure) → parts_of f ≡ Ok g → (f ≡ g) × IsClassFile f
 unfolding parts_of
 parts_say f g h =
-    let a = bind_ok (checked_pool f.pool) (λ pool. kept_file f) g h in
+    let w = bind_ok (checked_version f.version) (λ version. checked_pool f.pool >>= λ pool. kept_file f) g h in
+    let a = bind_ok (checked_pool f.pool) (λ pool. kept_file f) g w.2 in
     let b = file_says f g a.2 in
-    (b.0, record { fits = fitting f (pool_says f.pool a.0 a.1) b.1; kept = b.1.kept })
+    (b.0, record { fits = fitting f (version_says f.version w.0 w.1) (pool_says f.pool a.0 a.1) b.1; kept = b.1.kept })
 
 pub parts_told : (f : Structure) → Fits f → KeepsTables f → parts_of f ≡ Ok f
 unfolding parts_of
-parts_told f fits kept = rw (pool_told f.pool fits.pool) (file_told f fits kept)
+parts_told f fits kept = rw (version_told f.version fits.version, pool_told f.pool fits.pool) (file_told f fits kept)
 
 -- what a class of the pool is called is a class's name
 pub named_well : (f : Structure) → KeepsTables f → (i : ℕ) (name : List ℕ) → class_name f.pool i ≡ Some name → IsNameOf IsClass name

@@ -39,6 +39,10 @@ use Rattle.cl_classfile.specs.declared.fault.Fault.TheVariants.{
 }
 use Rattle.cl_classfile.specs.declared.fault.ReadError.{ReadError}
 use Rattle.cl_classfile.specs.declared.fault.ReadError.TheVariants as errors
+use Rattle.cl_classfile.specs.declared.fault.Fault.TheVariants as faults
+use Rattle.cl_classfile.specs.declared.version.Owner.{Owner}
+use Rattle.cl_classfile.specs.declared.version.Version.{Version}
+use Rattle.cl_classfile.specs.Versions.{is_supported}
 use Rattle.cl_classfile.specs.declared.members.Kind.{Kind}
 use Rattle.cl_classfile.specs.declared.members.Kind.TheVariants as kinds
 use Rattle.cl_classfile.specs.declared.traits.Special.{Special}
@@ -54,7 +58,7 @@ use Rattle.cl_classfile.specs.Flags.{
   is_init_flags,
 }
 use Rattle.cl_classfile.specs.Pool.{is_wide}
-use Rattle.cl_classfile.specs.Structure.{Structure, MemberInfo, Attribute, object}
+use Rattle.cl_classfile.specs.Structure.{Structure, MemberInfo, Attribute, object, owner_of}
 use Rattle.cl_classfile.specs.Widths.{
   is_short,
   entry_fits,
@@ -111,9 +115,9 @@ abbrev pub keeps_interfaces : List Entry → List ℕ → Bool
 keeps_interfaces pool interfaces = all_fit (λ i. is_some (class_name pool i)) interfaces
 
 -- the flags, and then this_class, super_class and the interfaces (JVMS SE 8, 4.1)
-abbrev pub checked_class : List Entry → ℕ → ℕ → ℕ → List ℕ → Result (Unit {0}) Fault
-checked_class pool flags this super interfaces =
-    if is_short flags && is_class_flags flags
+abbrev pub checked_class : ℕ → List Entry → ℕ → ℕ → ℕ → List ℕ → Result (Unit {0}) Fault
+checked_class major pool flags this super interfaces =
+    if is_short flags && is_class_flags major flags
     then if keeps_names pool (has flags interface) super (class_name pool this)
     && keeps_interfaces pool interfaces
     then Ok tt
@@ -134,25 +138,24 @@ has_room of_class None = false
 has_room of_class (Some units) = of_class || nat_lt units MOST_UNITS
 
 -- the flags of a method of such a name (4.6)
-abbrev pub keeps_method_flags : Special → Bool → ℕ → Bool
-keeps_method_flags names.Clinit of_interface flags = true
-keeps_method_flags names.Init of_interface flags =
-    is_method_flags of_interface flags && is_init_flags flags
-keeps_method_flags names.Plain of_interface flags = is_method_flags of_interface flags
-keeps_method_flags names.Angle of_interface flags = is_method_flags of_interface flags
+abbrev pub keeps_method_flags : Special → Owner → ℕ → Bool
+keeps_method_flags names.Clinit owner flags = true
+keeps_method_flags names.Init owner flags =
+    is_method_flags owner flags && is_init_flags flags
+keeps_method_flags names.Plain owner flags = is_method_flags owner flags
+keeps_method_flags names.Angle owner flags = is_method_flags owner flags
 
 -- a method keeps its table (4.6)
-abbrev pub keeps_method : List Traits → Bool → MemberInfo → Bool
-keeps_method traits of_interface m =
-    keeps_method_flags (traits_at traits m.name_index).special of_interface m.flags
+abbrev pub keeps_method : List Traits → Owner → MemberInfo → Bool
+keeps_method traits owner m =
+    keeps_method_flags (traits_at traits m.name_index).special owner m.flags
     && (traits_at traits m.name_index).method
     && has_room (has m.flags static) (traits_at traits m.descriptor_index).units
 
 -- a field, or a method, fits its widths and keeps its table (4.5, 4.6)
-abbrev pub keeps_member : Kind → List Traits → Bool → MemberInfo → Bool
-keeps_member kinds.Field traits of_interface m = member_fits m && keeps_field traits of_interface m
-keeps_member kinds.Method traits of_interface m =
-    member_fits m && keeps_method traits of_interface m
+abbrev pub keeps_member : Kind → List Traits → Owner → MemberInfo → Bool
+keeps_member kinds.Field traits owner m = member_fits m && keeps_field traits owner.of_interface m
+keeps_member kinds.Method traits owner m = member_fits m && keeps_method traits owner m
 
 -- the texts of a name and of a descriptor (4.5, 4.6)
 abbrev pub TextKey : Type 0
@@ -185,11 +188,11 @@ checked_members keeps pool before (m ∷ ms) =
     else Err BadMember
 
 -- a count can say how many members there are, and each is looked at (4.1, 4.5, 4.6)
-unfoldable pub checked_list : Kind → List Traits → Bool → List Entry → List MemberInfo
+unfoldable pub checked_list : Kind → List Traits → Owner → List Entry → List MemberInfo
     → Result (Unit {0}) Fault
-checked_list kind traits of_interface pool ms =
+checked_list kind traits owner pool ms =
     if is_short (length ms)
-    then checked_members (keeps_member kind traits of_interface) pool [] ms
+    then checked_members (keeps_member kind traits owner) pool [] ms
     else Err BadMember
 
 -- the attributes fit their widths (4.7)
@@ -200,9 +203,9 @@ checked_attributes attributes = if all_fit attribute_fits attributes then Ok tt 
 -- entries are given (4.1, 4.5 to 4.7)
 unfoldable pub checked_tables : List Traits → List Entry → Structure → Result (Unit {0}) Fault
 checked_tables traits pool f =
-    checked_class pool f.flags f.this_class f.super_class f.interfaces >>= λ class.
-    (checked_list kinds.Field traits (has f.flags interface) pool f.fields >>= λ fields.
-    (checked_list kinds.Method traits (has f.flags interface) pool f.methods
+    checked_class f.version.major pool f.flags f.this_class f.super_class f.interfaces >>= λ class.
+    (checked_list kinds.Field traits (owner_of f) pool f.fields >>= λ fields.
+    (checked_list kinds.Method traits (owner_of f) pool f.methods
     >>= λ methods. checked_attributes f.attributes))
 
 -- the file, where it keeps the tables and what stands behind its pool fits its widths (4.1)
@@ -233,7 +236,12 @@ unfoldable pub checked_pool : List Entry → Result (Unit {0}) Fault
 checked_pool pool =
     if is_short (length pool + 1) then checked_slots 0 false pool else Err (BadPool 0)
 
--- the file of these parts, or their first fault: what no bytes spell of the pool, and then as in a
+-- the version is one that is read (4.1)
+abbrev pub checked_version : Version → Result (Unit {0}) Fault
+checked_version v =
+    if is_short v.minor && is_short v.major && is_supported v then Ok tt else Err faults.Version
+
+-- the file of these parts, or their first fault: the version, what no bytes spell of the pool, and then as in a
 -- file that is read (4.1)
 unfoldable pub parts_of : Structure → Result Structure Fault
-parts_of f = checked_pool f.pool >>= λ pool. kept_file f
+parts_of f = checked_version f.version >>= λ version. (checked_pool f.pool >>= λ pool. kept_file f)

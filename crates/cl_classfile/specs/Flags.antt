@@ -1,5 +1,6 @@
 -- The tables of flags (JVMS SE 8, 4.1, 4.5, 4.6); a bit that a table does not name may be set.
-use Rattle.std.specs.Prelude.{ℕ, ◌/◌, ◌%◌, Bool, not, ◌&&◌, ◌||◌, ◌==◌, if◌then◌else◌}
+use Rattle.cl_classfile.specs.declared.version.Owner.{Owner}
+use Rattle.std.specs.Prelude.{nat_lt, ℕ, ◌/◌, ◌%◌, Bool, not, ◌&&◌, ◌||◌, ◌==◌, if◌then◌else◌}
 
 -- flags have this bit (4.1)
 abbrev pub has : ℕ → ℕ → Bool
@@ -73,19 +74,20 @@ enum = 0x4000
 
 -- ---- classes
 
--- an interface is abstract, and not final, super or an enum (4.1)
-abbrev pub is_interface_flags : ℕ → Bool
-is_interface_flags flags =
-    has flags abstract && not (has flags final) && not (has flags super) && not (has flags enum)
+-- an interface is never final or an enum, from 49.0 on not super, and from 50.0 on abstract (4.1; own choice below these)
+abbrev pub is_interface_flags : ℕ → ℕ → Bool
+is_interface_flags major flags =
+    (nat_lt major 50 || has flags abstract) && not (has flags final)
+    && (nat_lt major 49 || not (has flags super)) && not (has flags enum)
 
 -- a class that is no interface is no annotation, and not both final and abstract (4.1)
 abbrev pub is_plain_flags : ℕ → Bool
 is_plain_flags flags = not (has flags annotation) && not (has flags final && has flags abstract)
 
 -- the flags of a class file go together (4.1)
-abbrev pub is_class_flags : ℕ → Bool
-is_class_flags flags =
-    if has flags interface then is_interface_flags flags else is_plain_flags flags
+abbrev pub is_class_flags : ℕ → ℕ → Bool
+is_class_flags major flags =
+    if has flags interface then is_interface_flags major flags else is_plain_flags flags
 
 -- ---- members
 
@@ -109,23 +111,23 @@ is_field_flags of_interface flags =
     then is_constant_flags flags
     else has_one_access flags && not (has flags final && has flags volatile)
 
--- an abstract method is none of these (4.6)
-abbrev pub may_be_abstract : ℕ → Bool
-may_be_abstract flags =
-    not (has flags private || has flags static || has flags final || has flags synchronized
-    || has flags native || has flags strict)
+-- an abstract method is none of these, and from 49.0 on neither synchronized nor strict (4.6; own choice below 49.0)
+abbrev pub may_be_abstract : ℕ → ℕ → Bool
+may_be_abstract major flags =
+    not (has flags private || has flags static || has flags final || has flags native)
+    && (nat_lt major 49 || not (has flags synchronized || has flags strict))
 
--- a method of an interface is public or private, and none of these (4.6)
-abbrev pub may_be_of_interface : ℕ → Bool
-may_be_of_interface flags =
-    (has flags public || has flags private)
+-- a method of an interface is public or private, below 52.0 public and abstract, and none of these (4.6)
+abbrev pub may_be_of_interface : ℕ → ℕ → Bool
+may_be_of_interface major flags =
+    (if nat_lt major 52 then has flags public && has flags abstract else has flags public || has flags private)
     && not (has flags protected || has flags final || has flags synchronized || has flags native)
 
 -- the flags of a method go together (4.6)
-abbrev pub is_method_flags : Bool → ℕ → Bool
-is_method_flags of_interface flags =
-    has_one_access flags && (not (has flags abstract) || may_be_abstract flags)
-    && (not of_interface || may_be_of_interface flags)
+abbrev pub is_method_flags : Owner → ℕ → Bool
+is_method_flags owner flags =
+    has_one_access flags && (not (has flags abstract) || may_be_abstract owner.major flags)
+    && (not owner.of_interface || may_be_of_interface owner.major flags)
 
 -- what makes an instance is none of these (4.6)
 abbrev pub is_init_flags : ℕ → Bool

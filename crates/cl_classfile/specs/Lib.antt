@@ -15,6 +15,7 @@ pub mod Raw
 pub mod Reading
 pub mod References
 pub mod Lookups
+pub mod Versions
 pub mod View
 pub mod Refusals
 pub mod Texts

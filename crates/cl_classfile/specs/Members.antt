@@ -22,6 +22,7 @@ use Rattle.cl_descriptors.specs.Types.{units_of_method}
 use Rattle.cl_descriptors.specs.Answers as descriptors
 use Rattle.cl_classfile.specs.declared.entry.Entry.{Entry}
 use Rattle.cl_classfile.specs.Flags.{has, static, is_field_flags, is_method_flags, is_init_flags}
+use Rattle.cl_classfile.specs.declared.version.Owner.{Owner}
 use Rattle.cl_classfile.specs.Pool.{IsText, HasText}
 use Rattle.cl_descriptors.specs.declared.limits.TheConstants.{MOST_UNITS}
 use Rattle.cl_descriptors.specs.Answers.{IsFieldDescriptor}
@@ -91,8 +92,8 @@ TakesUnits of_class text =
     (λ m. descriptors.IsMethodType m × (units_of_method m + (if of_class then 0 else 1) ≤ MOST_UNITS))
 
 -- the flags of <clinit> are not looked at; those of <init> are more narrow (4.6; own choice for <clinit>)
-pub record KeepsMethod (pool : List Entry) (of_interface : Bool) (m : MemberInfo) : Type 0 where
-  pub flags : (IsText pool m.name_index clinit → ⊥) → IsTrue (is_method_flags of_interface m.flags)
+pub record KeepsMethod (pool : List Entry) (owner : Owner) (m : MemberInfo) : Type 0 where
+  pub flags : (IsText pool m.name_index clinit → ⊥) → IsTrue (is_method_flags owner m.flags)
   pub init_flags : IsText pool m.name_index init → IsTrue (is_init_flags m.flags)
   pub name : HasText pool m.name_index (IsNameOf IsMethod)
   pub descriptor : HasText pool m.descriptor_index (TakesUnits (has m.flags static))

@@ -53,6 +53,7 @@ plain_entries es = map plain_entry es
 -- the file, so (4.1)
 abbrev pub plain_file : RawFile → Structure
 plain_file f = record {
+  version = f.version;
   pool = plain_entries f.pool.items;
   flags = f.flags;
   this_class = f.this_class;

@@ -1,29 +1,8 @@
 -- Reading from left to right, with the first fault that is met.
-use Rattle.std.specs.Prelude.{
-  ℕ,
-  ℤ,
-  zero,
-  suc,
-  ◌+◌,
-  ◌-◌,
-  Bool,
-  false,
-  ◌&&◌,
-  List,
-  [],
-  ◌∷◌,
-  length,
-  take,
-  drop,
-  Result,
-  Ok,
-  Err,
-  nat_lt,
-  nat_le,
-  ◌==◌,
-  if◌then◌else◌,
-}
+use Rattle.std.specs.Prelude.{ℕ, ℤ, zero, suc, ◌+◌, ◌-◌, Bool, false, List, [], ◌∷◌, length, take, drop, Result, Ok, Err, nat_lt, nat_le, ◌==◌, if◌then◌else◌}
 use Rattle.std.specs.Int.{Width, w16, w32, w64, byte_len, from_be_bytes, cast_signed}
+use Rattle.cl_classfile.specs.declared.version.Version as versions
+use Rattle.cl_classfile.specs.Versions.{is_supported}
 use Rattle.cl_classfile.specs.declared.entry.Entry.{Entry}
 use Rattle.cl_classfile.specs.declared.entry.Entry.TheVariants.{
   Utf8,
@@ -114,12 +93,12 @@ magic_at = test_at (number_at w32) (λ n. n == 0xcafebabe) BadMagic
 unfoldable pub two_at : Reader (ℕ × ℕ)
 two_at = then_at (number_at w16) (λ first. number_at w16)
 
--- the minor and the major version (4.1; that it has to be 52.0 is own choice)
-unfoldable pub version_at : Reader (ℕ × ℕ)
-version_at = test_at two_at (λ v. v.0 == 0 && v.1 == 52) Version
+-- the version, its minor number first (4.1)
+unfoldable pub version_at : Reader versions.Version
+version_at = test_at (map_at two_at (λ v. record { major = v.1; minor = v.0 })) is_supported Version
 
 -- the magic and the version (4.1)
-unfoldable pub header_at : Reader (ℕ × (ℕ × ℕ))
+unfoldable pub header_at : Reader (ℕ × versions.Version)
 header_at = then_at magic_at (λ magic. version_at)
 
 -- two bytes of length, and that many bytes of text (4.4.7)
@@ -237,7 +216,7 @@ tables_at = then_at members_at (λ fields. then_at members_at (λ methods. attri
 -- what is read in order: the header, the pool, the class, the interfaces, the tables (4.1)
 abbrev pub FileParts : Type 0
 FileParts =
-    (ℕ × (ℕ × ℕ))
+    (ℕ × versions.Version)
     × (List Entry
     × ((ℕ × (ℕ × ℕ)) × (List ℕ × (List MemberInfo × (List MemberInfo × List Attribute)))))
 
@@ -251,6 +230,7 @@ parts_at =
 -- these as a class file (4.1)
 abbrev pub structure_of : FileParts → Structure
 structure_of p = record {
+  version = p.0.1;
   pool = p.1.0;
   flags = p.1.1.0.0;
   this_class = p.1.1.0.1.0;

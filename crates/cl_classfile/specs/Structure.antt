@@ -30,6 +30,9 @@ use Rattle.cl_classfile.specs.declared.entry.Entry.TheVariants.{Class}
 use Rattle.cl_classfile.specs.Pool.{entry_spelling, EntryFits, AreSpaced, IsText, KeepsEntry}
 pub use Rattle.cl_classfile.specs.Pool.{at}
 use Rattle.cl_classfile.specs.Flags.{has, interface, is_class_flags}
+use Rattle.cl_classfile.specs.declared.version.Owner.{Owner}
+use Rattle.cl_classfile.specs.declared.version.Version.{Version}
+use Rattle.cl_classfile.specs.Versions.{version_spelling, SpellsOther, VersionFits}
 pub use Rattle.cl_classfile.specs.Members.{
   Attribute,
   MemberInfo,
@@ -44,8 +47,9 @@ use Rattle.cl_classfile.specs.Members.{KeepsField, KeepsMethod, KeepMembers}
 
 -- ---- the parts
 
--- a class file without its magic, its version and its counts, which are what they have to be (4.1)
+-- a class file without its magic and its counts, which are what they have to be (4.1)
 pub record Structure : Type 0 where
+  pub version : Version
   pub pool : List Entry
   pub flags : ℕ
   pub this_class : ℕ
@@ -61,19 +65,15 @@ pub record Structure : Type 0 where
 abbrev pub pool_spelling : List Entry → List ℕ
 pool_spelling pool = to_be_bytes w16 (length pool + 1) ++ flat_map entry_spelling pool
 
--- the magic, and version 52.0 as its minor and its major number (4.1)
+-- the magic (4.1)
 abbrev pub magic : List ℕ
 magic = 0xca ∷ 0xfe ∷ 0xba ∷ 0xbe ∷ []
-
--- version 52.0, as its minor and then its major number (4.1)
-abbrev pub version : List ℕ
-version = 0 ∷ 0 ∷ 0 ∷ 52 ∷ []
 
 -- the bytes of a whole file, item after item (4.1)
 abbrev pub spelling : Structure → List ℕ
 spelling f =
     magic
-    ++ (version
+    ++ (version_spelling f.version
     ++ (pool_spelling f.pool
     ++ (to_be_bytes w16 f.flags
     ++ (to_be_bytes w16 f.this_class
@@ -91,6 +91,7 @@ PoolFits pool = (length pool + 1 < 2 ^ 16) × AllByRecursion EntryFits pool × A
 
 -- each item is such as its width can say (4.1)
 pub record Fits (f : Structure) : Type 0 where
+  pub version : VersionFits f.version
   pub pool : PoolFits f.pool
   pub flags : f.flags < 2 ^ 16
   pub this_class : f.this_class < 2 ^ 16
@@ -125,16 +126,20 @@ KeepsSuper pool of_interface name super =
 abbrev pub KeepsInterface : List Entry → ℕ → Type 0
 KeepsInterface pool i = (name : List ℕ) × NamesClass pool i name
 
+-- whose members the file's are (4.1)
+abbrev pub owner_of : Structure → Owner
+owner_of f = record { of_interface = has f.flags interface; major = f.version.major }
+
 -- the file keeps the tables of entries, flags, supertypes and members (4.1, 4.4 to 4.6)
 pub record KeepsTables (f : Structure) : Type 0 where
   pub pool : AllByRecursion (KeepsEntry f.pool) f.pool
-  pub flags : IsTrue (is_class_flags f.flags)
+  pub flags : IsTrue (is_class_flags f.version.major f.flags)
   pub name : List ℕ
   pub this_class : NamesClass f.pool f.this_class name
   pub super_class : KeepsSuper f.pool (has f.flags interface) name f.super_class
   pub interfaces : AllByRecursion (KeepsInterface f.pool) f.interfaces
   pub fields : KeepMembers (KeepsField f.pool (has f.flags interface)) f.pool f.fields
-  pub methods : KeepMembers (KeepsMethod f.pool (has f.flags interface)) f.pool f.methods
+  pub methods : KeepMembers (KeepsMethod f.pool (owner_of f)) f.pool f.methods
 
 -- what a class file that was read is (4.1)
 pub record IsClassFile (f : Structure) : Type 0 where
@@ -156,7 +161,7 @@ pub record Spells (bytes : List ℕ) (f : Structure) : Type 0 where
 abbrev pub HasOtherMagic : List ℕ → Type 0
 HasOtherMagic bytes = (4 ≤ length bytes) × (take 4 bytes ≢ magic)
 
--- eight bytes stand, the magic and another version (4.1)
+-- eight bytes stand, the magic and a version that is not read (4.1)
 abbrev pub HasOtherVersion : List ℕ → Type 0
 HasOtherVersion bytes =
-    (8 ≤ length bytes) × (take 4 bytes ≡ magic) × (take 4 (drop 4 bytes) ≢ version)
+    (8 ≤ length bytes) × (take 4 bytes ≡ magic) × SpellsOther (take 4 (drop 4 bytes))

@@ -6,6 +6,7 @@ use Rattle.cl_classfile.specs.Structure.{Structure}
 -- the file that these parts make (4.1)
 abbrev pub plain_parts : Parts → Structure
 plain_parts p = record {
+  version = p.version;
   pool = p.pool.items;
   flags = p.flags;
   this_class = p.this_class;

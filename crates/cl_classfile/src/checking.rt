@@ -123,11 +123,11 @@ fn keeps_interfaces(pool: &[Entry], interfaces: &[u16]) -> bool
 
 /// Whether the flags and the supertypes keep their tables.
 pub fn check_class(parts: &Parts) -> Result<(), Fault>
-    ensures { Finds (λ u. u) result (checked_class parts.now.pool.items parts.now.flags
+    ensures { Finds (λ u. u) result (checked_class parts.now.version.major parts.now.pool.items parts.now.flags
         parts.now.this_class parts.now.super_class parts.now.interfaces.items) }
 {
     let pool = parts.pool.as_slice();
-    if !is_class_flags(parts.flags) {
+    if !is_class_flags(parts.version.major, parts.flags) {
         return Err(Fault::BadFlags);
     }
     let of_interface = is_interface(parts.flags);

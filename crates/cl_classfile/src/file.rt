@@ -34,6 +34,7 @@ use crate::reading::{RawFile, whole_of};
 use crate::reference::{Reference, reference_at};
 use crate::rows::{all_traits, at, check_entries};
 use crate::traits::Traits;
+use crate::version::{Owner, Version, check_version};
 use crate::widths::check_slots;
 use cl_names::Name;
 use std::alloc::{AllocError, Global};
@@ -88,6 +89,13 @@ impl ClassFile {
             Ok((index, mentions)) => Ok(class_file(parts, index, mentions)),
             Err(error) => Err(Refused { parts, error }),
         }
+    }
+
+    /// The version of the file (JVMS SE 8, 4.1).
+    pub fn version(&self) -> Version
+        ensures { result ≡ self.now.version }
+    {
+        self.parts.version
     }
 
     /// The class's flags (JVMS SE 8, 4.1).
@@ -259,18 +267,21 @@ fn check_tables(alloc: Global, traits: &[Traits], parts: &Parts) -> Result<Optio
 {
     check_class(parts)?;
     let pool = parts.pool.as_slice();
-    let of_interface = is_interface(parts.flags);
+    let owner = Owner {
+        of_interface: is_interface(parts.flags),
+        major: parts.version.major,
+    };
     let fields = parts.fields.as_slice();
     let methods = parts.methods.as_slice();
     if are_few(fields, methods) {
-        check_few(Kind::Field, traits, pool, of_interface, fields)?;
-        check_few(Kind::Method, traits, pool, of_interface, methods)?;
+        check_few(Kind::Field, traits, pool, owner, fields)?;
+        check_few(Kind::Method, traits, pool, owner, methods)?;
         check_attributes(parts.attributes.as_slice())?;
         return Ok(None);
     }
     let numbers = numbers_of(alloc, pool, fields, methods)?;
-    let fields = check_members(alloc, Kind::Field, traits, &numbers, of_interface, fields)?;
-    let methods = check_members(alloc, Kind::Method, traits, &numbers, of_interface, methods)?;
+    let fields = check_members(alloc, Kind::Field, traits, &numbers, owner, fields)?;
+    let methods = check_members(alloc, Kind::Method, traits, &numbers, owner, methods)?;
     check_attributes(parts.attributes.as_slice())?;
     Ok(Some(index_of(numbers, fields, methods)))
 }
@@ -307,6 +318,7 @@ fn owned_parts(alloc: Global, file: RawFile<'_>) -> Result<Parts, AllocError>
     let apart = marks_of(alloc, &file)?;
     let pool = owned_entries(alloc, file.pool.as_slice(), apart.as_slice())?;
     Ok(Parts {
+        version: file.version,
         pool,
         flags: file.flags,
         this_class: file.this_class,
@@ -338,6 +350,7 @@ fn check_parts(alloc: Global, parts: &Parts) -> Result<(Option<Index>, Mentions)
     ensures index { IfOk result (λ x. IsIndexOf x.0 (plain_parts parts.now)) }
     ensures mentions { IfOk result (λ x. AreMentionsOf (plain_parts parts.now) x.1) }
 {
+    check_version(parts.version)?;
     if parts.pool.len() > MOST_ENTRIES {
         return Err(ReadError::Fault(Fault::BadPool(0)));
     }

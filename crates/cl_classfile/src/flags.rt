@@ -3,6 +3,8 @@
 ghost use Rattle.std.specs.Prelude.{◌≡◌, ◌<◌};
 ghost use Rattle.cl_classfile.specs.Flags.{has, public, static, interface, is_interface_flags, is_plain_flags, is_class_flags, has_one_access, is_constant_flags, is_field_flags, may_be_abstract, may_be_of_interface, is_method_flags, is_init_flags};
 
+use crate::version::Owner;
+
 /// What has it may be used from outside its package (JVMS SE 8, tables 4.1-A, 4.5-A and 4.6-A).
 pub const PUBLIC: u16 = 0x0001;
 
@@ -62,12 +64,12 @@ pub fn is_interface(flags: u16) -> bool
     has_flag(flags, INTERFACE)
 }
 
-fn is_interface_flags(flags: u16) -> bool
-    ensures { result ≡ is_interface_flags flags }
+fn is_interface_flags(major: u16, flags: u16) -> bool
+    ensures { result ≡ is_interface_flags major flags }
 {
-    has_flag(flags, ABSTRACT)
+    (major < 50 || has_flag(flags, ABSTRACT))
         && !has_flag(flags, FINAL)
-        && !has_flag(flags, SUPER)
+        && (major < 49 || !has_flag(flags, SUPER))
         && !has_flag(flags, ENUM)
 }
 
@@ -78,11 +80,11 @@ fn is_plain_flags(flags: u16) -> bool
 }
 
 /// Whether the flags of a class keep their table (JVMS SE 8, 4.1).
-pub fn is_class_flags(flags: u16) -> bool
-    ensures { result ≡ is_class_flags flags }
+pub fn is_class_flags(major: u16, flags: u16) -> bool
+    ensures { result ≡ is_class_flags major flags }
 {
     if is_interface(flags) {
-        is_interface_flags(flags)
+        is_interface_flags(major, flags)
     } else {
         is_plain_flags(flags)
     }
@@ -127,21 +129,25 @@ pub fn is_field_flags(of_interface: bool, flags: u16) -> bool
     }
 }
 
-fn may_be_abstract(flags: u16) -> bool
-    ensures { result ≡ may_be_abstract flags }
+fn may_be_abstract(major: u16, flags: u16) -> bool
+    ensures { result ≡ may_be_abstract major flags }
 {
     !(has_flag(flags, PRIVATE)
         || has_flag(flags, STATIC)
         || has_flag(flags, FINAL)
-        || has_flag(flags, SYNCHRONIZED)
-        || has_flag(flags, NATIVE)
-        || has_flag(flags, STRICT))
+        || has_flag(flags, NATIVE))
+        && (major < 49 || !(has_flag(flags, SYNCHRONIZED) || has_flag(flags, STRICT)))
 }
 
-fn may_be_of_interface(flags: u16) -> bool
-    ensures { result ≡ may_be_of_interface flags }
+fn may_be_of_interface(major: u16, flags: u16) -> bool
+    ensures { result ≡ may_be_of_interface major flags }
 {
-    (has_flag(flags, PUBLIC) || has_flag(flags, PRIVATE))
+    let has_access = if major < 52 {
+        has_flag(flags, PUBLIC) && has_flag(flags, ABSTRACT)
+    } else {
+        has_flag(flags, PUBLIC) || has_flag(flags, PRIVATE)
+    };
+    has_access
         && !(has_flag(flags, PROTECTED)
             || has_flag(flags, FINAL)
             || has_flag(flags, SYNCHRONIZED)
@@ -149,12 +155,12 @@ fn may_be_of_interface(flags: u16) -> bool
 }
 
 /// Whether the flags of a method that is neither `<init>` nor `<clinit>` keep their table (JVMS SE 8, 4.6).
-pub fn is_method_flags(of_interface: bool, flags: u16) -> bool
-    ensures { result ≡ is_method_flags of_interface flags }
+pub fn is_method_flags(owner: Owner, flags: u16) -> bool
+    ensures { result ≡ is_method_flags owner flags }
 {
     has_one_access(flags)
-        && (!has_flag(flags, ABSTRACT) || may_be_abstract(flags))
-        && (!of_interface || may_be_of_interface(flags))
+        && (!has_flag(flags, ABSTRACT) || may_be_abstract(owner.major, flags))
+        && (!owner.of_interface || may_be_of_interface(owner.major, flags))
 }
 
 /// What else is asked of the flags of `<init>` (JVMS SE 8, 4.6).

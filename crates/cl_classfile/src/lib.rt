@@ -24,6 +24,7 @@ mod reference;
 mod rows;
 pub mod tags;
 mod traits;
+mod version;
 mod widths;
 
 pub use attribute::Attribute;
@@ -39,3 +40,4 @@ pub use limits::{MOST_COUNTED, MOST_ENTRIES};
 pub use member::Member;
 pub use parts::{Parts, Refused};
 pub use reference::{Reference, Symbol};
+pub use version::Version;

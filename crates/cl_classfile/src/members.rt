@@ -20,6 +20,7 @@ use crate::member::Member;
 use crate::numbers::Numbers;
 use crate::rows::traits_at;
 use crate::traits::{Special, Traits, is_field};
+use crate::version::Owner;
 use cl_descriptors::MOST_UNITS;
 use std::alloc::{AllocError, Global};
 
@@ -48,33 +49,33 @@ fn has_room(of_class: bool, units: Option<usize>) -> bool
     }
 }
 
-fn keeps_method_flags(name: Special, of_interface: bool, flags: u16) -> bool
-    ensures { result ≡ keeps_method_flags name of_interface flags }
+fn keeps_method_flags(name: Special, owner: Owner, flags: u16) -> bool
+    ensures { result ≡ keeps_method_flags name owner flags }
 {
     match name {
         Special::Clinit => true,
-        Special::Init => is_method_flags(of_interface, flags) && is_init_flags(flags),
-        Special::Plain | Special::Angle => is_method_flags(of_interface, flags),
+        Special::Init => is_method_flags(owner, flags) && is_init_flags(flags),
+        Special::Plain | Special::Angle => is_method_flags(owner, flags),
     }
 }
 
-fn keeps_method(traits: &[Traits], of_interface: bool, method: &Member) -> bool
-    ensures { result ≡ keeps_method traits.now of_interface method.now }
+fn keeps_method(traits: &[Traits], owner: Owner, method: &Member) -> bool
+    ensures { result ≡ keeps_method traits.now owner method.now }
 {
     let name = traits_at(traits, method.name_index());
     let units = traits_at(traits, method.descriptor_index()).units;
-    keeps_method_flags(name.special, of_interface, method.flags())
+    keeps_method_flags(name.special, owner, method.flags())
         && name.method
         && has_room(is_static(method.flags()), units)
 }
 
 /// Whether the member fits its widths and keeps its table.
-fn keeps_member(kind: Kind, traits: &[Traits], of_interface: bool, member: &Member) -> bool
-    ensures { result ≡ keeps_member kind traits.now of_interface member.now }
+fn keeps_member(kind: Kind, traits: &[Traits], owner: Owner, member: &Member) -> bool
+    ensures { result ≡ keeps_member kind traits.now owner member.now }
 {
     match kind {
-        Kind::Field => member.fits() && keeps_field(traits, of_interface, member),
-        Kind::Method => member.fits() && keeps_method(traits, of_interface, member),
+        Kind::Field => member.fits() && keeps_field(traits, owner.of_interface, member),
+        Kind::Method => member.fits() && keeps_method(traits, owner, member),
     }
 }
 
@@ -112,18 +113,18 @@ pub fn check_few(
     kind: Kind,
     traits: &[Traits],
     pool: &[Entry],
-    of_interface: bool,
+    owner: Owner,
     members: &[Member],
 ) -> Result<(), Fault>
     ensures { Finds (λ u. u) result
-        (checked_list kind traits.now of_interface pool.now members.now) }
+        (checked_list kind traits.now owner pool.now members.now) }
 {
     if MOST_COUNTED < members.len() {
         return Err(Fault::BadMember);
     }
     for i in 0..members.len() {
         let member = &members[i];
-        if !keeps_member(kind, traits, of_interface, member) {
+        if !keeps_member(kind, traits, owner, member) {
             return Err(Fault::BadMember);
         }
         if is_among(pool, &members[..i], member) {
@@ -164,12 +165,12 @@ pub fn check_members(
     kind: Kind,
     traits: &[Traits],
     numbers: &Numbers,
-    of_interface: bool,
+    owner: Owner,
     members: &[Member],
 ) -> Result<Places, ReadError>
     // In a pool of whose texts these are the numbers.
     ensures checked { (pool : List Entry) → AreNoted pool numbers.now members.now
-        → Gives (λ _. tt) result (checked_list kind traits.now of_interface pool members.now) }
+        → Gives (λ _. tt) result (checked_list kind traits.now owner pool members.now) }
     ensures placed { IfOk result (λ ps. StandThere numbers.now ps members.now) }
 {
     if members.len() > MOST_COUNTED {
@@ -178,7 +179,7 @@ pub fn check_members(
     let mut places = Places::new(alloc);
     for i in 0..members.len() {
         let member = &members[i];
-        if !keeps_member(kind, traits, of_interface, member) {
+        if !keeps_member(kind, traits, owner, member) {
             return Err(ReadError::Fault(Fault::BadMember));
         }
         if !is_new(&mut places, numbers, member, i)? {

@@ -4,11 +4,14 @@ use crate::attribute::Attribute;
 use crate::entry::Entry;
 use crate::fault::ReadError;
 use crate::member::Member;
+use crate::version::Version;
 use thiserror::Error;
 
-/// What a class file is made of (JVMS SE 8, 4.1). Its magic, its version and its counts are what they have to be.
+/// What a class file is made of (JVMS SE 8, 4.1). Its magic and its counts are what they have to be.
 #[derive(Debug, Drop)]
 pub struct Parts {
+    /// The version.
+    pub version: Version,
     /// The entries of the pool from index 1 on. Behind a long and behind a double stands `Entry::Unusable`.
     pub pool: Vec<Entry>,
     /// The class's flags.

@@ -13,11 +13,13 @@ use crate::fault::{Fault, ReadError};
 use crate::member::Member;
 use crate::pool::pool_at;
 use crate::raw::RawEntry;
+use crate::version::{Version, is_supported};
 use std::alloc::Global;
 
 /// A file as it is read, before it is looked at.
 #[derive(Drop)]
 pub struct RawFile<'a> {
+    pub version: Version,
     pub pool: Vec<RawEntry<'a>>,
     pub flags: u16,
     pub this_class: u16,
@@ -71,19 +73,20 @@ fn magic_at(bytes: &[u8]) -> Result<(u32, &[u8]), Fault>
 }
 
 #[tactic(auto, unfolding(crate::specs::Reading::version_at, crate::specs::Reading::two_at))]
-fn version_at(bytes: &[u8]) -> Result<((u16, u16), &[u8]), Fault>
+fn version_at(bytes: &[u8]) -> Result<(Version, &[u8]), Fault>
     ensures { Finds (λ x. (x.0, x.1.now)) result (version_at bytes.now) }
 {
     let (minor, rest) = u16_at(bytes)?;
     let (major, rest) = u16_at(rest)?;
-    if minor != 0 || major != 52 {
+    let version = Version { major, minor };
+    if !is_supported(version) {
         return Err(Fault::Version);
     }
-    Ok(((minor, major), rest))
+    Ok((version, rest))
 }
 
 #[tactic(auto, unfolding(crate::specs::Reading::header_at))]
-fn header_at(bytes: &[u8]) -> Result<((u32, (u16, u16)), &[u8]), Fault>
+fn header_at(bytes: &[u8]) -> Result<((u32, Version), &[u8]), Fault>
     ensures { Finds (λ x. (x.0, x.1.now)) result (header_at bytes.now) }
 {
     let (magic, rest) = magic_at(bytes)?;
@@ -218,12 +221,13 @@ fn structure_at(alloc: Global, bytes: &[u8]) -> Result<(RawFile<'_>, &[u8]), Rea
     ensures exact { Gives (λ x. (plain_file x.0, x.1.now)) result (structure_at bytes.now) }
     ensures early { (f : Fault) → header_at bytes.now ≡ Err f → IsErrOf result (errors.Fault f) }
 {
-    let (_, rest) = header_at(bytes)?;
+    let ((_, version), rest) = header_at(bytes)?;
     let (pool, rest) = pool_at(alloc, rest)?;
     let ((flags, (this_class, super_class)), rest) = class_at(rest)?;
     let (interfaces, rest) = interfaces_at(alloc, rest)?;
     let (tables, rest) = tables_at(alloc, rest)?;
     let file = RawFile {
+        version,
         pool,
         flags,
         this_class,

@@ -8,15 +8,15 @@ loop-i-init c = refl
 
 pub returns-then-not-keeps_member : goal.returns-then-not-keeps_member
 returns-then-not-keeps_member c =
-    counted c.args.kind c.args.traits.now c.args.of_interface c.args.pool.now c.args.members.now (omega arith) ∙ refuses (keeps_member c.args.kind c.args.traits.now c.args.of_interface) c.args.pool.now c.args.members.now c.loop-i.i c.index-members-i.result c.loop-i-test.true c.index-members-i.is (sym c.keeps_member.ensures ∙ c.if-not-keeps_member.true) c.loop-i.invariant
+    counted c.args.kind c.args.traits.now c.args.owner c.args.pool.now c.args.members.now (omega arith) ∙ refuses (keeps_member c.args.kind c.args.traits.now c.args.owner) c.args.pool.now c.args.members.now c.loop-i.i c.index-members-i.result c.loop-i-test.true c.index-members-i.is (sym c.keeps_member.ensures ∙ c.if-not-keeps_member.true) c.loop-i.invariant
 
 pub returns-then-is_among : goal.returns-then-is_among
 returns-then-is_among c =
-    counted c.args.kind c.args.traits.now c.args.of_interface c.args.pool.now c.args.members.now (omega arith) ∙ repeats (keeps_member c.args.kind c.args.traits.now c.args.of_interface) c.args.pool.now c.args.members.now c.loop-i.i c.index-members-i.result c.loop-i-test.true c.index-members-i.is (sym c.keeps_member.ensures ∙ c.if-not-keeps_member.false) (sym c.is_among.ensures ∙ c.if-is_among.true) c.loop-i.invariant
+    counted c.args.kind c.args.traits.now c.args.owner c.args.pool.now c.args.members.now (omega arith) ∙ repeats (keeps_member c.args.kind c.args.traits.now c.args.owner) c.args.pool.now c.args.members.now c.loop-i.i c.index-members-i.result c.loop-i-test.true c.index-members-i.is (sym c.keeps_member.ensures ∙ c.if-not-keeps_member.false) (sym c.is_among.ensures ∙ c.if-is_among.true) c.loop-i.invariant
 
 pub loop-i-preserved : goal.loop-i-preserved
 loop-i-preserved c =
-    goes_on (keeps_member c.args.kind c.args.traits.now c.args.of_interface) c.args.pool.now c.args.members.now c.loop-i.i c.index-members-i.result c.loop-i-test.true c.index-members-i.is (sym c.keeps_member.ensures ∙ c.if-not-keeps_member.false) (sym c.is_among.ensures ∙ c.if-is_among.false) c.loop-i.invariant
+    goes_on (keeps_member c.args.kind c.args.traits.now c.args.owner) c.args.pool.now c.args.members.now c.loop-i.i c.index-members-i.result c.loop-i-test.true c.index-members-i.is (sym c.keeps_member.ensures ∙ c.if-not-keeps_member.false) (sym c.is_among.ensures ∙ c.if-is_among.false) c.loop-i.invariant
 
 pub returns : goal.returns
-returns c = counted c.args.kind c.args.traits.now c.args.of_interface c.args.pool.now c.args.members.now (omega arith) ∙ is_done (keeps_member c.args.kind c.args.traits.now c.args.of_interface) c.args.pool.now c.args.members.now c.loop-i.i c.loop-i-test.false c.loop-i.invariant
+returns c = counted c.args.kind c.args.traits.now c.args.owner c.args.pool.now c.args.members.now (omega arith) ∙ is_done (keeps_member c.args.kind c.args.traits.now c.args.owner) c.args.pool.now c.args.members.now c.loop-i.i c.loop-i-test.false c.loop-i.invariant

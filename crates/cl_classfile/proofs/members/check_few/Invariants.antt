@@ -3,4 +3,4 @@ use Rattle.cl_classfile.proofs.MemberRows.{AreLookedAt}
 use Rattle.cl_classfile.proofs.members.check_few.Given as goal
 
 abbrev pub invariant-loop-i : goal.invariant-loop-i
-invariant-loop-i l = AreLookedAt (keeps_member l.kind l.traits l.of_interface) l.pool l.members l.i
+invariant-loop-i l = AreLookedAt (keeps_member l.kind l.traits l.owner) l.pool l.members l.i

@@ -16,20 +16,20 @@ loop-i-init c = (λ pool a. (refl, starts pool (number_of pool c.args.numbers.no
 
 pub returns-then-not-keeps_member-clause-checked : goal.returns-then-not-keeps_member-clause-checked
 returns-then-not-keeps_member-clause-checked c = λ pool a.
-    counted c.args.kind c.args.traits.now c.args.of_interface pool c.args.members.now (omega arith) ∙ refuses (keeps_member c.args.kind c.args.traits.now c.args.of_interface) pool c.args.members.now c.loop-i.i c.index-members-i.result c.loop-i-test.true c.index-members-i.is (sym c.keeps_member.ensures ∙ c.if-not-keeps_member.true) (c.loop-i.invariant.0 pool a).0
+    counted c.args.kind c.args.traits.now c.args.owner pool c.args.members.now (omega arith) ∙ refuses (keeps_member c.args.kind c.args.traits.now c.args.owner) pool c.args.members.now c.loop-i.i c.index-members-i.result c.loop-i-test.true c.index-members-i.is (sym c.keeps_member.ensures ∙ c.if-not-keeps_member.true) (c.loop-i.invariant.0 pool a).0
 
 pub returns-then-not-branch-clause-checked : goal.returns-then-not-branch-clause-checked
 returns-then-not-branch-clause-checked c = λ pool a.
     let so_far = c.loop-i.invariant.0 pool a in
     let k = c.in_ok-is_new.ensures.seen pool (take c.loop-i.i c.args.members.now) a.numbers (member_noted pool c.args.numbers.now c.args.members.now c.loop-i.i c.index-members-i.result c.loop-i-test.true c.index-members-i.is a.each) so_far.1 in
-    counted c.args.kind c.args.traits.now c.args.of_interface pool c.args.members.now (omega arith) ∙ repeats (keeps_member c.args.kind c.args.traits.now c.args.of_interface) pool c.args.members.now c.loop-i.i c.index-members-i.result c.loop-i-test.true c.index-members-i.is (sym c.keeps_member.ensures ∙ c.if-not-keeps_member.false) (old c.in_ok-is_new.field-0 _ k.0 c.if-not-branch.true) so_far.0
+    counted c.args.kind c.args.traits.now c.args.owner pool c.args.members.now (omega arith) ∙ repeats (keeps_member c.args.kind c.args.traits.now c.args.owner) pool c.args.members.now c.loop-i.i c.index-members-i.result c.loop-i-test.true c.index-members-i.is (sym c.keeps_member.ensures ∙ c.if-not-keeps_member.false) (old c.in_ok-is_new.field-0 _ k.0 c.if-not-branch.true) so_far.0
 
 pub loop-i-preserved : goal.loop-i-preserved
 loop-i-preserved c = (
   λ pool a.
       let so_far = c.loop-i.invariant.0 pool a in
       let k = c.in_ok-is_new.ensures.seen pool (take c.loop-i.i c.args.members.now) a.numbers (member_noted pool c.args.numbers.now c.args.members.now c.loop-i.i c.index-members-i.result c.loop-i-test.true c.index-members-i.is a.each) so_far.1 in (
-        goes_on (keeps_member c.args.kind c.args.traits.now c.args.of_interface) pool c.args.members.now c.loop-i.i c.index-members-i.result c.loop-i-test.true c.index-members-i.is (sym c.keeps_member.ensures ∙ c.if-not-keeps_member.false) (fresh c.in_ok-is_new.field-0 _ k.0 c.if-not-branch.false) so_far.0,
+        goes_on (keeps_member c.args.kind c.args.traits.now c.args.owner) pool c.args.members.now c.loop-i.i c.index-members-i.result c.loop-i-test.true c.index-members-i.is (sym c.keeps_member.ensures ∙ c.if-not-keeps_member.false) (fresh c.in_ok-is_new.field-0 _ k.0 c.if-not-branch.false) so_far.0,
         subst (λ (ms : List MemberInfo). HasPairs pool (number_of pool c.args.numbers.now) (has_place c.is_new.new.places) ms) (sym (front c.args.members.now c.loop-i.i c.index-members-i.result c.loop-i-test.true c.index-members-i.is)) k.1,
       ),
   c.in_ok-is_new.ensures.placed c.args.members.now (slice_get_read c.args.members.now (length c.args.members.now) c.loop-i.i c.index-members-i.result refl c.loop-i-test.true c.index-members-i.is) c.loop-i.invariant.1,
@@ -37,7 +37,7 @@ loop-i-preserved c = (
 
 pub returns-clause-checked : goal.returns-clause-checked
 returns-clause-checked c = λ pool a.
-    counted c.args.kind c.args.traits.now c.args.of_interface pool c.args.members.now (omega arith) ∙ is_done (keeps_member c.args.kind c.args.traits.now c.args.of_interface) pool c.args.members.now c.loop-i.i c.loop-i-test.false (c.loop-i.invariant.0 pool a).0
+    counted c.args.kind c.args.traits.now c.args.owner pool c.args.members.now (omega arith) ∙ is_done (keeps_member c.args.kind c.args.traits.now c.args.owner) pool c.args.members.now c.loop-i.i c.loop-i-test.false (c.loop-i.invariant.0 pool a).0
 
 pub returns-clause-placed : goal.returns-clause-placed
 returns-clause-placed c = is_done_standing c.args.numbers.now c.loop-i.places c.args.members.now c.loop-i.i c.loop-i-test.false c.loop-i.invariant.1

@@ -10,5 +10,5 @@ use Rattle.cl_classfile.proofs.members.check_members.Given as goal
 abbrev pub invariant-loop-i : goal.invariant-loop-i
 invariant-loop-i l =
     ((pool : List Entry) → AreNoted pool l.numbers l.members
-    → AreLookedAt (keeps_member l.kind l.traits l.of_interface) pool l.members l.i × HasPairs pool (number_of pool l.numbers) (has_place l.places) (take l.i l.members))
+    → AreLookedAt (keeps_member l.kind l.traits l.owner) pool l.members l.i × HasPairs pool (number_of pool l.numbers) (has_place l.places) (take l.i l.members))
     × StandTo l.numbers l.places l.members l.i

@@ -1,6 +1,6 @@
-use Rattle.std.proofs.Common.{rules, ◌≡◌, ◌∙◌, ◌+◌, ◌∷◌, ◌++◌, [], ℕ, List, Some, None, ap, sym, subst, refl, arith, length, replicate}
+use Rattle.std.proofs.Common.{rules, ◌≡◌, ◌∙◌, ◌∷◌, ◌++◌, [], ℕ, List, ap, sym, subst, length, replicate}
 use Rattle.std.specs.Prelude.{slice_get}
-use Rattle.cl_classfile.specs.Mentions.{AreMentions, AreMet, MarksOne, MetAt, text_of_interface}
+use Rattle.cl_classfile.specs.Mentions.{AreMentions, AreMet, MetAt, text_of_interface}
 use Rattle.cl_classfile.proofs.Mentioning.{first_more, met_more, none_met, text_there}
 use Rattle.cl_classfile.proofs.mentions.mentions_of.Goals as goal
 

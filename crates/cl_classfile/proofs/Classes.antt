@@ -17,9 +17,9 @@ use Rattle.cl_classfile.proofs.Judging.{differ}
 use Rattle.cl_names.specs.declared.kind.TheConstants.{MOST_TEXT_BYTES}
 use Rattle.cl_classfile.proofs.MemberRows.{named_text}
 
--- each entry keeps its row
+-- each entry keeps its row, by the rules of some version
 abbrev pub Rows : List Entry → Type 0
-Rows pool = AllByRecursion (KeepsEntry pool) pool
+Rows pool = (major : ℕ) × AllByRecursion (KeepsEntry major pool) pool
 
 -- what holds of all entries holds of the one at an index
 at_kept : (P : Entry → Type 0) (es : List Entry) (i : ℕ) (e : Entry) → AllByRecursion P es → at es i ≡ Some e → P e
@@ -29,8 +29,8 @@ at_kept P (x ∷ es) (suc zero) e all h = let k : x ≡ e = cc in subst P k all.
 at_kept P (x ∷ es) (suc (suc i)) e all h = at_kept P es (suc i) e all.1 h
 
 -- the entry at an index keeps its row
-pub row_at : (pool : List Entry) (i : ℕ) (e : Entry) → Rows pool → at pool i ≡ Some e → KeepsEntry pool e
-row_at pool i e rows h = at_kept (KeepsEntry pool) pool i e rows h
+pub row_at : (pool : List Entry) (i : ℕ) (e : Entry) (rows : Rows pool) → at pool i ≡ Some e → KeepsEntry rows.0 pool e
+row_at pool i e rows h = at_kept (KeepsEntry rows.0 pool) pool i e rows.1 h
 
 -- ---- classes and arrays
 

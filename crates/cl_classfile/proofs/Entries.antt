@@ -47,37 +47,37 @@ pub split : (raws : List RawEntry) (i : ℕ) (d : RawEntry) → i < length raws 
 split raws i d lt = drop-map plain_entry i raws ∙ ap plain_entries (drop-cons raws i d lt) ∙ rw (add-one, drop-map plain_entry (suc i) raws) refl
 
 -- the entries from i on are still to be looked at
-abbrev pub IsLookedAt : List Entry → ℕ → Type 0
-IsLookedAt pool i = checked_entries pool (i + 1) (drop i pool) ≡ checked_entries pool 1 pool
+abbrev pub IsLookedAt : ℕ → List Entry → ℕ → Type 0
+IsLookedAt major pool i = checked_entries major pool (i + 1) (drop i pool) ≡ checked_entries major pool 1 pool
 
 -- whether an entry keeps its row, with the traits that were found
-row : (pool : List Entry) (traits : List Traits) (i : ℕ) (e : Entry) (b : Bool) → traits ≡ map entry_traits pool → b ≡ keeps_entry traits pool e → kept_entry pool i e ≡ cond b (Ok e) (Err (BadPool i))
-row pool traits i e b t h = ap (λ (ts : List Traits). cond (keeps_entry ts pool e) (Ok e) (Err (BadPool i))) (sym t) ∙ ap (λ (k : Bool). cond k (Ok e) (Err (BadPool i))) (sym h)
+row : (major : ℕ) (pool : List Entry) (traits : List Traits) (i : ℕ) (e : Entry) (b : Bool) → traits ≡ map entry_traits pool → b ≡ keeps_entry major traits pool e → kept_entry major pool i e ≡ cond b (Ok e) (Err (BadPool i))
+row major pool traits i e b t h = ap (λ (ts : List Traits). cond (keeps_entry major ts pool e) (Ok e) (Err (BadPool i))) (sym t) ∙ ap (λ (k : Bool). cond k (Ok e) (Err (BadPool i))) (sym h)
 
-pub goes_on : (traits : List Traits) (raws : List RawEntry) (i : ℕ) (d : RawEntry) (b : Bool) → i < length raws → traits ≡ map entry_traits (plain_entries raws) → b ≡ keeps_entry traits (plain_entries raws) (plain_entry (get_or raws i d)) → b ≡ true
-    → IsLookedAt (plain_entries raws) i → IsLookedAt (plain_entries raws) (i + 1)
+pub goes_on : (major : ℕ) (traits : List Traits) (raws : List RawEntry) (i : ℕ) (d : RawEntry) (b : Bool) → i < length raws → traits ≡ map entry_traits (plain_entries raws) → b ≡ keeps_entry major traits (plain_entries raws) (plain_entry (get_or raws i d)) → b ≡ true
+    → IsLookedAt major (plain_entries raws) i → IsLookedAt major (plain_entries raws) (i + 1)
 unfolding checked_entries
-goes_on traits raws i d b lt t h kept so_far =
+goes_on major traits raws i d b lt t h kept so_far =
     let pool = plain_entries raws in
-    let kept_row : kept_entry pool (i + 1) (plain_entry (get_or raws i d)) ≡ Ok (plain_entry (get_or raws i d)) = row pool traits (i + 1) (plain_entry (get_or raws i d)) b t h ∙ rw kept refl in
-    let one : checked_entries pool (i + 1) (drop i pool) ≡ checked_entries pool (i + 1 + 1) (drop (i + 1) pool) = rw (split raws i d lt, kept_row) refl in
+    let kept_row : kept_entry major pool (i + 1) (plain_entry (get_or raws i d)) ≡ Ok (plain_entry (get_or raws i d)) = row major pool traits (i + 1) (plain_entry (get_or raws i d)) b t h ∙ rw kept refl in
+    let one : checked_entries major pool (i + 1) (drop i pool) ≡ checked_entries major pool (i + 1 + 1) (drop (i + 1) pool) = rw (split raws i d lt, kept_row) refl in
     sym one ∙ so_far
 
-pub ends : (traits : List Traits) (raws : List RawEntry) (i : ℕ) (d : RawEntry) (b : Bool) → i < length raws → traits ≡ map entry_traits (plain_entries raws) → b ≡ keeps_entry traits (plain_entries raws) (plain_entry (get_or raws i d)) → b ≡ false
-    → IsLookedAt (plain_entries raws) i → checked_entries (plain_entries raws) 1 (plain_entries raws) ≡ Err (BadPool (i + 1))
+pub ends : (major : ℕ) (traits : List Traits) (raws : List RawEntry) (i : ℕ) (d : RawEntry) (b : Bool) → i < length raws → traits ≡ map entry_traits (plain_entries raws) → b ≡ keeps_entry major traits (plain_entries raws) (plain_entry (get_or raws i d)) → b ≡ false
+    → IsLookedAt major (plain_entries raws) i → checked_entries major (plain_entries raws) 1 (plain_entries raws) ≡ Err (BadPool (i + 1))
 unfolding checked_entries
-ends traits raws i d b lt t h bad so_far =
+ends major traits raws i d b lt t h bad so_far =
     let pool = plain_entries raws in
-    let bad_row : kept_entry pool (i + 1) (plain_entry (get_or raws i d)) ≡ Err (BadPool (i + 1)) = row pool traits (i + 1) (plain_entry (get_or raws i d)) b t h ∙ rw bad refl in
-    let one : checked_entries pool (i + 1) (drop i pool) ≡ Err (BadPool (i + 1)) = rw (split raws i d lt, bad_row) refl in
+    let bad_row : kept_entry major pool (i + 1) (plain_entry (get_or raws i d)) ≡ Err (BadPool (i + 1)) = row major pool traits (i + 1) (plain_entry (get_or raws i d)) b t h ∙ rw bad refl in
+    let one : checked_entries major pool (i + 1) (drop i pool) ≡ Err (BadPool (i + 1)) = rw (split raws i d lt, bad_row) refl in
     sym so_far ∙ one
 
-pub is_done : (raws : List RawEntry) (i : ℕ) → length raws ≤ i → IsLookedAt (plain_entries raws) i → checked_entries (plain_entries raws) 1 (plain_entries raws) ≡ Ok tt
+pub is_done : (major : ℕ) (raws : List RawEntry) (i : ℕ) → length raws ≤ i → IsLookedAt major (plain_entries raws) i → checked_entries major (plain_entries raws) 1 (plain_entries raws) ≡ Ok tt
 unfolding checked_entries
-is_done raws i le so_far =
+is_done major raws i le so_far =
     let pool = plain_entries raws in
     let none : drop i pool ≡ [] = nil_from_length _ (omega (arith, length-drop i pool, length-map raws plain_entry)) in
-    let one : checked_entries pool (i + 1) (drop i pool) ≡ Ok tt = rw none refl in
+    let one : checked_entries major pool (i + 1) (drop i pool) ≡ Ok tt = rw none refl in
     sym so_far ∙ one
 
 -- the traits of the entry at i are its own
@@ -96,30 +96,30 @@ each_holds P (r ∷ raws) zero d lt all = all.0
 each_holds P (r ∷ raws) (suc i) d lt all = each_holds P raws i d (omega (arith, lt)) all.1
 
 -- an entry that keeps its row holds a text, if it is one
-text_held : (traits : List Traits) (pool : List Entry) (e : Entry) → keeps_entry traits pool e ≡ true → HoldsText e
-text_held traits pool (Utf8 text) h = let b = and_parts (is_text text) (leb (length text) MOST_TEXT_BYTES) h in (text_from_test text b.0, leb-true _ _ b.1)
-text_held traits pool (Integer v) h = tt
-text_held traits pool (Float b) h = tt
-text_held traits pool (Long v) h = tt
-text_held traits pool (Double b) h = tt
-text_held traits pool Unusable h = tt
-text_held traits pool (Class t) h = tt
-text_held traits pool (String t) h = tt
-text_held traits pool (Fieldref c p) h = tt
-text_held traits pool (Methodref c p) h = tt
-text_held traits pool (InterfaceMethodref c p) h = tt
-text_held traits pool (NameAndType n d) h = tt
-text_held traits pool (MethodHandle k r) h = tt
-text_held traits pool (MethodType d) h = tt
-text_held traits pool (InvokeDynamic b p) h = tt
+text_held : (major : ℕ) (traits : List Traits) (pool : List Entry) (e : Entry) → keeps_entry major traits pool e ≡ true → HoldsText e
+text_held major traits pool (Utf8 text) h = let b = and_parts (is_text text) (leb (length text) MOST_TEXT_BYTES) h in (text_from_test text b.0, leb-true _ _ b.1)
+text_held major traits pool (Integer v) h = tt
+text_held major traits pool (Float b) h = tt
+text_held major traits pool (Long v) h = tt
+text_held major traits pool (Double b) h = tt
+text_held major traits pool Unusable h = tt
+text_held major traits pool (Class t) h = tt
+text_held major traits pool (String t) h = tt
+text_held major traits pool (Fieldref c p) h = tt
+text_held major traits pool (Methodref c p) h = tt
+text_held major traits pool (InterfaceMethodref c p) h = tt
+text_held major traits pool (NameAndType n d) h = tt
+text_held major traits pool (MethodHandle k r) h = tt
+text_held major traits pool (MethodType d) h = tt
+text_held major traits pool (InvokeDynamic b p) h = tt
 
 pub row_kept : (b : Bool) (e x : Entry) (i : ℕ) → cond b (Ok e) (let r : Result Entry Fault = Err (BadPool i) in r) ≡ Ok x → b ≡ true
 row_kept true e x i h = refl
 row_kept false e x i h = absurd cc
 
-pub texts_held : (pool : List Entry) (i : ℕ) (es : List Entry) (u : Unit {0}) → checked_entries pool i es ≡ Ok u → AllByRecursion HoldsText es
+pub texts_held : (major : ℕ) (pool : List Entry) (i : ℕ) (es : List Entry) (u : Unit {0}) → checked_entries major pool i es ≡ Ok u → AllByRecursion HoldsText es
 unfolding checked_entries
-texts_held pool i [] u h = tt
-texts_held pool i (e ∷ es) u h =
-    let a = bind_ok (kept_entry pool i e) (λ kept. checked_entries pool (i + 1) es) u h in
-    (text_held (map entry_traits pool) pool e (row_kept (keeps_entry (map entry_traits pool) pool e) e a.0 i a.1), texts_held pool (i + 1) es u a.2)
+texts_held major pool i [] u h = tt
+texts_held major pool i (e ∷ es) u h =
+    let a = bind_ok (kept_entry major pool i e) (λ kept. checked_entries major pool (i + 1) es) u h in
+    (text_held major (map entry_traits pool) pool e (row_kept (keeps_entry major (map entry_traits pool) pool e) e a.0 i a.1), texts_held major pool (i + 1) es u a.2)

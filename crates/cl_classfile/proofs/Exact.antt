@@ -58,7 +58,7 @@ unfolding parts_of read_of
 parts_as_read f h = rw (version_told f.version h.version, pool_told f.pool h.pool, whole_again f h) refl
 
 -- a file that passed the tests
-pub is_class_file : (f : Structure) (u v : Unit {0}) → Fits f → checked_entries f.pool 1 f.pool ≡ Ok u → checked_tables (map entry_traits f.pool) f.pool f ≡ Ok v → IsClassFile f
+pub is_class_file : (f : Structure) (u v : Unit {0}) → Fits f → checked_entries f.version.major f.pool 1 f.pool ≡ Ok u → checked_tables (map entry_traits f.pool) f.pool f ≡ Ok v → IsClassFile f
 is_class_file f u v fits rows tables = record { fits = fits; kept = (tables_say f u v rows tables).kept }
 
 -- for the calls

@@ -18,7 +18,7 @@ use Rattle.cl_classfile.specs.declared.entry.Entry.TheVariants.{Utf8, Integer, F
 use Rattle.cl_classfile.specs.declared.traits.Special.{Special}
 use Rattle.cl_classfile.specs.declared.traits.Special.TheVariants as names
 use Rattle.cl_classfile.specs.declared.traits.Traits.{Traits}
-use Rattle.cl_classfile.specs.Pool.{at, HasText, HasClass, HasPair, IsNameAndType, NamesType, MayCall, HasPlainName, MayPair, MayHandle, EntryFits, KeepsEntry}
+use Rattle.cl_classfile.specs.Pool.{at, HasText, HasClass, HasPair, IsNameAndType, NamesType, MayCall, HasPlainName, MayPair, may_name_interface_method, MayHandle, EntryFits, KeepsEntry}
 use Rattle.cl_classfile.specs.Rows.{begins_angle, special_of, is_field, is_array, is_call, is_void, traits_of, nothing, entry_traits, traits_at, is_class, pair_of, pair_at, may_call, may_pair, is_plain, is_init, may_handle, keeps_entry}
 use Rattle.cl_classfile.proofs.Codec.{both}
 use Rattle.cl_names.specs.declared.kind.TheConstants.{MOST_TEXT_BYTES}
@@ -374,26 +374,26 @@ init_named pool i h = let n = name_says is_init refl pool i h in renamed pool i 
 init_told : (pool : List Entry) (i : ℕ) → IsNameAndType pool i init → is_init (pair pool i).0.special ≡ true
 init_told pool i n = ap is_init (named pool i init n)
 
-handle_says : (pool : List Entry) (k : ℕ) (o : Option Entry) → may_handle (map entry_traits pool) pool k o ≡ true → MayHandle pool k o
-handle_says pool k (Some (Fieldref c p)) h = let b = both (leb 1 k) (leb k 4) h in (leb-true 1 k b.0, leb-true k 4 b.1)
-handle_says pool k (Some (Methodref c p)) h =
+handle_says : (major : ℕ) (pool : List Entry) (k : ℕ) (o : Option Entry) → may_handle major (map entry_traits pool) pool k o ≡ true → MayHandle major pool k o
+handle_says major pool k (Some (Fieldref c p)) h = let b = both (leb 1 k) (leb k 4) h in (leb-true 1 k b.0, leb-true k 4 b.1)
+handle_says major pool k (Some (Methodref c p)) h =
     elim (either ((eqb k 5 || eqb k 6 || eqb k 7) && is_plain (pair pool p).0.special) (eqb k 8 && is_init (pair pool p).0.special) h) [
       | inl e ↦ let b = both (eqb k 5 || eqb k 6 || eqb k 7) (is_plain (pair pool p).0.special) e in inl (one_of k 5 6 7 b.0, plain_says pool p b.1)
       | inr e ↦ let b = both (eqb k 8) (is_init (pair pool p).0.special) e in inr (eqb-true k 8 b.0, init_named pool p b.1)
     ]
-handle_says pool k (Some (InterfaceMethodref c p)) h = let b = both (eqb k 6 || eqb k 7 || eqb k 9) (is_plain (pair pool p).0.special) h in (one_of k 6 7 9 b.0, plain_says pool p b.1)
-handle_says pool k _ h = absurd cc
+handle_says major pool k (Some (InterfaceMethodref c p)) h = let b = both (may_name_interface_method major k) (is_plain (pair pool p).0.special) h in (b.0, plain_says pool p b.1)
+handle_says major pool k _ h = absurd cc
 
-handle_told : (pool : List Entry) (k : ℕ) (o : Option Entry) → MayHandle pool k o → may_handle (map entry_traits pool) pool k o ≡ true
-handle_told pool k (Some (Fieldref c p)) h = all (leb 1 k) (leb k 4) (le-leb 1 k h.0) (le-leb k 4 h.1)
-handle_told pool k (Some (Methodref c p)) (inl h) =
+handle_told : (major : ℕ) (pool : List Entry) (k : ℕ) (o : Option Entry) → MayHandle major pool k o → may_handle major (map entry_traits pool) pool k o ≡ true
+handle_told major pool k (Some (Fieldref c p)) h = all (leb 1 k) (leb k 4) (le-leb 1 k h.0) (le-leb k 4 h.1)
+handle_told major pool k (Some (Methodref c p)) (inl h) =
     first ((eqb k 5 || eqb k 6 || eqb k 7) && is_plain (pair pool p).0.special) (eqb k 8 && is_init (pair pool p).0.special)
     (all (eqb k 5 || eqb k 6 || eqb k 7) (is_plain (pair pool p).0.special) (of_one k 5 6 7 h.0) (plain_told pool p h.1 (pair pool p).0.special refl))
-handle_told pool k (Some (Methodref c p)) (inr h) =
+handle_told major pool k (Some (Methodref c p)) (inr h) =
     second ((eqb k 5 || eqb k 6 || eqb k 7) && is_plain (pair pool p).0.special) (eqb k 8 && is_init (pair pool p).0.special)
     (all (eqb k 8) (is_init (pair pool p).0.special) (eq-eqb k 8 h.0) (init_told pool p h.1))
-handle_told pool k (Some (InterfaceMethodref c p)) h = all (eqb k 6 || eqb k 7 || eqb k 9) (is_plain (pair pool p).0.special) (of_one k 6 7 9 h.0) (plain_told pool p h.1 (pair pool p).0.special refl)
-handle_told pool k _ h = absurd h
+handle_told major pool k (Some (InterfaceMethodref c p)) h = all (may_name_interface_method major k) (is_plain (pair pool p).0.special) h.0 (plain_told pool p h.1 (pair pool p).0.special refl)
+handle_told major pool k _ h = absurd h
 
 -- ---- the rows
 
@@ -412,38 +412,38 @@ may_pair_told pool n d (inl h) =
 may_pair_told pool n d (inr h) =
     second _ _ (all _ _ (text_told (λ t. is_call t.form) IsMethodDescriptor call pool d h.0) (text_told (λ t. t.method) (IsNameOf IsMethod) method pool n h.1))
 
-pub keeps_entry_says : (pool : List Entry) (e : Entry) → keeps_entry (map entry_traits pool) pool e ≡ true → KeepsEntry pool e
-keeps_entry_says pool (Utf8 text) h = text_from_test text (both (is_text text) (leb (length text) MOST_TEXT_BYTES) h).0
-keeps_entry_says pool (Integer v) h = tt
-keeps_entry_says pool (Float b) h = tt
-keeps_entry_says pool (Long v) h = tt
-keeps_entry_says pool (Double b) h = tt
-keeps_entry_says pool Unusable h = tt
-keeps_entry_says pool (Class text) h = text_says (λ t. t.class) NamesType type pool text h
-keeps_entry_says pool (String text) h = text_says (λ t. t.stands) (λ text. Unit {0}) stands pool text h
-keeps_entry_says pool (Fieldref c p) h = let b = both (is_class (at pool c)) (is_field (pair pool p).1.form) h in (class_says pool c b.0, pair_says (λ t. is_field t.form) IsFieldDescriptor field pool p b.1)
-keeps_entry_says pool (Methodref c p) h =
+pub keeps_entry_says : (major : ℕ) (pool : List Entry) (e : Entry) → keeps_entry major (map entry_traits pool) pool e ≡ true → KeepsEntry major pool e
+keeps_entry_says major pool (Utf8 text) h = text_from_test text (both (is_text text) (leb (length text) MOST_TEXT_BYTES) h).0
+keeps_entry_says major pool (Integer v) h = tt
+keeps_entry_says major pool (Float b) h = tt
+keeps_entry_says major pool (Long v) h = tt
+keeps_entry_says major pool (Double b) h = tt
+keeps_entry_says major pool Unusable h = tt
+keeps_entry_says major pool (Class text) h = text_says (λ t. t.class) NamesType type pool text h
+keeps_entry_says major pool (String text) h = text_says (λ t. t.stands) (λ text. Unit {0}) stands pool text h
+keeps_entry_says major pool (Fieldref c p) h = let b = both (is_class (at pool c)) (is_field (pair pool p).1.form) h in (class_says pool c b.0, pair_says (λ t. is_field t.form) IsFieldDescriptor field pool p b.1)
+keeps_entry_says major pool (Methodref c p) h =
     let b = both (is_class (at pool c)) (may_call (pair pool p).0.special (pair pool p).1.form) h in
     (class_says pool c b.0, pair_says (λ t. is_call t.form) IsMethodDescriptor call pool p (calls_any (pair pool p).0.special (pair pool p).1.form b.1), call_name_says pool p b.1)
-keeps_entry_says pool (InterfaceMethodref c p) h = let b = both (is_class (at pool c)) (is_call (pair pool p).1.form) h in (class_says pool c b.0, pair_says (λ t. is_call t.form) IsMethodDescriptor call pool p b.1)
-keeps_entry_says pool (NameAndType n d) h = may_pair_says pool n d h
-keeps_entry_says pool (MethodHandle k r) h = handle_says pool k (at pool r) h
-keeps_entry_says pool (MethodType d) h = text_says (λ t. is_call t.form) IsMethodDescriptor call pool d h
-keeps_entry_says pool (InvokeDynamic b p) h = pair_says (λ t. is_call t.form) IsMethodDescriptor call pool p h
+keeps_entry_says major pool (InterfaceMethodref c p) h = let b = both (is_class (at pool c)) (is_call (pair pool p).1.form) h in (class_says pool c b.0, pair_says (λ t. is_call t.form) IsMethodDescriptor call pool p b.1)
+keeps_entry_says major pool (NameAndType n d) h = may_pair_says pool n d h
+keeps_entry_says major pool (MethodHandle k r) h = handle_says major pool k (at pool r) h
+keeps_entry_says major pool (MethodType d) h = text_says (λ t. is_call t.form) IsMethodDescriptor call pool d h
+keeps_entry_says major pool (InvokeDynamic b p) h = pair_says (λ t. is_call t.form) IsMethodDescriptor call pool p h
 
-pub keeps_entry_told : (pool : List Entry) (e : Entry) → EntryFits e → KeepsEntry pool e → keeps_entry (map entry_traits pool) pool e ≡ true
-keeps_entry_told pool (Utf8 text) fits h = let short : leb (length text) MOST_TEXT_BYTES ≡ true = le-leb _ _ (omega (arith, fits)) in rw (test_of text h, short) refl
-keeps_entry_told pool (Integer v) fits h = refl
-keeps_entry_told pool (Float b) fits h = refl
-keeps_entry_told pool (Long v) fits h = refl
-keeps_entry_told pool (Double b) fits h = refl
-keeps_entry_told pool Unusable fits h = refl
-keeps_entry_told pool (Class text) fits h = text_told (λ t. t.class) NamesType type pool text h
-keeps_entry_told pool (String text) fits h = text_told (λ t. t.stands) (λ text. Unit {0}) stands pool text h
-keeps_entry_told pool (Fieldref c p) fits h = all (is_class (at pool c)) (is_field (pair pool p).1.form) (class_told pool c h.0) (pair_told (λ t. is_field t.form) IsFieldDescriptor field pool p h.1)
-keeps_entry_told pool (Methodref c p) fits h = all (is_class (at pool c)) (may_call (pair pool p).0.special (pair pool p).1.form) (class_told pool c h.0) (call_name_told pool p h.1 h.2)
-keeps_entry_told pool (InterfaceMethodref c p) fits h = all (is_class (at pool c)) (is_call (pair pool p).1.form) (class_told pool c h.0) (pair_told (λ t. is_call t.form) IsMethodDescriptor call pool p h.1)
-keeps_entry_told pool (NameAndType n d) fits h = may_pair_told pool n d h
-keeps_entry_told pool (MethodHandle k r) fits h = handle_told pool k (at pool r) h
-keeps_entry_told pool (MethodType d) fits h = text_told (λ t. is_call t.form) IsMethodDescriptor call pool d h
-keeps_entry_told pool (InvokeDynamic b p) fits h = pair_told (λ t. is_call t.form) IsMethodDescriptor call pool p h
+pub keeps_entry_told : (major : ℕ) (pool : List Entry) (e : Entry) → EntryFits e → KeepsEntry major pool e → keeps_entry major (map entry_traits pool) pool e ≡ true
+keeps_entry_told major pool (Utf8 text) fits h = let short : leb (length text) MOST_TEXT_BYTES ≡ true = le-leb _ _ (omega (arith, fits)) in rw (test_of text h, short) refl
+keeps_entry_told major pool (Integer v) fits h = refl
+keeps_entry_told major pool (Float b) fits h = refl
+keeps_entry_told major pool (Long v) fits h = refl
+keeps_entry_told major pool (Double b) fits h = refl
+keeps_entry_told major pool Unusable fits h = refl
+keeps_entry_told major pool (Class text) fits h = text_told (λ t. t.class) NamesType type pool text h
+keeps_entry_told major pool (String text) fits h = text_told (λ t. t.stands) (λ text. Unit {0}) stands pool text h
+keeps_entry_told major pool (Fieldref c p) fits h = all (is_class (at pool c)) (is_field (pair pool p).1.form) (class_told pool c h.0) (pair_told (λ t. is_field t.form) IsFieldDescriptor field pool p h.1)
+keeps_entry_told major pool (Methodref c p) fits h = all (is_class (at pool c)) (may_call (pair pool p).0.special (pair pool p).1.form) (class_told pool c h.0) (call_name_told pool p h.1 h.2)
+keeps_entry_told major pool (InterfaceMethodref c p) fits h = all (is_class (at pool c)) (is_call (pair pool p).1.form) (class_told pool c h.0) (pair_told (λ t. is_call t.form) IsMethodDescriptor call pool p h.1)
+keeps_entry_told major pool (NameAndType n d) fits h = may_pair_told pool n d h
+keeps_entry_told major pool (MethodHandle k r) fits h = handle_told major pool k (at pool r) h
+keeps_entry_told major pool (MethodType d) fits h = text_told (λ t. is_call t.form) IsMethodDescriptor call pool d h
+keeps_entry_told major pool (InvokeDynamic b p) fits h = pair_told (λ t. is_call t.form) IsMethodDescriptor call pool p h

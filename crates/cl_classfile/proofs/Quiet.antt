@@ -168,10 +168,10 @@ interfaces = counts (number_at w16) (number w16)
 
 -- ---- tables
 
-rows : (entries : List Entry) (i : ℕ) (es : List Entry) → IsQuiet (checked_entries entries i es)
+rows : (major : ℕ) (entries : List Entry) (i : ℕ) (es : List Entry) → IsQuiet (checked_entries major entries i es)
 unfolding checked_entries
-rows entries i [] = ok tt
-rows entries i (e ∷ es) = bind (kept_entry entries i e) _ (choice (keeps_entry (map entry_traits entries) entries e) (Ok e) (Err (BadPool i)) (ok e) (err (BadPool i) refl)) (λ x. rows entries (i + 1) es)
+rows major entries i [] = ok tt
+rows major entries i (e ∷ es) = bind (kept_entry major entries i e) _ (choice (keeps_entry major (map entry_traits entries) entries e) (Ok e) (Err (BadPool i)) (ok e) (err (BadPool i) refl)) (λ x. rows major entries (i + 1) es)
 
 class_tables : (f : Structure) → IsQuiet (checked_class f.version.major f.pool f.flags f.this_class f.super_class f.interfaces)
 class_tables f =
@@ -199,7 +199,7 @@ tables_checked f =
 
 file : (f : Structure) → IsQuiet (kept_file f)
 unfolding kept_file
-file f = bind (checked_entries f.pool 1 f.pool) _ (rows f.pool 1 f.pool) (λ entries. bind (checked_tables (map entry_traits f.pool) f.pool f) _ (tables_checked f) (λ tables. ok f))
+file f = bind (checked_entries f.version.major f.pool 1 f.pool) _ (rows f.version.major f.pool 1 f.pool) (λ entries. bind (checked_tables (map entry_traits f.pool) f.pool f) _ (tables_checked f) (λ tables. ok f))
 
 -- ---- the whole
 

@@ -117,7 +117,7 @@ nothing = record { some = refl; sound = λ r e. absurd cc }
 something : (o : Option Citation) (r : Citation) → o ≡ Some r → IsCited r → IsSound o true
 something o r e h = record { some = ap is_some e; sound = λ q f. let same : r ≡ q = cc in subst IsCited same h }
 
-entry_sound : (pool : List Entry) → Rows pool → (e : Entry) → KeepsEntry pool e → IsSound (citation_of pool e) (refers (Some e))
+entry_sound : (pool : List Entry) (rows : Rows pool) (e : Entry) → KeepsEntry rows.0 pool e → IsSound (citation_of pool e) (refers (Some e))
 entry_sound pool rows (Class text) k = something _ _ (ap (λ (o : Option Entry). option_map (λ name. Citation.CitesClass name) (text_of o)) k.is_text) k.kind
 entry_sound pool rows (Fieldref class pair) k = let r = field_right pool rows class pair k.0 k.1 in something _ _ (ap (option_map (λ s. Citation.CitesField s)) r.is) r.right
 entry_sound pool rows (Methodref class pair) k = let r = method_right pool rows class pair k.0 k.1 in something _ _ (ap (option_map (λ s. Citation.CitesMethod s)) r.is) r.right

@@ -9,8 +9,6 @@ use Rattle.cl_names.specs.Kind.{IsNameOf, IsClass}
 use Rattle.cl_classfile.specs.declared.fault.Fault.TheVariants as faults
 use Rattle.cl_classfile.specs.declared.version.Version.{Version}
 use Rattle.cl_classfile.specs.Versions.{is_supported, VersionFits}
-use Rattle.cl_classfile.specs.Widths.{is_short}
-use Rattle.cl_classfile.specs.Checking.{checked_version}
 use Rattle.cl_classfile.specs.declared.entry.Entry.{Entry}
 use Rattle.cl_classfile.specs.declared.entry.Entry.TheVariants.{Class}
 use Rattle.cl_classfile.specs.declared.members.Kind.TheVariants as kinds
@@ -24,7 +22,7 @@ use Rattle.cl_classfile.specs.Widths.{is_short, all_fit, attribute_fits}
 use Rattle.cl_classfile.specs.Files.{class_name}
 use Rattle.cl_classfile.specs.Rows.{entry_traits, keeps_entry}
 use Rattle.cl_names.specs.Steps.{◌>>=◌}
-use Rattle.cl_classfile.specs.Checking.{kept_entry, checked_entries, may_stand_above, keeps_super, keeps_names, keeps_interfaces, checked_class, checked_list, checked_attributes, checked_tables, kept_file, checked_pool, parts_of}
+use Rattle.cl_classfile.specs.Checking.{checked_version, kept_entry, checked_entries, may_stand_above, keeps_super, keeps_names, keeps_interfaces, checked_class, checked_list, checked_attributes, checked_tables, kept_file, checked_pool, parts_of}
 use Rattle.cl_classfile.proofs.Codec.{bind_ok, test_ok, ok_is, both}
 use Rattle.cl_classfile.proofs.Fitting.{short_tells, all_tell, attributes_tell, pool_says, pool_told, within}
 use Rattle.cl_classfile.proofs.Judging.{keeps_entry_says, keeps_entry_told, tests}
@@ -34,17 +32,17 @@ use Rattle.cl_classfile.proofs.Entries.{row_kept}
 
 -- ---- all of the entries
 
-rows_say : (pool : List Entry) (i : ℕ) (es : List Entry) (u : Unit {0}) → checked_entries pool i es ≡ Ok u → AllByRecursion (KeepsEntry pool) es
+rows_say : (major : ℕ) (pool : List Entry) (i : ℕ) (es : List Entry) (u : Unit {0}) → checked_entries major pool i es ≡ Ok u → AllByRecursion (KeepsEntry major pool) es
 unfolding checked_entries
-rows_say pool i [] u h = tt
-rows_say pool i (e ∷ es) u h =
-    let a = bind_ok (kept_entry pool i e) (λ kept. checked_entries pool (i + 1) es) u h in
-    (keeps_entry_says pool e (row_kept (keeps_entry (map entry_traits pool) pool e) e a.0 i a.1), rows_say pool (i + 1) es u a.2)
+rows_say major pool i [] u h = tt
+rows_say major pool i (e ∷ es) u h =
+    let a = bind_ok (kept_entry major pool i e) (λ kept. checked_entries major pool (i + 1) es) u h in
+    (keeps_entry_says major pool e (row_kept (keeps_entry major (map entry_traits pool) pool e) e a.0 i a.1), rows_say major pool (i + 1) es u a.2)
 
-rows_told : (pool : List Entry) (i : ℕ) (es : List Entry) → AllByRecursion EntryFits es → AllByRecursion (KeepsEntry pool) es → checked_entries pool i es ≡ Ok tt
+rows_told : (major : ℕ) (pool : List Entry) (i : ℕ) (es : List Entry) → AllByRecursion EntryFits es → AllByRecursion (KeepsEntry major pool) es → checked_entries major pool i es ≡ Ok tt
 unfolding checked_entries
-rows_told pool i [] fits h = refl
-rows_told pool i (e ∷ es) fits h = rw (keeps_entry_told pool e fits.0 h.0, rows_told pool (i + 1) es fits.1 h.1) refl
+rows_told major pool i [] fits h = refl
+rows_told major pool i (e ∷ es) fits h = rw (keeps_entry_told major pool e fits.0 h.0, rows_told major pool (i + 1) es fits.1 h.1) refl
 
 -- ---- supertypes
 
@@ -135,10 +133,10 @@ pub record IsTested (f : Structure) : Type 0 where
   pub methods : AllFit MemberFits f.methods
   pub attributes : AllFit AttributeFits f.attributes
 
-tested : (f : Structure) (u c d e v : Unit {0}) → checked_entries f.pool 1 f.pool ≡ Ok u → class_checked f ≡ Ok c → fields_checked f ≡ Ok d → methods_checked f ≡ Ok e → checked_attributes f.attributes ≡ Ok v → IsTested f
+tested : (f : Structure) (u c d e v : Unit {0}) → checked_entries f.version.major f.pool 1 f.pool ≡ Ok u → class_checked f ≡ Ok c → fields_checked f ≡ Ok d → methods_checked f ≡ Ok e → checked_attributes f.attributes ≡ Ok v → IsTested f
 tested f u c d e v rows class fields methods attributes =
     let of_interface = has f.flags interface in
-    let entries = rows_say f.pool 1 f.pool u rows in
+    let entries : Rows f.pool = (f.version.major, rows_say f.version.major f.pool 1 f.pool u rows) in
     let names = keeps_names f.pool of_interface f.super_class (class_name f.pool f.this_class) in
     let a = checks_say (is_short f.flags && is_class_flags f.version.major f.flags) (names && keeps_interfaces f.pool f.interfaces) c class in
     let flags = both (is_short f.flags) (is_class_flags f.version.major f.flags) a.0 in
@@ -150,7 +148,7 @@ tested f u c d e v rows class fields methods attributes =
     let some_attributes = test_ok (all_fit attribute_fits f.attributes) BadMember tt v attributes in
     record {
       kept = record {
-        pool = entries;
+        pool = entries.1;
         flags = flags.1;
         name = n.name;
         this_class = n.this_class;
@@ -166,7 +164,7 @@ tested f u c d e v rows class fields methods attributes =
       attributes = (attributes_tell f.attributes).0 some_attributes.0;
     }
 
-pub tables_say : (f : Structure) (u v : Unit {0}) → checked_entries f.pool 1 f.pool ≡ Ok u → checked_tables (map entry_traits f.pool) f.pool f ≡ Ok v → IsTested f
+pub tables_say : (f : Structure) (u v : Unit {0}) → checked_entries f.version.major f.pool 1 f.pool ≡ Ok u → checked_tables (map entry_traits f.pool) f.pool f ≡ Ok v → IsTested f
 unfolding checked_tables
 tables_say f u v rows tables =
     let b = bind_ok (class_checked f) (λ class. fields_checked f >>= λ fields. (methods_checked f >>= λ methods. checked_attributes f.attributes)) v tables in
@@ -178,7 +176,7 @@ tables_say f u v rows tables =
 pub file_says : (f g : Structure) → kept_file f ≡ Ok g → (f ≡ g) × IsTested f
 unfolding kept_file
 file_says f g h =
-    let a = bind_ok (checked_entries f.pool 1 f.pool) (λ entries. checked_tables (map entry_traits f.pool) f.pool f >>= λ tables. Ok f) g h in
+    let a = bind_ok (checked_entries f.version.major f.pool 1 f.pool) (λ entries. checked_tables (map entry_traits f.pool) f.pool f >>= λ tables. Ok f) g h in
     let b = bind_ok (checked_tables (map entry_traits f.pool) f.pool f) (λ tables. Ok f) g a.2 in
     (ok_is f g b.2, tables_say f a.0 b.0 a.1 b.1)
 
@@ -188,12 +186,12 @@ file_told f fits kept =
     let of_interface = has f.flags interface in
     let named : class_name f.pool f.this_class ≡ Some kept.name = class_named f.pool f.this_class kept.name kept.this_class in
     let super = super_told f.pool of_interface kept.name f.super_class kept.super_class in
-    let interfaces = (all_tell (λ i. is_some (class_name f.pool i)) (KeepsInterface f.pool) (interface_tells f.pool kept.pool) f.interfaces).1 (fits.interfaces.0, kept.interfaces) in
+    let interfaces = (all_tell (λ i. is_some (class_name f.pool i)) (KeepsInterface f.pool) (interface_tells f.pool (f.version.major, kept.pool)) f.interfaces).1 (fits.interfaces.0, kept.interfaces) in
     let class : class_checked f ≡ Ok tt = rw ((short_tells f.flags).1 fits.flags, kept.flags, named, super, interfaces) refl in
     let fields : fields_checked f ≡ Ok tt = fields_told f.pool (owner_of f) f.fields fits.fields kept.fields in
     let methods : methods_checked f ≡ Ok tt = methods_told f.pool (owner_of f) f.methods fits.methods kept.methods in
     let attributes : checked_attributes f.attributes ≡ Ok tt = rw ((attributes_tell f.attributes).1 fits.attributes) refl in
-    rw (rows_told f.pool 1 f.pool fits.pool.1 kept.pool, class, fields, methods, attributes) refl
+    rw (rows_told f.version.major f.pool 1 f.pool fits.pool.1 kept.pool, class, fields, methods, attributes) refl
 
 -- ---- parts that no bytes were read for
 
@@ -237,4 +235,4 @@ parts_told f fits kept = rw (version_told f.version fits.version, pool_told f.po
 
 -- what a class of the pool is called is a class's name
 pub named_well : (f : Structure) → KeepsTables f → (i : ℕ) (name : List ℕ) → class_name f.pool i ≡ Some name → IsNameOf IsClass name
-named_well f kept i name h = (class_says f.pool i name kept.pool h).is_name
+named_well f kept i name h = (class_says f.pool i name (f.version.major, kept.pool) h).is_name

@@ -84,13 +84,14 @@ Gives view (Ok x) read = read ≡ Ok (view x)
 Gives view (Err e) read = GivesFault e read
 
 -- the entry at index i, where it keeps its row of the table (JVMS SE 8, 4.4)
-abbrev pub kept_entry : List Entry → ℕ → Entry → Result Entry Fault
-kept_entry pool i e = if keeps_entry (map entry_traits pool) pool e then Ok e else Err (BadPool i)
+abbrev pub kept_entry : ℕ → List Entry → ℕ → Entry → Result Entry Fault
+kept_entry major pool i e = if keeps_entry major (map entry_traits pool) pool e then Ok e else Err (BadPool i)
 
 -- the entries from index i on: whether each keeps its row (4.4)
-unfoldable pub checked_entries : List Entry → ℕ → List Entry → Result (Unit {0}) Fault
-checked_entries pool i [] = Ok tt
-checked_entries pool i (e ∷ es) = kept_entry pool i e >>= λ kept. checked_entries pool (i + 1) es
+unfoldable pub checked_entries : ℕ → List Entry → ℕ → List Entry → Result (Unit {0}) Fault
+checked_entries major pool i [] = Ok tt
+checked_entries major pool i (e ∷ es) =
+    kept_entry major pool i e >>= λ kept. checked_entries major pool (i + 1) es
 
 -- the class named above may be the superclass: of an interface it is java/lang/Object
 -- (JVMS SE 8, 4.1)
@@ -211,7 +212,7 @@ checked_tables traits pool f =
 -- the file, where it keeps the tables and what stands behind its pool fits its widths (4.1)
 unfoldable pub kept_file : Structure → Result Structure Fault
 kept_file f =
-    checked_entries f.pool 1 f.pool
+    checked_entries f.version.major f.pool 1 f.pool
     >>= λ entries. (checked_tables (map entry_traits f.pool) f.pool f >>= λ tables. Ok f)
 
 -- ---- parts that no bytes were read for
@@ -241,7 +242,7 @@ abbrev pub checked_version : Version → Result (Unit {0}) Fault
 checked_version v =
     if is_short v.minor && is_short v.major && is_supported v then Ok tt else Err faults.Version
 
--- the file of these parts, or their first fault: the version, what no bytes spell of the pool, and then as in a
--- file that is read (4.1)
+-- the file of these parts, or their first fault: the version, what no bytes spell of the pool, and
+-- then as in a file that is read (4.1)
 unfoldable pub parts_of : Structure → Result Structure Fault
 parts_of f = checked_version f.version >>= λ version. (checked_pool f.pool >>= λ pool. kept_file f)

@@ -1,6 +1,6 @@
 -- The tables of flags (JVMS SE 8, 4.1, 4.5, 4.6); a bit that a table does not name may be set.
+use Rattle.std.specs.Prelude.{ℕ, ◌/◌, ◌%◌, Bool, not, ◌&&◌, ◌||◌, ◌==◌, nat_lt, if◌then◌else◌}
 use Rattle.cl_classfile.specs.declared.version.Owner.{Owner}
-use Rattle.std.specs.Prelude.{nat_lt, ℕ, ◌/◌, ◌%◌, Bool, not, ◌&&◌, ◌||◌, ◌==◌, if◌then◌else◌}
 
 -- flags have this bit (4.1)
 abbrev pub has : ℕ → ℕ → Bool
@@ -74,7 +74,8 @@ enum = 0x4000
 
 -- ---- classes
 
--- an interface is never final or an enum, from 49.0 on not super, and from 50.0 on abstract (4.1; own choice below these)
+-- an interface is never final or an enum, from 49.0 on not super, and from 50.0 on abstract
+-- (4.1; own choice of these versions)
 abbrev pub is_interface_flags : ℕ → ℕ → Bool
 is_interface_flags major flags =
     (nat_lt major 50 || has flags abstract) && not (has flags final)
@@ -111,16 +112,20 @@ is_field_flags of_interface flags =
     then is_constant_flags flags
     else has_one_access flags && not (has flags final && has flags volatile)
 
--- an abstract method is none of these, and from 49.0 on neither synchronized nor strict (4.6; own choice below 49.0)
+-- an abstract method is none of these, and from 49.0 on neither synchronized nor strict
+-- (4.6; own choice of this version)
 abbrev pub may_be_abstract : ℕ → ℕ → Bool
 may_be_abstract major flags =
     not (has flags private || has flags static || has flags final || has flags native)
     && (nat_lt major 49 || not (has flags synchronized || has flags strict))
 
--- a method of an interface is public or private, below 52.0 public and abstract, and none of these (4.6)
+-- a method of an interface is public or private, below 52.0 public and abstract, and none of these
+-- (4.6)
 abbrev pub may_be_of_interface : ℕ → ℕ → Bool
 may_be_of_interface major flags =
-    (if nat_lt major 52 then has flags public && has flags abstract else has flags public || has flags private)
+    (if nat_lt major 52
+    then has flags public && has flags abstract
+    else has flags public || has flags private)
     && not (has flags protected || has flags final || has flags synchronized || has flags native)
 
 -- the flags of a method go together (4.6)

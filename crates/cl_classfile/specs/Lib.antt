@@ -19,3 +19,4 @@ pub mod Versions
 pub mod View
 pub mod Refusals
 pub mod Texts
+pub mod Examples

@@ -5,6 +5,11 @@ use Rattle.std.specs.Prelude.{
   ◌≢◌,
   ◌⊎◌,
   ◌≤◌,
+  ◌&&◌,
+  ◌||◌,
+  ◌==◌,
+  nat_le,
+  IsTrue,
   ℕ,
   zero,
   suc,
@@ -172,28 +177,32 @@ MayPair pool name descriptor =
     (HasText pool descriptor IsFieldDescriptor × HasText pool name (IsNameOf IsUnqualified))
     ⊎ (HasText pool descriptor IsMethodDescriptor × HasText pool name (IsNameOf IsMethod))
 
+-- by invokeinterface, and from 52.0 on by invokestatic and invokespecial too (4.4.8)
+abbrev pub may_name_interface_method : ℕ → ℕ → Bool
+may_name_interface_method major kind = kind == 9 || (kind == 6 || kind == 7) && nat_le 52 major
+
 -- what a method handle of each kind may be made of (4.4.8)
-abbrev pub MayHandle : List Entry → ℕ → Option Entry → Type 0
-MayHandle pool kind (Some (Fieldref class pair)) = (1 ≤ kind) × (kind ≤ 4)
-MayHandle pool kind (Some (Methodref class pair)) =
+abbrev pub MayHandle : ℕ → List Entry → ℕ → Option Entry → Type 0
+MayHandle major pool kind (Some (Fieldref class pair)) = (1 ≤ kind) × (kind ≤ 4)
+MayHandle major pool kind (Some (Methodref class pair)) =
     (((kind ≡ 5) ⊎ ((kind ≡ 6) ⊎ (kind ≡ 7))) × HasPlainName pool pair)
     ⊎ ((kind ≡ 8) × IsNameAndType pool pair init)
-MayHandle pool kind (Some (InterfaceMethodref class pair)) =
-    ((kind ≡ 6) ⊎ ((kind ≡ 7) ⊎ (kind ≡ 9))) × HasPlainName pool pair
-MayHandle pool kind _ = ⊥
+MayHandle major pool kind (Some (InterfaceMethodref class pair)) =
+    IsTrue (may_name_interface_method major kind) × HasPlainName pool pair
+MayHandle major pool kind _ = ⊥
 
 -- what the table of entries asks of each (4.4)
-abbrev pub KeepsEntry : List Entry → Entry → Type 0
-KeepsEntry pool (Utf8 text) = IsModifiedUtf8 text
-KeepsEntry pool (Class text) = HasText pool text NamesType
-KeepsEntry pool (String text) = HasText pool text (λ text. Unit {0})
-KeepsEntry pool (Fieldref class pair) = HasClass pool class × HasPair pool pair IsFieldDescriptor
-KeepsEntry pool (Methodref class pair) =
+abbrev pub KeepsEntry : ℕ → List Entry → Entry → Type 0
+KeepsEntry major pool (Utf8 text) = IsModifiedUtf8 text
+KeepsEntry major pool (Class text) = HasText pool text NamesType
+KeepsEntry major pool (String text) = HasText pool text (λ text. Unit {0})
+KeepsEntry major pool (Fieldref class pair) = HasClass pool class × HasPair pool pair IsFieldDescriptor
+KeepsEntry major pool (Methodref class pair) =
     HasClass pool class × HasPair pool pair IsMethodDescriptor × MayCall pool pair
-KeepsEntry pool (InterfaceMethodref class pair) =
+KeepsEntry major pool (InterfaceMethodref class pair) =
     HasClass pool class × HasPair pool pair IsMethodDescriptor
-KeepsEntry pool (NameAndType name descriptor) = MayPair pool name descriptor
-KeepsEntry pool (MethodHandle kind reference) = MayHandle pool kind (at pool reference)
-KeepsEntry pool (MethodType descriptor) = HasText pool descriptor IsMethodDescriptor
-KeepsEntry pool (InvokeDynamic bootstrap pair) = HasPair pool pair IsMethodDescriptor
-KeepsEntry pool _ = Unit {0}
+KeepsEntry major pool (NameAndType name descriptor) = MayPair pool name descriptor
+KeepsEntry major pool (MethodHandle kind reference) = MayHandle major pool kind (at pool reference)
+KeepsEntry major pool (MethodType descriptor) = HasText pool descriptor IsMethodDescriptor
+KeepsEntry major pool (InvokeDynamic bootstrap pair) = HasPair pool pair IsMethodDescriptor
+KeepsEntry major pool _ = Unit {0}

@@ -1,5 +1,27 @@
 -- Reading from left to right, with the first fault that is met.
-use Rattle.std.specs.Prelude.{ℕ, ℤ, zero, suc, ◌+◌, ◌-◌, Bool, false, List, [], ◌∷◌, length, take, drop, Result, Ok, Err, nat_lt, nat_le, ◌==◌, if◌then◌else◌}
+use Rattle.std.specs.Prelude.{
+  ℕ,
+  ℤ,
+  zero,
+  suc,
+  ◌+◌,
+  ◌-◌,
+  Bool,
+  false,
+  List,
+  [],
+  ◌∷◌,
+  length,
+  take,
+  drop,
+  Result,
+  Ok,
+  Err,
+  nat_lt,
+  nat_le,
+  ◌==◌,
+  if◌then◌else◌,
+}
 use Rattle.std.specs.Int.{Width, w16, w32, w64, byte_len, from_be_bytes, cast_signed}
 use Rattle.cl_classfile.specs.declared.version.Version as versions
 use Rattle.cl_classfile.specs.Versions.{is_supported}

@@ -42,7 +42,7 @@ use Rattle.cl_classfile.specs.declared.entry.Entry.TheVariants.{
 use Rattle.cl_classfile.specs.declared.traits.Special.{Special}
 use Rattle.cl_classfile.specs.declared.traits.Special.TheVariants as names
 use Rattle.cl_classfile.specs.declared.traits.Traits.{Traits}
-use Rattle.cl_classfile.specs.Pool.{at}
+use Rattle.cl_classfile.specs.Pool.{at, may_name_interface_method}
 use Rattle.cl_names.specs.declared.kind.TheConstants.{MOST_TEXT_BYTES}
 
 -- ---- what a text is
@@ -170,31 +170,31 @@ is_init names.Angle = false
 is_init names.Clinit = false
 
 -- of a method handle over this entry (4.4.8)
-abbrev pub may_handle : List Traits → List Entry → ℕ → Option Entry → Bool
-may_handle traits pool kind (Some (Fieldref class pair)) = nat_le 1 kind && nat_le kind 4
-may_handle traits pool kind (Some (Methodref class pair)) =
+abbrev pub may_handle : ℕ → List Traits → List Entry → ℕ → Option Entry → Bool
+may_handle major traits pool kind (Some (Fieldref class pair)) = nat_le 1 kind && nat_le kind 4
+may_handle major traits pool kind (Some (Methodref class pair)) =
     (kind == 5 || kind == 6 || kind == 7) && is_plain (pair_at traits pool pair).0.special
     || kind == 8 && is_init (pair_at traits pool pair).0.special
-may_handle traits pool kind (Some (InterfaceMethodref class pair)) =
-    (kind == 6 || kind == 7 || kind == 9) && is_plain (pair_at traits pool pair).0.special
-may_handle traits pool kind _ = false
+may_handle major traits pool kind (Some (InterfaceMethodref class pair)) =
+    may_name_interface_method major kind && is_plain (pair_at traits pool pair).0.special
+may_handle major traits pool kind _ = false
 
 -- the entry keeps its row of the table (4.4)
-abbrev pub keeps_entry : List Traits → List Entry → Entry → Bool
-keeps_entry traits pool (Utf8 text) = is_text text && nat_le (length text) MOST_TEXT_BYTES
-keeps_entry traits pool (Class text) = (traits_at traits text).class
-keeps_entry traits pool (String text) = (traits_at traits text).stands
-keeps_entry traits pool (Fieldref class pair) =
+abbrev pub keeps_entry : ℕ → List Traits → List Entry → Entry → Bool
+keeps_entry major traits pool (Utf8 text) = is_text text && nat_le (length text) MOST_TEXT_BYTES
+keeps_entry major traits pool (Class text) = (traits_at traits text).class
+keeps_entry major traits pool (String text) = (traits_at traits text).stands
+keeps_entry major traits pool (Fieldref class pair) =
     is_class (at pool class) && is_field (pair_at traits pool pair).1.form
-keeps_entry traits pool (Methodref class pair) =
+keeps_entry major traits pool (Methodref class pair) =
     is_class (at pool class)
     && may_call (pair_at traits pool pair).0.special (pair_at traits pool pair).1.form
-keeps_entry traits pool (InterfaceMethodref class pair) =
+keeps_entry major traits pool (InterfaceMethodref class pair) =
     is_class (at pool class) && is_call (pair_at traits pool pair).1.form
-keeps_entry traits pool (NameAndType name descriptor) =
+keeps_entry major traits pool (NameAndType name descriptor) =
     may_pair (traits_at traits name) (traits_at traits descriptor).form
-keeps_entry traits pool (MethodHandle kind reference) =
-    may_handle traits pool kind (at pool reference)
-keeps_entry traits pool (MethodType descriptor) = is_call (traits_at traits descriptor).form
-keeps_entry traits pool (InvokeDynamic bootstrap pair) = is_call (pair_at traits pool pair).1.form
-keeps_entry traits pool _ = true
+keeps_entry major traits pool (MethodHandle kind reference) =
+    may_handle major traits pool kind (at pool reference)
+keeps_entry major traits pool (MethodType descriptor) = is_call (traits_at traits descriptor).form
+keeps_entry major traits pool (InvokeDynamic bootstrap pair) = is_call (pair_at traits pool pair).1.form
+keeps_entry major traits pool _ = true

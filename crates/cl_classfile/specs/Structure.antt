@@ -132,7 +132,7 @@ owner_of f = record { of_interface = has f.flags interface; major = f.version.ma
 
 -- the file keeps the tables of entries, flags, supertypes and members (4.1, 4.4 to 4.6)
 pub record KeepsTables (f : Structure) : Type 0 where
-  pub pool : AllByRecursion (KeepsEntry f.pool) f.pool
+  pub pool : AllByRecursion (KeepsEntry f.version.major f.pool) f.pool
   pub flags : IsTrue (is_class_flags f.version.major f.flags)
   pub name : List ℕ
   pub this_class : NamesClass f.pool f.this_class name

@@ -123,8 +123,8 @@ fn keeps_interfaces(pool: &[Entry], interfaces: &[u16]) -> bool
 
 /// Whether the flags and the supertypes keep their tables.
 pub fn check_class(parts: &Parts) -> Result<(), Fault>
-    ensures { Finds (λ u. u) result (checked_class parts.now.version.major parts.now.pool.items parts.now.flags
-        parts.now.this_class parts.now.super_class parts.now.interfaces.items) }
+    ensures { Finds (λ u. u) result (checked_class parts.now.version.major parts.now.pool.items
+        parts.now.flags parts.now.this_class parts.now.super_class parts.now.interfaces.items) }
 {
     let pool = parts.pool.as_slice();
     if !is_class_flags(parts.version.major, parts.flags) {

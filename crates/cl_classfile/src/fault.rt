@@ -12,7 +12,7 @@ use std::fmt::{self, Display, Formatter};
 pub enum Fault {
     /// The first four bytes are not the magic.
     BadMagic,
-    /// The version is not 52.0.
+    /// The version is none of 45.0 to 52.0 (JVMS SE 8, 4.1).
     Version,
     /// The bytes end within an item.
     Truncated,

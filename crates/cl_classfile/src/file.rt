@@ -68,7 +68,7 @@ impl Model for ClassFile {
 impl ClassFile {
     /// The class file of these parts, which are handed back where they are no class file's.
     ///
-    /// The errors come in the order of `read`: F5 of 0 for a pool over 65,534 entries, F5 for each entry in turn that no
+    /// The errors come in the order of `read`: F2; F5 of 0 for a pool over 65,534 entries, F5 for each entry in turn that no
     /// bytes spell where it stands (the last one, where it is a long or a double; the one behind such an entry, where it
     /// is not `Unusable`; an `Unusable` that stands elsewhere), and then for each in turn that breaks its row; F6; F9,
     /// also for over 65,535 interfaces; F7 for over 65,535 fields, and F7 and then F8 for each field, where one with
@@ -336,7 +336,7 @@ fn kept_file(alloc: Global, file: RawFile<'_>) -> Result<ClassFile, ReadError>
     ensures { Gives (λ f. f) result (kept_file (plain_file file.entry)) }
 {
     let traits = all_traits(alloc, file.pool.as_slice())?;
-    check_entries(traits.as_slice(), file.pool.as_slice())?;
+    check_entries(file.version.major, traits.as_slice(), file.pool.as_slice())?;
     let parts = owned_parts(alloc, file)?;
     let index = check_tables(alloc, traits.as_slice(), &parts)?;
     let mentions = mentions_of(alloc, parts.pool.as_slice(), parts.interfaces.as_slice())?;
@@ -357,7 +357,7 @@ fn check_parts(alloc: Global, parts: &Parts) -> Result<(Option<Index>, Mentions)
     let pool = borrowed_entries(alloc, parts.pool.as_slice())?;
     check_slots(pool.as_slice())?;
     let traits = all_traits(alloc, pool.as_slice())?;
-    check_entries(traits.as_slice(), pool.as_slice())?;
+    check_entries(parts.version.major, traits.as_slice(), pool.as_slice())?;
     let index = check_tables(alloc, traits.as_slice(), parts)?;
     let mentions = mentions_of(alloc, parts.pool.as_slice(), parts.interfaces.as_slice())?;
     Ok((index, mentions))

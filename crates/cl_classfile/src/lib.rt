@@ -4,6 +4,7 @@
 mod attribute;
 mod checking;
 mod entry;
+pub mod examples;
 mod fault;
 mod file;
 mod flags;

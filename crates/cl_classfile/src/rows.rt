@@ -1,7 +1,7 @@
 //! The table of entries: each entry is judged by what it names (JVMS SE 8, 4.4).
 
 ghost use Rattle.std.specs.Prelude.{◌≡◌, ◌+◌, ◌<◌, ◌^◌, IfOk, length, map, option_map};
-ghost use Rattle.cl_classfile.specs.Pool.{at};
+ghost use Rattle.cl_classfile.specs.Pool.{at, may_name_interface_method};
 ghost use Rattle.cl_classfile.specs.Rows.{entry_traits, traits_at, is_class, pair_of, pair_at, may_call, may_pair, is_plain, is_init, may_handle, keeps_entry};
 ghost use Rattle.cl_names.specs.Steps.{Finds};
 ghost use Rattle.cl_classfile.specs.Checking.{checked_entries};
@@ -112,8 +112,21 @@ fn is_init(name: Special) -> bool
     }
 }
 
-fn may_handle(traits: &[Traits], pool: &[RawEntry<'_>], kind: u8, reference: u16) -> bool
-    ensures { result ≡ may_handle traits.now (plain_entries pool.now) kind
+/// Whether a method handle of the kind may name a method of an interface.
+fn may_name_interface_method(major: u16, kind: u8) -> bool
+    ensures { result ≡ may_name_interface_method major kind }
+{
+    kind == 9 || (kind == 6 || kind == 7) && 52 <= major
+}
+
+fn may_handle(
+    major: u16,
+    traits: &[Traits],
+    pool: &[RawEntry<'_>],
+    kind: u8,
+    reference: u16,
+) -> bool
+    ensures { result ≡ may_handle major traits.now (plain_entries pool.now) kind
         (at (plain_entries pool.now) reference) }
 {
     match at(pool, reference) {
@@ -124,16 +137,23 @@ fn may_handle(traits: &[Traits], pool: &[RawEntry<'_>], kind: u8, reference: u16
         }
         Some(RawEntry::InterfaceMethodref { name_and_type, .. }) => {
             let name = pair_at(traits, pool, name_and_type).0.special;
-            (kind == 6 || kind == 7 || kind == 9) && is_plain(name)
+            may_name_interface_method(major, kind) && is_plain(name)
         }
         _ => false,
     }
 }
 
 /// Whether the entry, which has traits of its own, keeps its row of the table.
-fn keeps_entry(traits: &[Traits], pool: &[RawEntry<'_>], own: Traits, entry: RawEntry<'_>) -> bool
+fn keeps_entry(
+    major: u16,
+    traits: &[Traits],
+    pool: &[RawEntry<'_>],
+    own: Traits,
+    entry: RawEntry<'_>,
+) -> bool
     requires { own ≡ entry_traits (plain_entry entry) }
-    ensures { result ≡ keeps_entry traits.now (plain_entries pool.now) (plain_entry entry.entry) }
+    ensures { result ≡ keeps_entry major traits.now (plain_entries pool.now)
+        (plain_entry entry.entry) }
 {
     match entry {
         RawEntry::Utf8(text) => own.text && text.len() <= MOST_TEXT_BYTES,
@@ -147,7 +167,9 @@ fn keeps_entry(traits: &[Traits], pool: &[RawEntry<'_>], own: Traits, entry: Raw
         RawEntry::NameAndType { name, descriptor } => {
             may_pair(traits_at(traits, name), traits_at(traits, descriptor).form)
         }
-        RawEntry::MethodHandle { kind, reference } => may_handle(traits, pool, kind, reference),
+        RawEntry::MethodHandle { kind, reference } => {
+            may_handle(major, traits, pool, kind, reference)
+        }
         RawEntry::MethodType(descriptor) => is_call(traits_at(traits, descriptor).form),
         RawEntry::InvokeDynamic { name_and_type, .. } => {
             is_call(pair_at(traits, pool, name_and_type).1.form)
@@ -171,15 +193,15 @@ fn keeps_entry(traits: &[Traits], pool: &[RawEntry<'_>], own: Traits, entry: Raw
 }
 
 /// Whether each entry keeps its row of the table.
-pub fn check_entries(traits: &[Traits], pool: &[RawEntry<'_>]) -> Result<(), Fault>
+pub fn check_entries(major: u16, traits: &[Traits], pool: &[RawEntry<'_>]) -> Result<(), Fault>
     requires few { length pool.now + 1 < 2 ^ 16 }
     requires traits { traits.now ≡ map entry_traits (plain_entries pool.now) }
-    ensures { Finds (λ u. u) result (checked_entries (plain_entries pool.now) 1
+    ensures { Finds (λ u. u) result (checked_entries major (plain_entries pool.now) 1
         (plain_entries pool.now)) }
 {
     for (i, entry) in pool.iter().enumerate() {
         let own = traits_at(traits, i as u16 + 1);
-        if !keeps_entry(traits, pool, own, *entry) {
+        if !keeps_entry(major, traits, pool, own, *entry) {
             return Err(Fault::BadPool(i as u16 + 1));
         }
     }

@@ -19,10 +19,10 @@ pub returns-clause-some : goal.returns-clause-some
 returns-clause-some c =
     let cites : option_map plain_reference c.reference_at.result ≡ option_and_then (citation_of c.self.inside.parts.pool.items) (at c.self.inside.parts.pool.items c.args.index) =
     c.reference_at.ensures ∙ ap (λ (es : List Entry). option_and_then (citation_of es) (at es c.args.index)) c.as_slice.ensures.value in
-    sym (map_some plain_reference c.reference_at.result) ∙ ap is_some cites ∙ some_is c.self.inside.parts.pool.items c.self.invariant.0.kept.pool c.args.index ∙ ap (λ (f : Structure). refers (at f.pool c.args.index)) c.self.view_is
+    sym (map_some plain_reference c.reference_at.result) ∙ ap is_some cites ∙ some_is c.self.inside.parts.pool.items (c.self.inside.parts.version.major, c.self.invariant.0.kept.pool) c.args.index ∙ ap (λ (f : Structure). refers (at f.pool c.args.index)) c.self.view_is
 
 pub returns-clause-sound : goal.returns-clause-sound
 returns-clause-sound c =
     let cites : option_map plain_reference c.reference_at.result ≡ option_and_then (citation_of c.self.inside.parts.pool.items) (at c.self.inside.parts.pool.items c.args.index) =
     c.reference_at.ensures ∙ ap (λ (es : List Entry). option_and_then (citation_of es) (at es c.args.index)) c.as_slice.ensures.value in
-    each_sound plain_reference c.reference_at.result _ cites (sound_is c.self.inside.parts.pool.items c.self.invariant.0.kept.pool c.args.index)
+    each_sound plain_reference c.reference_at.result _ cites (sound_is c.self.inside.parts.pool.items (c.self.inside.parts.version.major, c.self.invariant.0.kept.pool) c.args.index)

@@ -10,13 +10,14 @@ use Rattle.cl_model.specs.declared.request.Request.TheVariants.{Load, Resolve, L
 use Rattle.cl_names.specs.Escape.{WritesName}
 use Rattle.cl_names.proofs.Escapes.{name_alone}
 use Rattle.cl_lines.specs.Lines.{Numbered, words_of}
+use Rattle.cl_lines.specs.Numbers.{WritesNumber}
 use Rattle.std.specs.Str.Parse.{digits_value}
 use Rattle.cl_config.specs.declared.script.Action.{Action}
 use Rattle.cl_config.specs.declared.script.Action.TheVariants as actions
 use Rattle.cl_config.specs.declared.script.Said.{Said}
 use Rattle.cl_config.specs.declared.script.Said.TheVariants.{Ask, Then}
 use Rattle.cl_config.specs.Views.{Scripted, loader_named}
-use Rattle.cl_config.specs.Scripts.{HasLoader, HasLoaders, HasWords, IsRequest, IsThen, WritesIndex, AsksFor, ScriptAsks, ScriptSays, ScriptSaysAll, requests_in, rounds_in, thens_in, ScriptFits, ScriptStopsAt, TellsScript, IsTooMany, IsScript}
+use Rattle.cl_config.specs.Scripts.{HasLoader, HasLoaders, HasWords, IsRequest, IsThen, AsksFor, ScriptAsks, ScriptSays, ScriptSaysAll, requests_in, rounds_in, thens_in, ScriptFits, ScriptStopsAt, TellsScript, IsTooMany, IsScript}
 use Rattle.cl_names.specs.Name.{WritesClass}
 use Rattle.cl_config.specs.declared.limits.TheConstants.{MOST_REQUESTS, MOST_THENS}
 
@@ -32,7 +33,7 @@ record SameWords (a b : List ℕ) (l m t u : List ℕ) (xs ys : List (List ℕ))
 same_words : (words : List (List ℕ)) (a b l m t u : List ℕ) (xs ys : List (List ℕ)) → words ≡ a ∷ l ∷ t ∷ xs → words ≡ b ∷ m ∷ u ∷ ys → SameWords a b l m t u xs ys
 same_words words a b l m t u xs ys h k = record { first = cc; loaders = cc; texts = cc; rests = cc }
 
-same_index : (n m : List ℕ) (i j : ℕ) → n ∷ [] ≡ m ∷ [] → WritesIndex n i → WritesIndex m j → i ≡ j
+same_index : (n m : List ℕ) (i j : ℕ) → n ∷ [] ≡ m ∷ [] → WritesNumber n i → WritesNumber m j → i ≡ j
 same_index n m i j e v w = let same : n ≡ m = cc in v.value ∙ ap (digits_value 10) same ∙ sym w.value
 
 -- what a test tells apart is not the same

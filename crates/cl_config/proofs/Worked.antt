@@ -9,7 +9,8 @@ use Rattle.cl_names.proofs.Escapes.{unescaped_from, unescaped_of}
 use Rattle.cl_names.proofs.Grammars.{class_from_test, class_test_of}
 use Rattle.cl_config.specs.declared.script.Action.{Action}
 use Rattle.cl_config.specs.declared.script.Action.TheVariants as actions
-use Rattle.cl_config.specs.Scripts.{HasWords, WritesIndex, IsRequest, IsBad, LacksLoader}
+use Rattle.cl_lines.specs.Numbers.{WritesNumber}
+use Rattle.cl_config.specs.Scripts.{HasWords, IsRequest, IsBad, LacksLoader}
 use Rattle.cl_config.specs.Examples.{two, LineMakes}
 use Rattle.cl_config.proofs.Requests.{words_alone}
 
@@ -47,10 +48,10 @@ no_class name t =
 
 -- ---- indices
 
-pub seven : WritesIndex (codes "7") 7
+pub seven : WritesNumber (codes "7") 7
 seven = search rules
 
-pub one : WritesIndex (codes "1") 1
+pub one : WritesNumber (codes "1") 1
 one = search rules
 
 -- ---- lines

@@ -12,7 +12,6 @@ use Rattle.std.specs.Prelude.{
   ◌++◌,
   length,
   slice_get,
-  Option,
   Some,
   None,
   Result,
@@ -21,13 +20,13 @@ use Rattle.std.specs.Prelude.{
   codes,
 }
 use Rattle.std.specs.List.{AllZip}
-use Rattle.std.specs.Str.Parse.{IsNumeral, digits_value}
 use Rattle.cl_model.specs.declared.request.Request.{Request}
 use Rattle.cl_model.specs.declared.request.Request.TheVariants.{Load, Resolve, Link}
 use Rattle.cl_model.specs.Plans.{loaded_by}
 use Rattle.cl_model.specs.Views.{request_of}
 use Rattle.cl_names.specs.Name.{WritesClass}
 use Rattle.cl_lines.specs.Lines.{Numbered, words_of, stated_from}
+use Rattle.cl_lines.specs.Numbers.{WritesNumber}
 use Rattle.cl_config.specs.Views.{Scripted, loader_named}
 use Rattle.cl_config.specs.declared.script.Action.{Action}
 use Rattle.cl_config.specs.declared.script.Action.TheVariants as actions
@@ -40,16 +39,9 @@ use Rattle.cl_config.specs.declared.script.ScriptFault.TheVariants.{
   UnknownLoader,
   TooMany,
 }
-use Rattle.cl_config.specs.declared.limits.TheConstants.{MOST_INDEX, MOST_REQUESTS, MOST_THENS}
+use Rattle.cl_config.specs.declared.limits.TheConstants.{MOST_REQUESTS, MOST_THENS}
 
 -- ---- one line
-
--- one to five digits write this index of a constant pool (JVMS SE 8, 4.1)
-pub record WritesIndex (text : List ℕ) (index : ℕ) : Type 0 where
-  pub digits : IsNumeral 10 text
-  pub few : length text ≤ 5
-  pub value : index ≡ digits_value 10 text
-  pub fits : index ≤ MOST_INDEX
 
 -- the words are those of a request: what is asked for, a loader's name and the text of a class's
 -- name, and of a resolution that of an index
@@ -57,7 +49,7 @@ abbrev pub HasWords : List ℕ → Action → List ℕ → List ℕ → Type 0
 HasWords line actions.Load loader text = words_of line ≡ codes "load" ∷ loader ∷ text ∷ []
 HasWords line (actions.Resolve index) loader text =
     (number : List ℕ) × (words_of line ≡ codes "resolve" ∷ loader ∷ text ∷ number ∷ [])
-    × WritesIndex number index
+    × WritesNumber number index
 HasWords line actions.Link loader text = words_of line ≡ codes "link" ∷ loader ∷ text ∷ []
 
 -- the line is a request for this class, but for what loader its name is of

@@ -1,7 +1,7 @@
 //! Worked examples, computed from the definitions.
 ghost use Rattle.std.specs.Prelude.{◌≡◌, ℕ, List, [], ◌∷◌, codes, Ok, Err};
 ghost use Rattle.cl_model.specs.declared.request.Request.TheVariants.{Load, Resolve, Link};
-ghost use Rattle.cl_config.specs.Scripts.{IsBad, LacksLoader, ScriptSays, WritesIndex, script_of};
+ghost use Rattle.cl_config.specs.Scripts.{IsBad, LacksLoader, ScriptSays, script_of};
 ghost use Rattle.cl_config.specs.Examples.{two, LineMakes};
 ghost use Rattle.cl_config.specs.declared.script.Said.TheVariants.{Then};
 ghost use Rattle.cl_config.specs.declared.script.ScriptFault.TheVariants.{BadLine, UnknownLoader};
@@ -12,20 +12,6 @@ pub fn lines_that_say()
     ensures resolve { LineMakes (codes "  resolve boot  p/A 7 ") (Resolve 0 (codes "p/A") 7) }
     ensures link { LineMakes (codes "link app p/A") (Link 1 (codes "p/A")) }
     ensures round { ScriptSays two (codes " then ") Then }
-{}
-
-/// An index is one to five digits, leading zeros among them, of at most `MOST_INDEX`.
-pub fn indices()
-    // Those that are taken.
-    ensures none { WritesIndex (codes "0") 0 }
-    ensures zeros { WritesIndex (codes "00017") 17 }
-    ensures greatest { WritesIndex (codes "65535") 65535 }
-    // Those that are none.
-    ensures too_great { (i : ℕ) → WritesIndex (codes "65536") i → ⊥ }
-    ensures too_long { (i : ℕ) → WritesIndex (codes "000001") i → ⊥ }
-    ensures sign { (i : ℕ) → WritesIndex (codes "+1") i → ⊥ }
-    ensures hexadecimal { (i : ℕ) → WritesIndex (codes "1f") i → ⊥ }
-    ensures empty { (i : ℕ) → WritesIndex [] i → ⊥ }
 {}
 
 /// Lines that no script may have; a bad index or name comes before a loader that is none.

@@ -1,6 +1,6 @@
 //! Laws of what a text is read as, each the contract of a function that does nothing.
 ghost use Rattle.std.specs.Prelude.{◌≡◌};
-ghost use Rattle.cl_config.specs.declared.limits.TheConstants.{MOST_IMPORTS, MOST_INDEX, MOST_LOADER_NAME_BYTES, MOST_LOADERS, MOST_REQUESTS, MOST_THENS};
+ghost use Rattle.cl_config.specs.declared.limits.TheConstants.{MOST_IMPORTS, MOST_LOADER_NAME_BYTES, MOST_LOADERS, MOST_REQUESTS, MOST_THENS};
 ghost use Rattle.cl_config.specs.ScriptLaws.{ScriptHasOneFault, ScriptOrItsFault};
 
 /// A text that is a script has no fault but out of memory, so `Script::read` refuses no script for what it says.
@@ -20,5 +20,4 @@ pub fn limits()
     ensures name { MOST_LOADER_NAME_BYTES ≡ 64 }
     ensures requests { MOST_REQUESTS ≡ 65535 }
     ensures thens { MOST_THENS ≡ 65535 }
-    ensures index { MOST_INDEX ≡ 65535 }
 {}

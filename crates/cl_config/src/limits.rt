@@ -14,6 +14,3 @@ pub const MOST_REQUESTS: usize = 65_535;
 
 /// The most lines of a script that begin a round.
 pub const MOST_THENS: u32 = 65_535;
-
-/// The greatest index of a constant pool: a class file counts the entries in two bytes (JVMS SE 8, 4.1).
-pub const MOST_INDEX: u16 = 65_535;

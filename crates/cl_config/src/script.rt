@@ -1,7 +1,7 @@
 //! The requests that a text asks for, in rounds.
 
 ghost use Rattle.std.specs.Prelude.{◌≡◌, ◌<◌, List, ℕ, [], ◌∷◌, ◌++◌, MatchOption, IfOk, OnOk, codes, length, slice_get};
-ghost use Rattle.cl_config.specs.Scripts.{script_of, line_of, HasLoaders, HasWords, IsScript, IsThen, WritesIndex};
+ghost use Rattle.cl_config.specs.Scripts.{script_of, line_of, HasLoaders, HasWords, IsScript, IsThen};
 ghost use Rattle.cl_config.specs.declared.script.Action.{Action};
 ghost use Rattle.cl_config.specs.Views.{Scripted, names_of};
 ghost use Rattle.cl_names.specs.Truth.{Decides};
@@ -9,7 +9,7 @@ ghost use Rattle.cl_names.specs.Truth.{Decides};
 use crate::config::Config;
 use crate::limits::{MOST_REQUESTS, MOST_THENS};
 use crate::same::are_same;
-use cl_lines::{Line, Stated, Words};
+use cl_lines::{Line, Stated, Words, number_of};
 use cl_model::Request;
 use cl_names::class_name;
 use std::alloc::{AllocError, Global};
@@ -231,21 +231,10 @@ fn request_words(line: &str) -> Option<(Action, &str, &str)>
     let action = match (words.next(), words.next()) {
         (None, _) if first == "load" => Action::Load,
         (None, _) if first == "link" => Action::Link,
-        (Some(index), None) if first == "resolve" => Action::Resolve(index_of(index)?),
+        (Some(index), None) if first == "resolve" => Action::Resolve(number_of(index)?),
         _ => return None,
     };
     Some((action, loader, name))
-}
-
-/// The index that a word writes: one to five digits, of at most `MOST_INDEX`.
-fn index_of(word: &str) -> Option<u16>
-    ensures { MatchOption result ((index : ℕ) → WritesIndex word.now index → ⊥)
-        (λ index. WritesIndex word.now index) }
-{
-    if word.len() > 5 || word.as_bytes().first() == Some(&b'+') {
-        return None;
-    }
-    word.parse::<u16>().ok()
 }
 
 /// Adds a request of a round.

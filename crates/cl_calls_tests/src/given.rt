@@ -267,7 +267,7 @@ pub fn record(
     let found = home(alloc, config, &mut source, loader, name);
     drop(source);
     let home = found?;
-    if home.place() == LoaderId(loader) {
+    if home.definer() == LoaderId(loader) {
         return define(alloc, tables, home);
     }
     let told = match tables.initiate(alloc, &home) {

@@ -131,7 +131,7 @@ fn define(
     home: Home<Untold>,
     name: &Name,
 ) -> Result<Result<u16, Told>, Fail> {
-    let loader = home.place();
+    let loader = home.definer();
     let was_recorded = tables.look(loader, name).is_some();
     let draft = draft_of(alloc, home)?;
     let back = match tables.define(alloc, draft) {

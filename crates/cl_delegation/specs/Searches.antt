@@ -96,7 +96,7 @@ pub record FollowsRoute (told : Option Content) (s : Searched) : Type 0 where
 pub record Located : Type 0 where
   pub config : Configured
   pub asked : ℕ
-  pub place : ℕ
+  pub definer : ℕ
   pub name : List ℕ
   pub bytes : List ℕ
   pub absent : List Found
@@ -110,5 +110,5 @@ pub record Sought : Type 0 where
 
 -- the search rule leads to this loader, or to none, where a content is told (5.3.2)
 abbrev pub LeadsTo : Option Content → Configured → ℕ → List ℕ → Option ℕ → Type 0
-LeadsTo None c loader name place = Unit {0}
-LeadsTo (Some content) c loader name place = home (world_of c content) loader name ≡ place
+LeadsTo None c loader name definer = Unit {0}
+LeadsTo (Some content) c loader name definer = home (world_of c content) loader name ≡ definer

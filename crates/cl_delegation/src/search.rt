@@ -157,7 +157,7 @@ impl<T: Told> Search<T> {
         ensures probes { MatchResult result (λ h. h.absent ≡ self.absent) (λ u. u.absent
             ≡ self.absent) }
         ensures found { MatchResult result (λ h. self.found ≡ Some (record {
-          loader = h.place;
+          loader = h.definer;
           name = h.name;
           bytes = Some h.bytes;
         })) (λ u. self.found ≡ None) }
@@ -221,7 +221,7 @@ impl<T: Told> Model for Home<T> {
     ghost view = { λ h. record {
       config = h.config.value;
       asked = h.asked;
-      place = h.probe.loader;
+      definer = h.probe.loader;
       name = h.name;
       bytes = unwrap_or h.probe.bytes [];
       absent = h.absent.items;
@@ -237,8 +237,8 @@ impl<T: Told> Home<T> {
     pub fn config(&self) -> &Config
         ensures config { result.now ≡ self.now.config }
         ensures leads { LeadsTo T.told self.now.config self.now.asked self.now.name
-            (Some self.now.place) }
-        ensures within { self.now.place < length self.now.config.loaders }
+            (Some self.now.definer) }
+        ensures within { self.now.definer < length self.now.config.loaders }
     {
         &self.config
     }
@@ -251,8 +251,8 @@ impl<T: Told> Home<T> {
     }
 
     /// The loader whose own content answered.
-    pub fn place(&self) -> LoaderId
-        ensures { result ≡ self.now.place }
+    pub fn definer(&self) -> LoaderId
+        ensures { result ≡ self.now.definer }
     {
         self.probe.loader()
     }
@@ -267,7 +267,7 @@ impl<T: Told> Home<T> {
     /// The bytes that the home has for the name.
     pub fn bytes(&self) -> &[u8]
         ensures bytes { result.now ≡ self.now.bytes }
-        ensures told { IsTold T.told self.now.place self.now.name (Some self.now.bytes) }
+        ensures told { IsTold T.told self.now.definer self.now.name (Some self.now.bytes) }
     {
         match self.probe.outcome() {
             Outcome::Found(bytes) => bytes.as_slice(),

@@ -172,27 +172,27 @@ module _ {A : Type 0} (content : Content) (r : request.Request) (t : Target A) (
       (missing_ends w s (request_of r) (absent_of t) (frames_of p) (at_loader p) (at_name p) closed (under_all s [] closed met).0 nowhere)
 
   -- the search leads to the home
-  pub there : (h : Located) → IsSought p h → LeadsTo (Some content) h.config h.asked h.name (Some h.place) → home w (at_loader p) (at_name p) ≡ Some h.place
-  there h sought leads = leads_here h.config h.asked h.name (Some h.place) sought leads
+  pub there : (h : Located) → IsSought p h → LeadsTo (Some content) h.config h.asked h.name (Some h.definer) → home w (at_loader p) (at_name p) ≡ Some h.definer
+  there h sought leads = leads_here h.config h.asked h.name (Some h.definer) sought leads
 
-  faulty_ends_so : (h : Located) (fault : DraftFault) → IsSought p h → is_on p (class h.name h.place) ≡ false → LeadsTo (Some content) h.config h.asked h.name (Some h.place) → IsTold (Some content) h.place h.name (Some h.bytes) → IsWrong h fault
-      → Ends [] (error_of (kind_of fault) (class h.name h.place))
+  faulty_ends_so : (h : Located) (fault : DraftFault) → IsSought p h → is_on p (class h.name h.definer) ≡ false → LeadsTo (Some content) h.config h.asked h.name (Some h.definer) → IsTold (Some content) h.definer h.name (Some h.bytes) → IsWrong h fault
+      → Ends [] (error_of (kind_of fault) (class h.name h.definer))
   faulty_ends_so h fault sought new leads stored wrong = λ s closed met.
-      let c = class h.name h.place in
+      let c = class h.name h.definer in
       let e = error_of (kind_of fault) c in
       let found = there h sought leads in
-      let own : home w h.place h.name ≡ Some h.place = subst (λ (n : List ℕ). home w h.place n ≡ Some h.place) (sym sought.name) (home_of_home w (at_loader p) h.place (at_name p) found) in
+      let own : home w h.definer h.name ≡ Some h.definer = subst (λ (n : List ℕ). home w h.definer n ≡ Some h.definer) (sym sought.name) (home_of_home w (at_loader p) h.definer (at_name p) found) in
       let bad : classes.read_class w c ≡ Err e = file_found w c h.bytes own stored ∙ wrong_read h fault c refl wrong in
-      faulty_ends w s (request_of r) (absent_of t) (frames_of p) (at_loader p) h.place (at_name p) e closed (under_all s [] closed met).0 found
-      (subst (λ (n : List ℕ). classes.is_among (path_of [] (frames_of p)) (class n h.place) ≡ false) sought.name (path_scanned (frames_of p) c ∙ new))
-      (subst (λ (n : List ℕ). classes.read_class w (class n h.place) ≡ Err e) sought.name bad)
+      faulty_ends w s (request_of r) (absent_of t) (frames_of p) (at_loader p) h.definer (at_name p) e closed (under_all s [] closed met).0 found
+      (subst (λ (n : List ℕ). classes.is_among (path_of [] (frames_of p)) (class n h.definer) ≡ false) sought.name (path_scanned (frames_of p) c ∙ new))
+      (subst (λ (n : List ℕ). classes.read_class w (class n h.definer) ≡ Err e) sought.name bad)
 
-  circle_ends_so : (h : Located) → IsSought p h → is_on p (class h.name h.place) ≡ true → LeadsTo (Some content) h.config h.asked h.name (Some h.place) → Ends [] (ClassCircularity (class h.name h.place))
+  circle_ends_so : (h : Located) → IsSought p h → is_on p (class h.name h.definer) ≡ true → LeadsTo (Some content) h.config h.asked h.name (Some h.definer) → Ends [] (ClassCircularity (class h.name h.definer))
   circle_ends_so h sought again leads = λ s closed met.
       let found = there h sought leads in
-      subst (λ (n : List ℕ). EndsHere w s (request_of r) (Wrong (ClassCircularity (class n h.place)))) (sym sought.name)
-      (circle_ends w s (request_of r) (absent_of t) (frames_of p) (at_loader p) h.place (at_name p) closed (under_all s [] closed met).0 found
-      (subst (λ (n : List ℕ). classes.is_among (path_of [] (frames_of p)) (class n h.place) ≡ true) sought.name (path_scanned (frames_of p) (class h.name h.place) ∙ again)))
+      subst (λ (n : List ℕ). EndsHere w s (request_of r) (Wrong (ClassCircularity (class n h.definer)))) (sym sought.name)
+      (circle_ends w s (request_of r) (absent_of t) (frames_of p) (at_loader p) h.definer (at_name p) closed (under_all s [] closed met).0 found
+      (subst (λ (n : List ℕ). classes.is_among (path_of [] (frames_of p)) (class n h.definer) ≡ true) sought.name (path_scanned (frames_of p) (class h.name h.definer) ∙ again)))
 
   -- the last class wants the recorded one
   misfit_ends_so : (row : Rowed) (e : Error) → row.class.name ≡ at_name p → misfit_under p.frames row.class (file_of row.file) ≡ Some e → IsSpelt (Some content) row.class row.file
@@ -226,13 +226,13 @@ module _ {A : Type 0} (content : Content) (r : request.Request) (t : Target A) (
       (subst (λ (n : List ℕ). Under w s (request_of r) (absent_of t) (frames_of p) (at_loader p) n) named all.0)
       (subst (λ (n : List ℕ). IsFrame w (path_of [] (frames_of p)) (at_loader p) n (frame_of x)) named whole.rules) kept.0 whole.complete
 
-  away_is_next : (h : Located) → IsSought p h → h.place ≢ at_loader p → LeadsTo (Some content) h.config h.asked h.name (Some h.place) → Next (Entry h.place h.name h.place ∷ []) (Entry h.asked h.name h.place)
+  away_is_next : (h : Located) → IsSought p h → h.definer ≢ at_loader p → LeadsTo (Some content) h.config h.asked h.name (Some h.definer) → Next (Entry h.definer h.name h.definer ∷ []) (Entry h.asked h.name h.definer)
   away_is_next h sought other leads = λ s closed met.
-      let all = under_all s (Entry h.place h.name h.place ∷ []) closed met in
-      let at : IsRecorded s (class (at_name p) h.place) = subst (λ (n : List ℕ). recorded_definer s.records h.place n ≡ Some h.place) sought.name all.1.0 in
-      let next = defined_is_next w s (request_of r) (absent_of t) (frames_of p) (at_loader p) h.place (at_name p) closed all.0 (there h sought leads) at (λ e. other (sym e)) in
-      subst (λ (n : List ℕ). IsNextNeed w s (request_of r) (Entry h.asked n h.place)) (sym sought.name)
-      (subst (λ (l : ℕ). IsNextNeed w s (request_of r) (Entry l (at_name p) h.place)) (sym sought.asked) next)
+      let all = under_all s (Entry h.definer h.name h.definer ∷ []) closed met in
+      let at : IsRecorded s (class (at_name p) h.definer) = subst (λ (n : List ℕ). recorded_definer s.records h.definer n ≡ Some h.definer) sought.name all.1.0 in
+      let next = defined_is_next w s (request_of r) (absent_of t) (frames_of p) (at_loader p) h.definer (at_name p) closed all.0 (there h sought leads) at (λ e. other (sym e)) in
+      subst (λ (n : List ℕ). IsNextNeed w s (request_of r) (Entry h.asked n h.definer)) (sym sought.name)
+      (subst (λ (l : ℕ). IsNextNeed w s (request_of r) (Entry l (at_name p) h.definer)) (sym sought.asked) next)
 
 -- ---- findings
 
@@ -262,19 +262,19 @@ missing_rests (Some content) r t p u for spelt path stops leads =
     (missing_ends_so content r t p for spelt path u stops leads)
 
 pub faulty_rests : {A : Type 0} (told : Option Content) (r : request.Request) (t : Target A) (p : Pathed) (h : Located) (fault : DraftFault) → IsFor r t p → IsSpeltIn told t → IsPath told p → IsSought p h
-    → is_on p (class h.name h.place) ≡ false → LeadsTo told h.config h.asked h.name (Some h.place) → IsTold told h.place h.name (Some h.bytes) → IsWrong h fault
-    → Rests told (grounded_answer r (verdicts.Error (kind_of fault) (class h.name h.place)) (load_basis r t p [] None))
+    → is_on p (class h.name h.definer) ≡ false → LeadsTo told h.config h.asked h.name (Some h.definer) → IsTold told h.definer h.name (Some h.bytes) → IsWrong h fault
+    → Rests told (grounded_answer r (verdicts.Error (kind_of fault) (class h.name h.definer)) (load_basis r t p [] None))
 faulty_rests None r t p h fault for spelt path sought new leads stored wrong = tt
 faulty_rests (Some content) r t p h fault for spelt path sought new leads stored wrong =
-    error_rests (world_of p.config content) r (kind_of fault) (class h.name h.place) (load_basis r t p [] None) refl
+    error_rests (world_of p.config content) r (kind_of fault) (class h.name h.definer) (load_basis r t p [] None) refl
     (faulty_ends_so content r t p for spelt path h fault sought new leads stored wrong)
 
 pub circle_rests : {A : Type 0} (told : Option Content) (r : request.Request) (t : Target A) (p : Pathed) (h : Located) → IsFor r t p → IsSpeltIn told t → IsPath told p → IsSought p h
-    → is_on p (class h.name h.place) ≡ true → LeadsTo told h.config h.asked h.name (Some h.place)
-    → Rests told (grounded_answer r (verdicts.Error kinds.ClassCircularityError (class h.name h.place)) (load_basis r t p [] None))
+    → is_on p (class h.name h.definer) ≡ true → LeadsTo told h.config h.asked h.name (Some h.definer)
+    → Rests told (grounded_answer r (verdicts.Error kinds.ClassCircularityError (class h.name h.definer)) (load_basis r t p [] None))
 circle_rests None r t p h for spelt path sought again leads = tt
 circle_rests (Some content) r t p h for spelt path sought again leads =
-    error_rests (world_of p.config content) r kinds.ClassCircularityError (class h.name h.place) (load_basis r t p [] None) refl
+    error_rests (world_of p.config content) r kinds.ClassCircularityError (class h.name h.definer) (load_basis r t p [] None) refl
     (circle_ends_so content r t p for spelt path h sought again leads)
 
 pub misfit_rests : {A : Type 0} (told : Option Content) (r : request.Request) (t : Target A) (p : Pathed) (row : Rowed) (c : Class) (kind : ErrorKind) → IsFor r t p → IsSpeltIn told t → IsPath told p
@@ -297,9 +297,9 @@ whole_rests (Some content) r t p x need for spelt path whole is =
     (whole_is_next content r t p for spelt path x whole)
 
 pub away_rests : {A : Type 0} (told : Option Content) (r : request.Request) (t : Target A) (p : Pathed) (h : Located) (need : rust.Need) → IsFor r t p → IsSpeltIn told t → IsPath told p
-    → IsSought p h × (h.place ≢ at_loader p) → LeadsTo told h.config h.asked h.name (Some h.place) → need_of need ≡ Entry h.asked h.name h.place
-    → Rests told (grounded_answer r (verdicts.Linkage need) (load_basis r t p (Entry h.place h.name h.place ∷ []) (Some (Entry h.asked h.name h.place))))
+    → IsSought p h × (h.definer ≢ at_loader p) → LeadsTo told h.config h.asked h.name (Some h.definer) → need_of need ≡ Entry h.asked h.name h.definer
+    → Rests told (grounded_answer r (verdicts.Linkage need) (load_basis r t p (Entry h.definer h.name h.definer ∷ []) (Some (Entry h.asked h.name h.definer))))
 away_rests None r t p h need for spelt path next leads is = tt
 away_rests (Some content) r t p h need for spelt path next leads is =
-    refusal_rests (world_of p.config content) r need h.asked h.place h.name (load_basis r t p (Entry h.place h.name h.place ∷ []) (Some (Entry h.asked h.name h.place))) refl refl is
+    refusal_rests (world_of p.config content) r need h.asked h.definer h.name (load_basis r t p (Entry h.definer h.name h.definer ∷ []) (Some (Entry h.asked h.name h.definer))) refl refl is
     (away_is_next content r t p for spelt path h next.0 next.1 leads)

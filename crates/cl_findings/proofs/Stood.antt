@@ -14,31 +14,31 @@ use Rattle.cl_constraints.specs.Books.{TellsOf, Wherever}
 
 -- ---- what a frame accepted at a place
 
-pub none_named : (P : Class → Type 0) (others : List Above) (places : List ℕ) (at : ℕ) → slice_get others at ≡ None → IfSome (slice_get (accepted_of others places) at) P
-none_named P [] places at e = tt
+pub none_named : (P : Class → Type 0) (others : List Above) (definers : List ℕ) (at : ℕ) → slice_get others at ≡ None → IfSome (slice_get (accepted_of others definers) at) P
+none_named P [] definers at e = tt
 none_named P (a ∷ others) [] at e = tt
-none_named P (a ∷ others) (p ∷ places) zero e = absurd cc
-none_named P (a ∷ others) (p ∷ places) (suc at) e = none_named P others places at e
+none_named P (a ∷ others) (p ∷ definers) zero e = absurd cc
+none_named P (a ∷ others) (p ∷ definers) (suc at) e = none_named P others definers at e
 
-pub none_placed : (P : Class → Type 0) (others : List Above) (places : List ℕ) (at : ℕ) → length places ≤ at → IfSome (slice_get (accepted_of others places) at) P
-none_placed P [] places at e = tt
+pub none_placed : (P : Class → Type 0) (others : List Above) (definers : List ℕ) (at : ℕ) → length definers ≤ at → IfSome (slice_get (accepted_of others definers) at) P
+none_placed P [] definers at e = tt
 none_placed P (a ∷ others) [] at e = tt
-none_placed P (a ∷ others) (p ∷ places) zero e = absurd (omega arith)
-none_placed P (a ∷ others) (p ∷ places) (suc at) e = none_placed P others places at (omega arith)
+none_placed P (a ∷ others) (p ∷ definers) zero e = absurd (omega arith)
+none_placed P (a ∷ others) (p ∷ definers) (suc at) e = none_placed P others definers at (omega arith)
 
-pub both_there : (others : List Above) (places : List ℕ) (at : ℕ) (a : Above) (p : ℕ) → slice_get others at ≡ Some a → slice_get places at ≡ Some p → slice_get (accepted_of others places) at ≡ Some (class a.name p)
-both_there [] places at a p e f = absurd cc
+pub both_there : (others : List Above) (definers : List ℕ) (at : ℕ) (a : Above) (p : ℕ) → slice_get others at ≡ Some a → slice_get definers at ≡ Some p → slice_get (accepted_of others definers) at ≡ Some (class a.name p)
+both_there [] definers at a p e f = absurd cc
 both_there (b ∷ others) [] at a p e f = absurd cc
-both_there (b ∷ others) (q ∷ places) zero a p e f =
+both_there (b ∷ others) (q ∷ definers) zero a p e f =
     let s : b ≡ a = cc in
     let t : q ≡ p = cc in
     ap (λ (x : Above). Some (class x.name q)) s ∙ ap (λ (l : ℕ). Some (class a.name l)) t
-both_there (b ∷ others) (q ∷ places) (suc at) a p e f = both_there others places at a p e f
+both_there (b ∷ others) (q ∷ definers) (suc at) a p e f = both_there others definers at a p e f
 
-pub accepted_within : (others : List Above) (places : List ℕ) → length (accepted_of others places) ≤ length places
-accepted_within [] places = omega arith
+pub accepted_within : (others : List Above) (definers : List ℕ) → length (accepted_of others definers) ≤ length definers
+accepted_within [] definers = omega arith
 accepted_within (a ∷ others) [] = omega arith
-accepted_within (a ∷ others) (p ∷ places) = let l = accepted_within others places in omega (arith, l)
+accepted_within (a ∷ others) (p ∷ definers) = let l = accepted_within others definers in omega (arith, l)
 
 -- ---- lists, place by place
 

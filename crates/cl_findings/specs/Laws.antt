@@ -59,9 +59,9 @@ StandingComes =
 -- a class whose last supertype a path accepted is whole (5.3.5, steps 3 to 5)
 abbrev pub CompletedIsWhole : Type 0
 CompletedIsWhole =
-    (told : Option Content) (old new : Pathed) (place : ℕ) (x : Framed) (row : Rowed)
-    → IsPath told old → Completes old new place x → IsSpelt told row.class row.file
-    → row.class.loader ≡ place
+    (told : Option Content) (old new : Pathed) (definer : ℕ) (x : Framed) (row : Rowed)
+    → IsPath told old → Completes old new definer x → IsSpelt told row.class row.file
+    → row.class.loader ≡ definer
     → row.class.name ≡ at_name old → misfit_under old.frames row.class (file_of row.file) ≡ None
     → IsWhole told new x
 

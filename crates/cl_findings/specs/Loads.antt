@@ -152,7 +152,7 @@ pub record IsWhole (told : Option Content) (p : Pathed) (x : Framed) : Type 0 wh
 -- loader, or that of the loader that was asked, where another has the class (5.3, 5.3.5)
 abbrev pub ComesNext : {A : Type 0} → Option Content → Pathed → NextRecord A → Type 0
 ComesNext told p (nexts.Define x) = IsWhole told p x
-ComesNext told p (nexts.Initiate h) = IsSought p h.value × (h.value.place ≢ at_loader p)
+ComesNext told p (nexts.Initiate h) = IsSought p h.value × (h.value.definer ≢ at_loader p)
 
 -- the record that a definition makes: that of the class by its own loader (5.3.5, step 5)
 abbrev pub own_record : Drafted → Need
@@ -160,11 +160,11 @@ own_record d = Entry d.class.loader d.class.name d.class.loader
 
 -- the record that an initiation makes: that of the home's class by the loader that was asked (5.3)
 abbrev pub asked_record : Located → Need
-asked_record h = Entry h.asked h.name h.place
+asked_record h = Entry h.asked h.name h.definer
 
 -- the record of the home's class by the home itself (5.3)
 abbrev pub home_record : Located → Need
-home_record h = Entry h.place h.name h.place
+home_record h = Entry h.definer h.name h.definer
 
 -- what the record needs before it: those of the supertypes, or the home's own (5.3, 5.3.5)
 abbrev pub next_needs : {A : Type 0} → NextRecord A → List Need

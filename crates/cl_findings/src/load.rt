@@ -87,7 +87,7 @@ fn bring_row<T: Told>(target: &Target<T>)
 fn class_of<T: Told>(home: Home<T>) -> Class
     ensures { result ≡ home_class home }
 {
-    let loader = home.place();
+    let loader = home.definer();
     Class {
         name: home.into_name(),
         loader,

@@ -34,7 +34,7 @@ fn accepted_stands<T: Told, X: Tables>(tables: &X, frame: &Frame<T>, at: usize) 
 {
     match frame.draft().supertype(at) {
         None => true,
-        Some(above) => match frame.places().get(at) {
+        Some(above) => match frame.definers().get(at) {
             None => true,
             Some(accepted) => tables.has(frame.draft().class().loader, above.name, *accepted),
         },
@@ -45,7 +45,7 @@ fn accepted_stands<T: Told, X: Tables>(tables: &X, frame: &Frame<T>, at: usize) 
 fn frame_stands<T: Told, X: Tables>(tables: &X, frame: &Frame<T>) -> bool
     ensures { TellsOf (X.stands_for tables.now) result (λ s. KeepsAccepted s (frame_of frame.now)) }
 {
-    for at in 0..frame.places().len() {
+    for at in 0..frame.definers().len() {
         if !accepted_stands(tables, frame, at) {
             return false;
         }
@@ -112,7 +112,7 @@ fn end_stands<T: Told, X: Tables>(tables: &X, path: &Path<T>, at: &At<T>) -> boo
         At::Nothing => true,
         At::Misfit(place) => tables.has(path.at_loader(), path.at_name(), *place),
         At::Whole(frame) => frame_stands(tables, frame),
-        At::Away(home) => tables.has(home.place(), home.name(), home.place()),
+        At::Away(home) => tables.has(home.definer(), home.name(), home.definer()),
     }
 }
 
@@ -128,7 +128,7 @@ fn end_is_refused<T: Told, X: Tables>(tables: &X, at: &At<T>) -> bool
             let class = frame.draft().class();
             tables.rejects(class.loader, &class.name, class.loader)
         }
-        At::Away(home) => tables.rejects(home.asked_loader(), home.name(), home.place()),
+        At::Away(home) => tables.rejects(home.asked_loader(), home.name(), home.definer()),
     }
 }
 

@@ -36,12 +36,12 @@ is_spelt : (told : Option Content) (name : List ℕ) (loader : ℕ) (bytes : Lis
 is_spelt told name loader bytes f said spells named = record { bytes = bytes; told_so = said; spells = spells; named = named }
 
 -- what was read of the home, and kept of its name, of the file and of the home itself
-pub is_draft_of : (told : Option Content) (name : List ℕ) (loader : ℕ) (kept f : Structure) (held home : Located) → name ≡ home.name → loader ≡ home.place → kept ≡ f → held ≡ home
-    → IsTold told home.place home.name (Some home.bytes) → ByGrammar home.bytes f → (file_of f).name ≡ home.name → LeadsTo told home.config home.asked home.name (Some home.place) → home.place < length home.config.loaders
+pub is_draft_of : (told : Option Content) (name : List ℕ) (loader : ℕ) (kept f : Structure) (held home : Located) → name ≡ home.name → loader ≡ home.definer → kept ≡ f → held ≡ home
+    → IsTold told home.definer home.name (Some home.bytes) → ByGrammar home.bytes f → (file_of f).name ≡ home.name → LeadsTo told home.config home.asked home.name (Some home.definer) → home.definer < length home.config.loaders
     → IsDraft told (drafted name loader kept held)
 is_draft_of told name loader kept f held home q p r h said spells named leads within =
-    let is : IsDraft told (drafted home.name home.place f home) = record { placed = cc; spelt = is_spelt told home.name home.place home.bytes f said spells named; leads = leads; within = within } in
-    let of_name : IsDraft told (drafted name home.place f home) = subst (λ (n : List ℕ). IsDraft told (drafted n home.place f home)) (sym q) is in
+    let is : IsDraft told (drafted home.name home.definer f home) = record { placed = cc; spelt = is_spelt told home.name home.definer home.bytes f said spells named; leads = leads; within = within } in
+    let of_name : IsDraft told (drafted name home.definer f home) = subst (λ (n : List ℕ). IsDraft told (drafted n home.definer f home)) (sym q) is in
     let of_loader : IsDraft told (drafted name loader f home) = subst (λ (l : ℕ). IsDraft told (drafted name l f home)) (sym p) of_name in
     let of_file : IsDraft told (drafted name loader kept home) = subst (λ (k : Structure). IsDraft told (drafted name loader k home)) (sym r) of_loader in
     subst (λ (k : Located). IsDraft told (drafted name loader kept k)) (sym h) of_file

@@ -69,9 +69,9 @@ module _ (l : Lined) (table : List Rowed) (own : Rowed) (h : IsInOrder l) (e : t
   pub own_stands : IsRowIn table own
   own_stands = subst (λ (rs : List Rowed). IsRowIn rs own) (sym e) own_in
 
-  pub told_inside : {V A E : Type 0} (items : V → List A) (v : A → Rowed) (goal : Kin → List Kin) (found : Result V E) → IfOk found (λ x. map (λ y. kin_under (kins table) (v y)) (items x) ≡ goal (kin_under (kins table) own))
+  pub listed_inside : {V A E : Type 0} (items : V → List A) (v : A → Rowed) (goal : Kin → List Kin) (found : Result V E) → IfOk found (λ x. map (λ y. kin_under (kins table) (v y)) (items x) ≡ goal (kin_under (kins table) own))
       → IfOk found (λ x. AllByRecursion (λ y. IsRowIn table (v y)) (items x)) → IfOk found (λ x. map (λ y. kin_at l (v y)) (items x) ≡ goal (kin_of l))
-  told_inside {V} items v goal found f g =
+  listed_inside {V} items v goal found f g =
       if_both (λ (x : V). map (λ y. kin_under (kins table) (v y)) (items x) ≡ goal (kin_under (kins table) own)) (λ (x : V). AllByRecursion (λ y. IsRowIn table (v y)) (items x))
       (λ (x : V). map (λ y. kin_at l (v y)) (items x) ≡ goal (kin_of l)) found
       (λ x k a.

@@ -66,8 +66,8 @@ joins_next cs i o first middle last at before one =
 pub joins_all : (cs : List Class) (i : ℕ) (first last : List Class) → length cs ≤ i → Gains first (take i cs) last → Gains first cs last
 joins_all cs i first last le h = subst (λ (ds : List Class). Gains first ds last) (take_all i cs le) h
 
--- no more were accepted than there are places
-pub accepted_few : (names : List Above) (places : List ℕ) → length (accepted_of names places) ≤ length places
-accepted_few [] places = omega arith
+-- no more were accepted than there are definers
+pub accepted_few : (names : List Above) (definers : List ℕ) → length (accepted_of names definers) ≤ length definers
+accepted_few [] definers = omega arith
 accepted_few (n ∷ names) [] = omega arith
-accepted_few (n ∷ names) (p ∷ places) = let few = accepted_few names places in omega (arith, few)
+accepted_few (n ∷ names) (p ∷ definers) = let few = accepted_few names definers in omega (arith, few)

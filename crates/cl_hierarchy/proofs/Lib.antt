@@ -6,6 +6,7 @@ pub mod Ends
 pub mod Frames
 pub mod Inside
 pub mod Joining
+pub mod Listed
 pub mod Paths
 pub mod Placed
 pub mod Placings
@@ -17,5 +18,4 @@ pub mod SeveralOver
 pub mod Spelling
 pub mod Stages
 pub mod Tables
-pub mod Told
 pub mod Tours

@@ -9,7 +9,7 @@ use Rattle.cl_model.proofs.Stacks.{frame_push, frame_pop, frame_accept, path_sca
 use Rattle.cl_config.specs.Views.{Configured}
 use Rattle.cl_delegation.specs.Worlds.{world_of}
 use Rattle.cl_hierarchy.specs.Drafts.{Drafted, IsDraft}
-use Rattle.cl_hierarchy.specs.Frames.{Framed, frame_of, with_place}
+use Rattle.cl_hierarchy.specs.Frames.{Framed, frame_of, with_definer}
 use Rattle.cl_hierarchy.specs.Paths.{Pathed, frames_of, fresh, name_of, sought_name, at_loader, at_name, is_on, FrameStands, AllStand, KeepsRules, IsPath, with_frame}
 use Rattle.cl_hierarchy.specs.Repeats.{FitsNext}
 use Rattle.cl_hierarchy.proofs.Ends.{all_push, all_pop, asking_push, sought_push}
@@ -98,25 +98,25 @@ module _ (told : Option Content) (c : Configured) (loader : ℕ) (name : List �
 
   -- ---- the last goes on
 
-  rules_accept : (told : Option Content) (place : ℕ) → FitsNext told c x place → IsSome (wanted_supertype (frame_of x)) → IsSome (wanted_supertype (frame_of (with_place x place))) → KeepsRules told (along (xs ++ x ∷ [])) → KeepsRules told (along (xs ++ with_place x place ∷ []))
-  rules_accept None place fits waits more rules = tt
-  rules_accept (Some content) place fits waits more rules =
+  rules_accept : (told : Option Content) (definer : ℕ) → FitsNext told c x definer → IsSome (wanted_supertype (frame_of x)) → IsSome (wanted_supertype (frame_of (with_definer x definer))) → KeepsRules told (along (xs ++ x ∷ [])) → KeepsRules told (along (xs ++ with_definer x definer ∷ []))
+  rules_accept None definer fits waits more rules = tt
+  rules_accept (Some content) definer fits waits more rules =
       let w = world_of c content in
-      let next = with_place x place in
+      let next = with_definer x definer in
       let a = some_of (wanted_supertype (frame_of x)) waits in
       let b = some_of (wanted_supertype (frame_of next)) more in
-      let t = class a.0.name place in
-      let framed : frame_of next ≡ with_accepted (frame_of x) t = subst (λ (o : Option Above). IfSome o (λ a. frame_of next ≡ with_accepted (frame_of x) (class a.name place))) a.1 (accepts_one x next place refl (wanted_supertype (frame_of x)) refl) in
+      let t = class a.0.name definer in
+      let framed : frame_of next ≡ with_accepted (frame_of x) t = subst (λ (o : Option Above). IfSome o (λ a. frame_of next ≡ with_accepted (frame_of x) (class a.name definer))) a.1 (accepts_one x next definer refl (wanted_supertype (frame_of x)) refl) in
       let went = frame_accept w [] loader _ name _ (map frame_of xs) (frame_of x) a.0 b.0 t (ruled_ends c content loader name xs x _ _ rules) a.1 refl (fits a.0 a.1) (subst (λ (y : Frame). wanted_supertype y ≡ Some b.0) framed b.1) in
       ruled_end c content loader name xs next b.0 b.1 (subst (λ (y : Frame). IsFrames w [] loader name (map frame_of xs ++ y ∷ []) x.draft.class.loader b.0.name) (sym framed) went)
 
-  pub path_accept : (place : ℕ) → IsPath told (along (xs ++ x ∷ [])) → FitsNext told c x place → IsSome (wanted_supertype (frame_of (with_place x place))) → IsPath told (along (xs ++ with_place x place ∷ []))
-  path_accept place path fits more =
+  pub path_accept : (definer : ℕ) → IsPath told (along (xs ++ x ∷ [])) → FitsNext told c x definer → IsSome (wanted_supertype (frame_of (with_definer x definer))) → IsPath told (along (xs ++ with_definer x definer ∷ []))
+  path_accept definer path fits more =
       let s = stand_pop c loader name xs x path.stand in
       let d = all_pop (λ (x : Framed). IsDraft told x.draft) xs x path.drafts in
       record {
-        stand = stand_push c loader name xs (with_place x place) s.0 (record { config = s.1.config; asked = s.1.asked; named = s.1.named; waits = more });
-        drafts = all_push (λ (x : Framed). IsDraft told x.draft) xs (with_place x place) d.0 d.1;
-        rules = rules_accept told place fits s.1.waits more path.rules;
-        counted = let n = length-append xs (x ∷ []) in let m = length-append xs (with_place x place ∷ []) in let less = path.counted in omega arith;
+        stand = stand_push c loader name xs (with_definer x definer) s.0 (record { config = s.1.config; asked = s.1.asked; named = s.1.named; waits = more });
+        drafts = all_push (λ (x : Framed). IsDraft told x.draft) xs (with_definer x definer) d.0 d.1;
+        rules = rules_accept told definer fits s.1.waits more path.rules;
+        counted = let n = length-append xs (x ∷ []) in let m = length-append xs (with_definer x definer ∷ []) in let less = path.counted in omega arith;
       }

@@ -17,7 +17,7 @@ use Rattle.cl_hierarchy.specs.Drafts.{IsSpelt}
 use Rattle.cl_hierarchy.specs.Frames.{Framed, accepted_of, frame_of}
 use Rattle.cl_hierarchy.specs.Kept.{frames_in, kept_path}
 use Rattle.cl_hierarchy.specs.Paths.{Pathed, Accepts as accepts, Completes, IsPath, at_loader, at_name, misfit_in, misfit_under, name_of, sought_name}
-use Rattle.cl_hierarchy.specs.Repeats.{AcceptsAgain, CompletesAgain, FitsLast, FitsNext, Repeats, RepeatsLast}
+use Rattle.cl_hierarchy.specs.Repeats.{AcceptsRepeated, CompletesRepeated, FitsLast, FitsNext, Repeats, RepeatsLast}
 use Rattle.cl_hierarchy.proofs.Ends.{frames_push, last_split, sought_push, under_last}
 use Rattle.cl_hierarchy.proofs.Frames.{as_many}
 use Rattle.cl_hierarchy.proofs.Paths.{ruled_ends}
@@ -39,56 +39,56 @@ fits_last told p t f spelt named fits = λ before x e.
 
 -- ---- one that was accepted before
 
-judged_at : (w : World) (c : Class) (others : List Above) (places : List ℕ) (i place : ℕ) (a : Above) → AcceptsFirst w c (accepted_of others places) others → slice_get places i ≡ Some place → slice_get others i ≡ Some a
-    → Judged w c a.role None (class a.name place)
-judged_at w c [] places i place a all p o = absurd cc
-judged_at w c (b ∷ others) [] i place a all p o = absurd cc
-judged_at w c (b ∷ others) (q ∷ places) zero place a all p o =
+judged_at : (w : World) (c : Class) (others : List Above) (definers : List ℕ) (i definer : ℕ) (a : Above) → AcceptsFirst w c (accepted_of others definers) others → slice_get definers i ≡ Some definer → slice_get others i ≡ Some a
+    → Judged w c a.role None (class a.name definer)
+judged_at w c [] definers i definer a all p o = absurd cc
+judged_at w c (b ∷ others) [] i definer a all p o = absurd cc
+judged_at w c (b ∷ others) (q ∷ definers) zero definer a all p o =
     let above : b ≡ a = cc in
-    let loader : q ≡ place = cc in
+    let loader : q ≡ definer = cc in
     subst (λ (l : ℕ). Judged w c a.role None (class a.name l)) loader (subst (λ (d : Above). Judged w c d.role None (class d.name q)) above all.1)
-judged_at w c (b ∷ others) (q ∷ places) (suc i) place a all p o = judged_at w c others places i place a all.2 p o
+judged_at w c (b ∷ others) (q ∷ definers) (suc i) definer a all p o = judged_at w c others definers i definer a all.2 p o
 
-pub repeats_next : (told : Option Content) (p : Pathed) (place : ℕ) (before : List Framed) (x : Framed) → IsPath told p → p.frames ≡ before ++ x ∷ [] → Repeats x place → FitsNext told p.config x place
-repeats_next None p place before x path e r = tt
-repeats_next (Some content) p place before x path e r = λ a want.
+pub repeats_next : (told : Option Content) (p : Pathed) (definer : ℕ) (before : List Framed) (x : Framed) → IsPath told p → p.frames ≡ before ++ x ∷ [] → Repeats x definer → FitsNext told p.config x definer
+repeats_next None p definer before x path e r = tt
+repeats_next (Some content) p definer before x path e r = λ a want.
     let w = world_of p.config content in
     let ruled : IsFrames w [] p.loader p.name (map frame_of (before ++ x ∷ [])) (at_loader p) (at_name p) = subst (λ (xs : List Framed). IsFrames w [] p.loader p.name (map frame_of xs) (at_loader p) (at_name p)) e path.rules in
     let popped = frame_pop w [] p.loader (at_loader p) p.name (at_name p) (map frame_of before) (frame_of x) (ruled_ends p.config content p.loader p.name before x (at_loader p) (at_name p) ruled) in
-    judged_at w x.draft.class (supers (file_of x.draft.file)) x.places r.first place a popped.1.fits r.accepted (r.same ∙ want)
+    judged_at w x.draft.class (supers (file_of x.draft.file)) x.definers r.first definer a popped.1.fits r.accepted (r.same ∙ want)
 
-pub repeats_last : (told : Option Content) (p : Pathed) (place : ℕ) (before : List Framed) (x : Framed) → IsPath told p → p.frames ≡ before ++ x ∷ [] → Repeats x place → FitsLast told p place
-repeats_last told p place before x path e r = λ others y split.
+pub repeats_last : (told : Option Content) (p : Pathed) (definer : ℕ) (before : List Framed) (x : Framed) → IsPath told p → p.frames ≡ before ++ x ∷ [] → Repeats x definer → FitsLast told p definer
+repeats_last told p definer before x path e r = λ others y split.
     let same = snoc_same before others x y (sym e ∙ split) in
-    subst (λ (z : Framed). FitsNext told p.config z place) same.1 (repeats_next told p place before x path e r)
+    subst (λ (z : Framed). FitsNext told p.config z definer) same.1 (repeats_next told p definer before x path e r)
 
 -- the supertype at the place of one that was accepted is that which is wanted
-pub repeats_at : (x y : Framed) (len first place : ℕ) → slice_get (supers (file_of x.draft.file)) first ≡ slice_get (supers (file_of x.draft.file)) len → len ≡ length x.places → length x.places ≤ length (supers (file_of x.draft.file))
-    → slice_get x.places first ≡ Some place → x ≡ y → Repeats y place
-repeats_at x y len first place same counted few at is =
+pub repeats_at : (x y : Framed) (len first definer : ℕ) → slice_get (supers (file_of x.draft.file)) first ≡ slice_get (supers (file_of x.draft.file)) len → len ≡ length x.definers → length x.definers ≤ length (supers (file_of x.draft.file))
+    → slice_get x.definers first ≡ Some definer → x ≡ y → Repeats y definer
+repeats_at x y len first definer same counted few at is =
     let others = supers (file_of x.draft.file) in
-    subst (λ (z : Framed). Repeats z place) is
-    (record { first = first; accepted = at; same = same ∙ ap (λ (n : ℕ). slice_get others n) (counted ∙ sym (as_many others x.places few)) })
+    subst (λ (z : Framed). Repeats z definer) is
+    (record { first = first; accepted = at; same = same ∙ ap (λ (n : ℕ). slice_get others n) (counted ∙ sym (as_many others x.definers few)) })
 
 -- the last of a table's frames accepted it
 pub last_repeats : (c : Configured) (loader : ℕ) (at : List ℕ) (es : List (Class × Framed)) (k : Class) (x : Framed) (p : Pathed) (o : Option ℕ) → slice_get es (length es - 1) ≡ Some (k, x) → IfSome o (Repeats x) → kept_path c loader at es ≡ p → IfSome o (RepeatsLast p)
 last_repeats c loader at es k x p None h r is = tt
-last_repeats c loader at es k x p (Some place) h r is =
+last_repeats c loader at es k x p (Some definer) h r is =
     let s = last_split es (k, x) h in
-    subst (λ (q : Pathed). RepeatsLast q place) is (record { before = frames_in s.before; last = x; split = ap frames_in s.split ∙ frames_push s.before k x; repeats = r })
+    subst (λ (q : Pathed). RepeatsLast q definer) is (record { before = frames_in s.before; last = x; split = ap frames_in s.split ∙ frames_push s.before k x; repeats = r })
 
 -- which is the frame that accepts
-pub accepts_again : (old new : Pathed) (place : ℕ) (o : Option Framed) → o ≡ None → RepeatsLast old place → MatchOption o (accepts old new place) (λ x. Completes old new place x) → AcceptsAgain old new
-accepts_again old new place o none r h =
-    let step : accepts old new place = subst (λ (k : Option Framed). MatchOption k (accepts old new place) (λ x. Completes old new place x)) none h in
+pub accepts_repeated : (old new : Pathed) (definer : ℕ) (o : Option Framed) → o ≡ None → RepeatsLast old definer → MatchOption o (accepts old new definer) (λ x. Completes old new definer x) → AcceptsRepeated old new
+accepts_repeated old new definer o none r h =
+    let step : accepts old new definer = subst (λ (k : Option Framed). MatchOption k (accepts old new definer) (λ x. Completes old new definer x)) none h in
     let same = snoc_same r.before step.before r.last step.last (sym r.split ∙ step.split) in
-    record { place = place; step = step; repeats = subst (λ (z : Framed). Repeats z place) same.1 r.repeats }
+    record { definer = definer; step = step; repeats = subst (λ (z : Framed). Repeats z definer) same.1 r.repeats }
 
-pub completes_again : (old new : Pathed) (place : ℕ) (o : Option Framed) (x : Framed) → o ≡ Some x → RepeatsLast old place → MatchOption o (accepts old new place) (λ y. Completes old new place y) → CompletesAgain old new x
-completes_again old new place o x some r h =
-    let step : Completes old new place x = subst (λ (k : Option Framed). MatchOption k (accepts old new place) (λ y. Completes old new place y)) some h in
+pub completes_repeated : (old new : Pathed) (definer : ℕ) (o : Option Framed) (x : Framed) → o ≡ Some x → RepeatsLast old definer → MatchOption o (accepts old new definer) (λ y. Completes old new definer y) → CompletesRepeated old new x
+completes_repeated old new definer o x some r h =
+    let step : Completes old new definer x = subst (λ (k : Option Framed). MatchOption k (accepts old new definer) (λ y. Completes old new definer y)) some h in
     let same = snoc_same r.before step.before r.last step.last (sym r.split ∙ step.split) in
-    record { place = place; step = step; repeats = subst (λ (z : Framed). Repeats z place) same.1 r.repeats }
+    record { definer = definer; step = step; repeats = subst (λ (z : Framed). Repeats z definer) same.1 r.repeats }
 
 -- ---- which supertype a place has
 

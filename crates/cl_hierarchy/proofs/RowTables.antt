@@ -33,27 +33,27 @@ rows_grow told config rows r h a = grow told config [] rows r h a
 -- ---- the supertypes of a row are known
 
 module _ (told : Option Content) (config : Configured) (earlier : List Rowed) (ordered : SupersBefore [] earlier) (c : Class) where
-  known_at : (a : Above) (place : ℕ) → StandsAbove told config earlier c a place → is_some (kin_named (kins earlier) (class a.name place)) ≡ true
-  known_at a place h = ap (λ (o : Option Kin). is_some o) (row_kin [] earlier (class a.name place) h.row ordered h.stands).kin
+  known_at : (a : Above) (definer : ℕ) → StandsAbove told config earlier c a definer → is_some (kin_named (kins earlier) (class a.name definer)) ≡ true
+  known_at a definer h = ap (λ (o : Option Kin). is_some o) (row_kin [] earlier (class a.name definer) h.row ordered h.stands).kin
 
-  pub known_all : (others : List Above) (places : List ℕ) → StandAbove told config earlier c others places → AllKnown (kins earlier) (accepted_of others places)
-  known_all [] places h = tt
+  pub known_all : (others : List Above) (definers : List ℕ) → StandAbove told config earlier c others definers → AllKnown (kins earlier) (accepted_of others definers)
+  known_all [] definers h = tt
   known_all (a ∷ others) [] h = absurd h
-  known_all (a ∷ others) (place ∷ places) h = (known_at a place h.0, known_all others places h.1)
+  known_all (a ∷ others) (definer ∷ definers) h = (known_at a definer h.0, known_all others definers h.1)
 
-  pub known_split : (xs ys : List Above) (places : List ℕ) → StandAbove told config earlier c (xs ++ ys) places → AllKnown (kins earlier) (accepted_of xs places) × StandAbove told config earlier c ys (drop (length xs) places)
-  known_split [] ys places h = (tt, h)
+  pub known_split : (xs ys : List Above) (definers : List ℕ) → StandAbove told config earlier c (xs ++ ys) definers → AllKnown (kins earlier) (accepted_of xs definers) × StandAbove told config earlier c ys (drop (length xs) definers)
+  known_split [] ys definers h = (tt, h)
   known_split (a ∷ xs) ys [] h = absurd h
-  known_split (a ∷ xs) ys (place ∷ places) h = let parts = known_split xs ys places h.1 in ((known_at a place h.0, parts.0), parts.1)
+  known_split (a ∷ xs) ys (definer ∷ definers) h = let parts = known_split xs ys definers h.1 in ((known_at a definer h.0, parts.0), parts.1)
 
 stands_after : (told : Option Content) (config : Configured) (earlier : List Rowed) (r : Rowed) → SupersBefore [] earlier → IsRowAfter told config earlier r → MayComeAfter (kins earlier) r
 stands_after told config earlier r ordered h =
     let f = file_of r.file in
-    let parts = known_split told config earlier ordered r.class (superclass_of f) (superinterfaces_of f) r.places h.above in
+    let parts = known_split told config earlier ordered r.class (superclass_of f) (superinterfaces_of f) r.definers h.above in
     record {
       is_new = no_row [] earlier r.class refl h.is_new;
       superclass = parts.0;
-      interfaces = known_all told config earlier ordered r.class (superinterfaces_of f) (drop (length (superclass_of f)) r.places) parts.1;
+      interfaces = known_all told config earlier ordered r.class (superinterfaces_of f) (drop (length (superclass_of f)) r.definers) parts.1;
     }
 
 pub before_push : (known : List Kin) (rows : List Rowed) (r : Rowed) → SupersBefore known rows → MayComeAfter (kins_after known rows) r → SupersBefore known (rows ++ r ∷ [])
@@ -85,12 +85,12 @@ lineage_found config content (x ∷ known) c k e all = at (λ f. lineage_found c
     at further false f = further f
 
 module _ (config : Configured) (content : Content) (earlier : List Rowed) (ordered : SupersBefore [] earlier) (all : AllLineages config content (kins earlier)) (c : Class) where
-  above_at : (a : Above) (place : ℕ) (others : List Above) (rest : Forest) → StandsAbove (Some content) config earlier c a place → StandsFor (world_of config content) c rest others
-      → StandsFor (world_of config content) c (in_front (kin_named (kins earlier) (class a.name place)) rest) (a ∷ others)
-  above_at a place others rest h more =
-      let at = row_kin [] earlier (class a.name place) h.row ordered h.stands in
+  above_at : (a : Above) (definer : ℕ) (others : List Above) (rest : Forest) → StandsAbove (Some content) config earlier c a definer → StandsFor (world_of config content) c rest others
+      → StandsFor (world_of config content) c (in_front (kin_named (kins earlier) (class a.name definer)) rest) (a ∷ others)
+  above_at a definer others rest h more =
+      let at = row_kin [] earlier (class a.name definer) h.row ordered h.stands in
       let k : Kin = kin_under (kins earlier) h.row in
-      let line = lineage_found config content (kins earlier) (class a.name place) k at.kin all in
+      let line = lineage_found config content (kins earlier) (class a.name definer) k at.kin all in
       subst (λ (o : Option Kin). StandsFor (world_of config content) c (in_front o rest) (a ∷ others)) (sym at.kin) (
         record {
           named = ap (λ (x : Class). x.name) at.same;
@@ -103,26 +103,26 @@ module _ (config : Configured) (content : Content) (earlier : List Rowed) (order
         more,
       )
 
-  pub above_all : (others : List Above) (places : List ℕ) → StandAbove (Some content) config earlier c others places → StandsFor (world_of config content) c (forest (kins earlier) (accepted_of others places)) others
-  above_all [] places h = tt
+  pub above_all : (others : List Above) (definers : List ℕ) → StandAbove (Some content) config earlier c others definers → StandsFor (world_of config content) c (forest (kins earlier) (accepted_of others definers)) others
+  above_all [] definers h = tt
   above_all (a ∷ others) [] h = absurd h
-  above_all (a ∷ others) (place ∷ places) h = above_at a place others (forest (kins earlier) (accepted_of others places)) h.0 (above_all others places h.1)
+  above_all (a ∷ others) (definer ∷ definers) h = above_at a definer others (forest (kins earlier) (accepted_of others definers)) h.0 (above_all others definers h.1)
 
-  pub above_split : (xs ys : List Above) (places : List ℕ) → StandAbove (Some content) config earlier c (xs ++ ys) places
-      → StandsFor (world_of config content) c (forest (kins earlier) (accepted_of xs places)) xs × StandAbove (Some content) config earlier c ys (drop (length xs) places)
-  above_split [] ys places h = (tt, h)
+  pub above_split : (xs ys : List Above) (definers : List ℕ) → StandAbove (Some content) config earlier c (xs ++ ys) definers
+      → StandsFor (world_of config content) c (forest (kins earlier) (accepted_of xs definers)) xs × StandAbove (Some content) config earlier c ys (drop (length xs) definers)
+  above_split [] ys definers h = (tt, h)
   above_split (a ∷ xs) ys [] h = absurd h
-  above_split (a ∷ xs) ys (place ∷ places) h =
-      let parts = above_split xs ys places h.1 in (above_at a place xs (forest (kins earlier) (accepted_of xs places)) h.0 parts.0, parts.1)
+  above_split (a ∷ xs) ys (definer ∷ definers) h =
+      let parts = above_split xs ys definers h.1 in (above_at a definer xs (forest (kins earlier) (accepted_of xs definers)) h.0 parts.0, parts.1)
 
 row_lineage : (config : Configured) (content : Content) (earlier : List Rowed) (r : Rowed) → SupersBefore [] earlier → AllLineages config content (kins earlier) → IsRowAfter (Some content) config earlier r → IsLineage (world_of config content) (kin_under (kins earlier) r)
 row_lineage config content earlier r ordered all h =
     let f = file_of r.file in
-    let parts = above_split config content earlier ordered all r.class (superclass_of f) (superinterfaces_of f) r.places h.above in
+    let parts = above_split config content earlier ordered all r.class (superclass_of f) (superinterfaces_of f) r.definers h.above in
     record {
       has_file = h.has_file;
       above = parts.0;
-      over = above_all config content earlier ordered all r.class (superinterfaces_of f) (drop (length (superclass_of f)) r.places) parts.1;
+      over = above_all config content earlier ordered all r.class (superinterfaces_of f) (drop (length (superclass_of f)) r.definers) parts.1;
     }
 
 rows_lineages : (config : Configured) (content : Content) (earlier rows : List Rowed) → SupersBefore [] earlier → AllLineages config content (kins earlier) → AreRowsAfter (Some content) config earlier rows → AllLineages config content (kins_after (kins earlier) rows)

@@ -14,7 +14,7 @@ use Rattle.cl_hierarchy.specs.Trees.{AllKnown, SupersBefore, forest, in_front, i
 use Rattle.cl_hierarchy.proofs.Ancestry.{kins_push, row_kin, same_turned}
 use Rattle.cl_hierarchy.proofs.Climbs.{before_split, placed_row}
 use Rattle.cl_hierarchy.proofs.Joining.{none_more, or_assoc}
-use Rattle.cl_hierarchy.proofs.Told.{kin_is}
+use Rattle.cl_hierarchy.proofs.Listed.{kin_is}
 use Rattle.cl_hierarchy.proofs.Tours.{among_both, classes_both}
 
 -- ---- of some classes those that are among others, and what one of them passes

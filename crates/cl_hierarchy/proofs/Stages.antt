@@ -18,9 +18,9 @@ use Rattle.cl_hierarchy.specs.Frames.{accepted_of}
 use Rattle.cl_hierarchy.specs.Lineages.{IsRowIn, row_of}
 use Rattle.cl_hierarchy.specs.Rows.{Rowed}
 use Rattle.cl_hierarchy.specs.Trees.{AllKnown, SupersBefore, forest, in_front, interfaces_in, kin_named, kin_under, kins, superclass_in}
-use Rattle.cl_hierarchy.specs.Tours.{Comes, Leaves, Marked, Stop, Toured, first_row, inner, interface_row, plain_step, marks, opening_steps, opening_unless_left, over_from, size, step, steps_left, steps_to_go, stops, stops_left, stops_of, after_telling, tells, tells_after, tells_before, told_at, up_first, upwards_of, wants_up, with_class, with_row}
+use Rattle.cl_hierarchy.specs.Tours.{Comes, Finishes, Marked, Stop, Toured, first_row, inner, interface_row, plain_step, marks, opening_steps, opening_unless_finished, over_from, size, step, steps_left, steps_to_go, stops, stops_left, stops_of, after_listing, lists, lists_after, lists_before, listed_at, up_first, upwards_of, wants_up, with_class, with_row}
 use Rattle.cl_hierarchy.proofs.Ancestry.{no_row, row_kin}
-use Rattle.cl_hierarchy.proofs.Tours.{Goes, goes_first, goes_on, goes_past, goes_tell, told_both, with_has, with_one, within_join, classes_both, with_either, with_grows}
+use Rattle.cl_hierarchy.proofs.Tours.{Goes, goes_first, goes_on, goes_past, goes_list, listed_both, with_has, with_one, within_join, classes_both, with_either, with_grows}
 use Rattle.cl_hierarchy.proofs.Ends.{all_push}
 
 -- ---- what is left to do
@@ -44,11 +44,11 @@ AreRowsOf rows ms = AllByRecursion (IsRowOf rows) ms
 -- ---- a superclass
 
 -- none or one
-one_above : (o : Option Name) (places : List ℕ)
-    → (accepted_of (map (λ n. record { name = n; role = AsSuperclass }) (option_to_list o)) places ≡ []) ⊎ ((c : Class) × (accepted_of (map (λ n. record { name = n; role = AsSuperclass }) (option_to_list o)) places ≡ c ∷ []))
-one_above None places = inl refl
+one_above : (o : Option Name) (definers : List ℕ)
+    → (accepted_of (map (λ n. record { name = n; role = AsSuperclass }) (option_to_list o)) definers ≡ []) ⊎ ((c : Class) × (accepted_of (map (λ n. record { name = n; role = AsSuperclass }) (option_to_list o)) definers ≡ c ∷ []))
+one_above None definers = inl refl
 one_above (Some n) [] = inl refl
-one_above (Some n) (p ∷ places) = inr (record { name = n; loader = p }, refl)
+one_above (Some n) (p ∷ definers) = inr (record { name = n; loader = p }, refl)
 
 module _ (rows : List Rowed) (ordered : SupersBefore [] rows) where
   abbrev pub known : List Kin
@@ -85,7 +85,7 @@ module _ (rows : List Rowed) (ordered : SupersBefore [] rows) where
   up_of o cs (inr e) = subst (λ (x : List Class). IsUp o x) (sym e.1) (record { stops_are = up_stops o e.0 (row_of rows e.0) refl; steps_are = up_steps o e.0 (row_of rows e.0) refl; rows_are = up_rows o e.0 (row_of rows e.0) refl })
 
   pub up : (o : TourOrder) (r : Rowed) → IsUp o (superclass_in r)
-  up o r = up_of o (superclass_in r) (one_above (file_of r.file).super_name r.places)
+  up o r = up_of o (superclass_in r) (one_above (file_of r.file).super_name r.definers)
 
 -- ---- what is opened
 
@@ -104,8 +104,8 @@ module _ (rows : List Rowed) (ordered : SupersBefore [] rows) (o : TourOrder) (r
   parts true = ap (λ (x : List Stop). x ++ stops o kin.interfaces true) (up rows ordered o r).stops_are
   parts false = left_both o (kins rows) ups (overs ∷ []) ∙ ap (λ (x : List Stop). stops o kin.interfaces true ++ x) (up rows ordered o r).stops_are
 
-  pub opened_stops : stops_left o (kins rows) (opening_steps o rows r) ≡ inner o kin ++ Leaves kin ∷ []
-  opened_stops = ap (λ (x : List Stop). x ++ Leaves kin ∷ []) (parts (up_first o))
+  pub opened_stops : stops_left o (kins rows) (opening_steps o rows r) ≡ inner o kin ++ Finishes kin ∷ []
+  opened_stops = ap (λ (x : List Stop). x ++ Finishes kin ∷ []) (parts (up_first o))
 
   part_steps : (b : Bool) → steps_left (kins rows) (if b then overs ∷ ups else ups ++ overs ∷ []) ≤ 4 * size kin.superclass + 4 * size kin.interfaces + 1
   part_steps true = let u = (up rows ordered o r).steps_are in omega arith
@@ -149,7 +149,7 @@ plus_one : (n : ℕ) → n + 1 ≡ suc n
 plus_one n = omega arith
 
 stops_front : (o : TourOrder) (k : Kin) (f : Forest) → stops o (in_front (Some k) f) true ≡ stops o (alone k) true ++ stops o f true
-stops_front o k f = ap (λ (x : List Stop). Comes k true ∷ x) (sym (append_assoc (inner o k) (Leaves k ∷ []) (stops o f true)))
+stops_front o k f = ap (λ (x : List Stop). Comes k true ∷ x) (sym (append_assoc (inner o k) (Finishes k ∷ []) (stops o f true)))
 
 module _ (rows : List Rowed) (o : TourOrder) (r : Rowed) (place : ℕ) where
   over_stops : (x : Option Rowed) → IsOver rows (interfaces_in r) place x → stops_left o (kins rows) (over_from r place x) ≡ stops_of o (kins rows) r (tasks.Over place)
@@ -173,117 +173,117 @@ module _ (rows : List Rowed) (o : TourOrder) (r : Rowed) (place : ℕ) where
 
 -- what holds between two steps
 pub record IsStage (o : TourOrder) (rows : List Rowed) (goal : List Kin) (t : Toured) : Type 0 where
-  pub goes : Goes o (kins rows) goal t.told t.seen t.left (stops_left o (kins rows) t.stack)
-  pub told_are : AllByRecursion (IsRowIn rows) t.told
+  pub goes : Goes o (kins rows) goal t.listed t.seen t.finished (stops_left o (kins rows) t.stack)
+  pub listed_are : AllByRecursion (IsRowIn rows) t.listed
   pub stack_is : AreRowsOf rows t.stack
 
--- the same of what was told, before any other stops
-record IsTold (o : TourOrder) (rows : List Rowed) (goal : List Kin) (t : Toured) (rest : List Stop) : Type 0 where
-  goes : Goes o (kins rows) goal t.told t.seen t.left rest
-  told_are : AllByRecursion (IsRowIn rows) t.told
+-- the same of what was listed, before any other stops
+record HasListed (o : TourOrder) (rows : List Rowed) (goal : List Kin) (t : Toured) (rest : List Stop) : Type 0 where
+  goes : Goes o (kins rows) goal t.listed t.seen t.finished rest
+  listed_are : AllByRecursion (IsRowIn rows) t.listed
 
-row_joins : (rows : List Rowed) (seen : List Class) (told : List Rowed) (r : Rowed) → AllByRecursion (IsRowIn rows) told → IsRowIn rows r → AllByRecursion (IsRowIn rows) (with_row seen told r)
-row_joins rows seen told r h i = at (is_among seen r.class)
+row_joins : (rows : List Rowed) (seen : List Class) (listed : List Rowed) (r : Rowed) → AllByRecursion (IsRowIn rows) listed → IsRowIn rows r → AllByRecursion (IsRowIn rows) (with_row seen listed r)
+row_joins rows seen listed r h i = at (is_among seen r.class)
   where
-    at : (b : Bool) → AllByRecursion (IsRowIn rows) (if b then told else told ++ r ∷ [])
+    at : (b : Bool) → AllByRecursion (IsRowIn rows) (if b then listed else listed ++ r ∷ [])
     at true = h
-    at false = all_push (IsRowIn rows) told r h i
+    at false = all_push (IsRowIn rows) listed r h i
 
 module _ (o : TourOrder) (rows : List Rowed) (goal : List Kin) (r : Rowed) (is_row : IsRowIn rows r) where
-  telling_on : (t : Toured) (s : Stop) (b : Bool) (rest : List Stop) → tells o s ≡ (if b then kin_under (kins rows) r ∷ [] else []) → IsTold o rows goal t (s ∷ (rest ++ stops_left o (kins rows) t.stack))
-      → IsTold o rows goal (after_telling b t r) (rest ++ stops_left o (kins rows) (after_telling b t r).stack)
-  telling_on t s true rest e h = record {
-    goes = goes_tell o (kins rows) goal t.told t.seen t.left r s (rest ++ stops_left o (kins rows) t.stack) e h.goes;
-    told_are = row_joins rows t.seen t.told r h.told_are is_row;
+  listing_on : (t : Toured) (s : Stop) (b : Bool) (rest : List Stop) → lists o s ≡ (if b then kin_under (kins rows) r ∷ [] else []) → HasListed o rows goal t (s ∷ (rest ++ stops_left o (kins rows) t.stack))
+      → HasListed o rows goal (after_listing b t r) (rest ++ stops_left o (kins rows) (after_listing b t r).stack)
+  listing_on t s true rest e h = record {
+    goes = goes_list o (kins rows) goal t.listed t.seen t.finished r s (rest ++ stops_left o (kins rows) t.stack) e h.goes;
+    listed_are = row_joins rows t.seen t.listed r h.listed_are is_row;
   }
-  telling_on t s false rest e h = record { goes = goes_on o (kins rows) goal t.told t.seen t.left s (rest ++ stops_left o (kins rows) t.stack) e h.goes; told_are = h.told_are }
+  listing_on t s false rest e h = record { goes = goes_on o (kins rows) goal t.listed t.seen t.finished s (rest ++ stops_left o (kins rows) t.stack) e h.goes; listed_are = h.listed_are }
 
-telling_stack : (t : Toured) (b : Bool) (r : Rowed) → (after_telling b t r).stack ≡ t.stack
-telling_stack t true r = refl
-telling_stack t false r = refl
+listing_stack : (t : Toured) (b : Bool) (r : Rowed) → (after_listing b t r).stack ≡ t.stack
+listing_stack t true r = refl
+listing_stack t false r = refl
 
 module _ (rows : List Rowed) (ordered : SupersBefore [] rows) (o : TourOrder) (goal : List Kin) (r : Rowed) (is_row : IsRowIn rows r) where
   found : kin_named (kins rows) r.class ≡ Some (kin_under (kins rows) r)
   found = kin_is rows ordered r.class r is_row
 
-  opening_on : (t : Toured) (b : Bool) → is_among t.left r.class ≡ b → IsTold o rows goal t ((inner o (kin_under (kins rows) r) ++ Leaves (kin_under (kins rows) r) ∷ []) ++ stops_left o (kins rows) t.stack) → AreRowsOf rows t.stack
+  opening_on : (t : Toured) (b : Bool) → is_among t.finished r.class ≡ b → HasListed o rows goal t ((inner o (kin_under (kins rows) r) ++ Finishes (kin_under (kins rows) r) ∷ []) ++ stops_left o (kins rows) t.stack) → AreRowsOf rows t.stack
       → IsStage o rows goal (record t { stack = if b then t.stack else t.stack ++ opening_steps o rows r })
   opening_on t true e h a = record {
-    goes = goes_past o (kins rows) goal t.told t.seen t.left (inner o (kin_under (kins rows) r) ++ Leaves (kin_under (kins rows) r) ∷ []) (stops_left o (kins rows) t.stack) (h.goes.done (kin_under (kins rows) r) found e) h.goes;
-    told_are = h.told_are;
+    goes = goes_past o (kins rows) goal t.listed t.seen t.finished (inner o (kin_under (kins rows) r) ++ Finishes (kin_under (kins rows) r) ∷ []) (stops_left o (kins rows) t.stack) (h.goes.done (kin_under (kins rows) r) found e) h.goes;
+    listed_are = h.listed_are;
     stack_is = a;
   }
   opening_on t false e h a = record {
     goes =
-        subst (λ (x : List Stop). Goes o (kins rows) goal t.told t.seen t.left x)
+        subst (λ (x : List Stop). Goes o (kins rows) goal t.listed t.seen t.finished x)
         (sym (left_both o (kins rows) t.stack (opening_steps o rows r) ∙ ap (λ (x : List Stop). x ++ stops_left o (kins rows) t.stack) (opened_stops rows ordered o r))) h.goes;
-    told_are = h.told_are;
+    listed_are = h.listed_are;
     stack_is = all_both (IsRowOf rows) t.stack (opening_steps o rows r) a (opened_rows rows ordered o r is_row);
   }
 
-  came : (t : Toured) (wanted : Bool) → IsTold o rows goal t (stops o (alone (kin_under (kins rows) r)) wanted ++ stops_left o (kins rows) t.stack) → AreRowsOf rows t.stack
+  came : (t : Toured) (wanted : Bool) → HasListed o rows goal t (stops o (alone (kin_under (kins rows) r)) wanted ++ stops_left o (kins rows) t.stack) → AreRowsOf rows t.stack
       → IsStage o rows goal (step o rows t r (tasks.Come wanted))
   came t wanted h a =
       let k = kin_under (kins rows) r in
-      let b = tells_before o wanted in
-      opening_on (after_telling b t r) (is_among (after_telling b t r).left r.class) refl (telling_on o rows goal r is_row t (Comes k wanted) b (inner o k ++ Leaves k ∷ []) refl h)
-      (subst (λ (ms : List Marked). AreRowsOf rows ms) (sym (telling_stack t b r)) a)
+      let b = lists_before o wanted in
+      opening_on (after_listing b t r) (is_among (after_listing b t r).finished r.class) refl (listing_on o rows goal r is_row t (Comes k wanted) b (inner o k ++ Finishes k ∷ []) refl h)
+      (subst (λ (ms : List Marked). AreRowsOf rows ms) (sym (listing_stack t b r)) a)
 
-  went_over : (t : Toured) (place : ℕ) → IsTold o rows goal t (stops_of o (kins rows) r (tasks.Over place) ++ stops_left o (kins rows) t.stack) → AreRowsOf rows t.stack
+  went_over : (t : Toured) (place : ℕ) → HasListed o rows goal t (stops_of o (kins rows) r (tasks.Over place) ++ stops_left o (kins rows) t.stack) → AreRowsOf rows t.stack
       → IsStage o rows goal (step o rows t r (tasks.Over place))
   went_over t place h a =
       let x = interface_row rows r place in
       let v = over_here rows ordered (interfaces_in r) place (row_kin [] rows r.class r ordered is_row).interfaces x refl in
       record {
         goes =
-            subst (λ (y : List Stop). Goes o (kins rows) goal t.told t.seen t.left y)
+            subst (λ (y : List Stop). Goes o (kins rows) goal t.listed t.seen t.finished y)
             (sym (left_both o (kins rows) t.stack (over_from r place x) ∙ ap (λ (y : List Stop). y ++ stops_left o (kins rows) t.stack) (over_stops rows o r place x v))) h.goes;
-        told_are = h.told_are;
+        listed_are = h.listed_are;
         stack_is = all_both (IsRowOf rows) t.stack (over_from r place x) a (over_rows rows o r place x is_row v);
       }
 
-  all_told_of : (t : Toured) (b : Bool) → tells o (Leaves (kin_under (kins rows) r)) ≡ (if b then kin_under (kins rows) r ∷ [] else []) → Within (classes (told_at o (inner o (kin_under (kins rows) r)))) t.seen
-      → Within (classes (told_at o (inner o (kin_under (kins rows) r))) ++ classes (tells o (Leaves (kin_under (kins rows) r)) ++ [])) (after_telling b t r).seen
-  all_told_of t true e h =
-      let above = classes (told_at o (inner o (kin_under (kins rows) r))) in
+  all_listed_of : (t : Toured) (b : Bool) → lists o (Finishes (kin_under (kins rows) r)) ≡ (if b then kin_under (kins rows) r ∷ [] else []) → Within (classes (listed_at o (inner o (kin_under (kins rows) r)))) t.seen
+      → Within (classes (listed_at o (inner o (kin_under (kins rows) r))) ++ classes (lists o (Finishes (kin_under (kins rows) r)) ++ [])) (after_listing b t r).seen
+  all_listed_of t true e h =
+      let above = classes (listed_at o (inner o (kin_under (kins rows) r))) in
       subst (λ (ks : List Kin). Within (above ++ classes (ks ++ [])) (with_class t.seen r.class)) (sym e)
       (within_join above (r.class ∷ []) (with_class t.seen r.class) (λ c i. with_grows t.seen r.class c (h c i)) (with_one [] (with_class t.seen r.class) r.class (λ c i. absurd cc) (with_has t.seen r.class)))
-  all_told_of t false e h =
-      let above = classes (told_at o (inner o (kin_under (kins rows) r))) in
+  all_listed_of t false e h =
+      let above = classes (listed_at o (inner o (kin_under (kins rows) r))) in
       subst (λ (ks : List Kin). Within (above ++ classes (ks ++ [])) t.seen) (sym e) (within_join above [] t.seen h (λ c i. absurd cc))
 
   same_kin : (k : Kin) → kin_named (kins rows) k.class ≡ Some k → k.class ≡ r.class → kin_under (kins rows) r ≡ k
   same_kin k e s = let f : kin_named (kins rows) k.class ≡ Some (kin_under (kins rows) r) = subst (λ (c : Class). kin_named (kins rows) c ≡ Some (kin_under (kins rows) r)) (sym s) found in cc
 
-  leaving : (t : Toured) → IsStage o rows goal t → Within (classes (told_at o (inner o (kin_under (kins rows) r) ++ Leaves (kin_under (kins rows) r) ∷ []))) t.seen → IsStage o rows goal (record t { left = with_class t.left r.class })
-  leaving t h w = record {
+  finishing : (t : Toured) → IsStage o rows goal t → Within (classes (listed_at o (inner o (kin_under (kins rows) r) ++ Finishes (kin_under (kins rows) r) ∷ []))) t.seen → IsStage o rows goal (record t { finished = with_class t.finished r.class })
+  finishing t h w = record {
     goes = record {
       goes = h.goes.goes;
       ready = h.goes.ready;
-      done = λ k e i. elim (with_either t.left r.class k.class i) [
+      done = λ k e i. elim (with_either t.finished r.class k.class i) [
         | inl j ↦ h.goes.done k e j
-        | inr s ↦ subst (λ (x : Kin). Within (classes (told_at o (inner o x ++ Leaves x ∷ []))) t.seen) (same_kin k e s) w
+        | inr s ↦ subst (λ (x : Kin). Within (classes (listed_at o (inner o x ++ Finishes x ∷ []))) t.seen) (same_kin k e s) w
       ];
     };
-    told_are = h.told_are;
+    listed_are = h.listed_are;
     stack_is = h.stack_is;
   }
 
-  went : (t : Toured) → IsTold o rows goal t (Leaves (kin_under (kins rows) r) ∷ stops_left o (kins rows) t.stack) → AreRowsOf rows t.stack → IsStage o rows goal (step o rows t r tasks.Leave)
+  went : (t : Toured) → HasListed o rows goal t (Finishes (kin_under (kins rows) r) ∷ stops_left o (kins rows) t.stack) → AreRowsOf rows t.stack → IsStage o rows goal (step o rows t r tasks.Finish)
   went t h a =
       let k = kin_under (kins rows) r in
-      let b = tells_after o in
-      let x = after_telling b t r in
-      let i = telling_on o rows goal r is_row t (Leaves k) b [] refl h in
-      leaving x (record { goes = i.goes; told_are = i.told_are; stack_is = subst (λ (ms : List Marked). AreRowsOf rows ms) (sym (telling_stack t b r)) a })
-      (subst (λ (cs : List Class). Within cs x.seen) (sym (ap (λ (ks : List Kin). classes ks) (told_both o (inner o k) (Leaves k ∷ [])) ∙ classes_both (told_at o (inner o k)) (tells o (Leaves k) ++ []))) (all_told_of t b refl h.goes.ready.0))
+      let b = lists_after o in
+      let x = after_listing b t r in
+      let i = listing_on o rows goal r is_row t (Finishes k) b [] refl h in
+      finishing x (record { goes = i.goes; listed_are = i.listed_are; stack_is = subst (λ (ms : List Marked). AreRowsOf rows ms) (sym (listing_stack t b r)) a })
+      (subst (λ (cs : List Class). Within cs x.seen) (sym (ap (λ (ks : List Kin). classes ks) (listed_both o (inner o k) (Finishes k ∷ [])) ∙ classes_both (listed_at o (inner o k)) (lists o (Finishes k) ++ []))) (all_listed_of t b refl h.goes.ready.0))
 
 -- one step
-stepped : (rows : List Rowed) → SupersBefore [] rows → (o : TourOrder) (goal : List Kin) (t : Toured) (r : Rowed) (k : TourStep) → IsRowIn rows r → IsTold o rows goal t (stops_of o (kins rows) r k ++ stops_left o (kins rows) t.stack) → AreRowsOf rows t.stack
+stepped : (rows : List Rowed) → SupersBefore [] rows → (o : TourOrder) (goal : List Kin) (t : Toured) (r : Rowed) (k : TourStep) → IsRowIn rows r → HasListed o rows goal t (stops_of o (kins rows) r k ++ stops_left o (kins rows) t.stack) → AreRowsOf rows t.stack
     → IsStage o rows goal (step o rows t r k)
 stepped rows ordered o goal t r (tasks.Come wanted) i h a = came rows ordered o goal r i t wanted h a
 stepped rows ordered o goal t r (tasks.Over place) i h a = went_over rows ordered o goal r i t place h a
-stepped rows ordered o goal t r tasks.Leave i h a = went rows ordered o goal r i t h a
+stepped rows ordered o goal t r tasks.Finish i h a = went rows ordered o goal r i t h a
 
 -- and it comes nearer to the end
 opening_less : (rows : List Rowed) → SupersBefore [] rows → (o : TourOrder) (t : Toured) (r : Rowed) (b : Bool) (wanted : Bool)
@@ -293,48 +293,48 @@ opening_less rows ordered o t r false wanted = let s = opened_steps rows ordered
 
 nearer : (rows : List Rowed) → SupersBefore [] rows → (o : TourOrder) (t : Toured) (r : Rowed) (k : TourStep) → IsRowIn rows r → steps_left (kins rows) (step o rows t r k).stack < steps_left (kins rows) t.stack + steps_to_go (kins rows) r k
 nearer rows ordered o t r (tasks.Come wanted) i =
-    let b = tells_before o wanted in
-    subst (λ (ms : List Marked). steps_left (kins rows) (opening_unless_left o rows (after_telling b t r) r).stack < steps_left (kins rows) ms + steps_to_go (kins rows) r (tasks.Come wanted)) (telling_stack t b r)
-    (opening_less rows ordered o (after_telling b t r) r (is_among (after_telling b t r).left r.class) wanted)
+    let b = lists_before o wanted in
+    subst (λ (ms : List Marked). steps_left (kins rows) (opening_unless_finished o rows (after_listing b t r) r).stack < steps_left (kins rows) ms + steps_to_go (kins rows) r (tasks.Come wanted)) (listing_stack t b r)
+    (opening_less rows ordered o (after_listing b t r) r (is_among (after_listing b t r).finished r.class) wanted)
 nearer rows ordered o t r (tasks.Over place) i =
     let x = interface_row rows r place in
     let s = over_steps rows o r place x (over_here rows ordered (interfaces_in r) place (row_kin [] rows r.class r ordered i).interfaces x refl) in
     let e = steps_both (kins rows) t.stack (over_from r place x) in
     omega arith
-nearer rows ordered o t r tasks.Leave i = at (tells_after o)
+nearer rows ordered o t r tasks.Finish i = at (lists_after o)
   where
-    at : (b : Bool) → steps_left (kins rows) (after_telling b t r).stack < steps_left (kins rows) t.stack + 1
+    at : (b : Bool) → steps_left (kins rows) (after_listing b t r).stack < steps_left (kins rows) t.stack + 1
     at true = omega arith
     at false = omega arith
 
 -- ---- the same of lists of steps
 
 -- the last of what is left is taken off
-module _ {A : Type 0} (rows : List Rowed) (ordered : SupersBefore [] rows) (o : TourOrder) (goal : List Kin) (told : List Rowed) (seen left : List Class) (stack rest : List (Step A)) (next : Step A) (popped : stack ≡ rest ++ next ∷ []) where
+module _ {A : Type 0} (rows : List Rowed) (ordered : SupersBefore [] rows) (o : TourOrder) (goal : List Kin) (listed : List Rowed) (seen finished : List Class) (stack rest : List (Step A)) (next : Step A) (popped : stack ≡ rest ++ next ∷ []) where
   pushed : marks stack ≡ marks rest ++ plain_step next ∷ []
   pushed = ap (λ (ss : List (Step A)). marks ss) popped ∙ map_push (λ (s : Step A). plain_step s) rest next
 
   abbrev before : Toured
-  before = record { told = told; seen = seen; left = left; stack = marks rest }
+  before = record { listed = listed; seen = seen; finished = finished; stack = marks rest }
 
   all_rows : AreRowsOf rows (marks stack) → AreRowsOf rows (marks rest ++ plain_step next ∷ [])
   all_rows all = subst (λ (ms : List Marked). AreRowsOf rows ms) pushed all
 
-  pub preserved : (new : Toured) → IsStage o rows goal (record { told = told; seen = seen; left = left; stack = marks stack }) → new ≡ step o rows before next.row.value next.task → IsStage o rows goal new
+  pub preserved : (new : Toured) → IsStage o rows goal (record { listed = listed; seen = seen; finished = finished; stack = marks stack }) → new ≡ step o rows before next.row.value next.task → IsStage o rows goal new
   preserved new h e =
       let all = all_rows h.stack_is in
       subst (λ (t : Toured). IsStage o rows goal t) (sym e) (
       stepped rows ordered o goal before next.row.value next.task (all_right (IsRowOf rows) (marks rest) (plain_step next ∷ []) all).0
       (record {
         goes =
-            subst (λ (ss : List Stop). Goes o (kins rows) goal told seen left ss)
+            subst (λ (ss : List Stop). Goes o (kins rows) goal listed seen finished ss)
             (ap (λ (ms : List Marked). stops_left o (kins rows) ms) pushed ∙ left_both o (kins rows) (marks rest) (plain_step next ∷ [])) h.goes;
-        told_are = h.told_are;
+        listed_are = h.listed_are;
       })
       (all_left (IsRowOf rows) (marks rest) (plain_step next ∷ []) all)
       )
 
-  pub smaller : (new : Toured) → IsStage o rows goal (record { told = told; seen = seen; left = left; stack = marks stack }) → new ≡ step o rows before next.row.value next.task → steps_left (kins rows) new.stack < steps_left (kins rows) (marks stack)
+  pub smaller : (new : Toured) → IsStage o rows goal (record { listed = listed; seen = seen; finished = finished; stack = marks stack }) → new ≡ step o rows before next.row.value next.task → steps_left (kins rows) new.stack < steps_left (kins rows) (marks stack)
   smaller new h e =
       let n = nearer rows ordered o before next.row.value next.task (all_right (IsRowOf rows) (marks rest) (plain_step next ∷ []) (all_rows h.stack_is)).0 in
       let s : steps_left (kins rows) (marks stack) ≡ steps_left (kins rows) (marks rest ++ plain_step next ∷ []) = ap (λ (ms : List Marked). steps_left (kins rows) ms) pushed in
@@ -342,18 +342,18 @@ module _ {A : Type 0} (rows : List Rowed) (ordered : SupersBefore [] rows) (o : 
       let is : steps_left (kins rows) new.stack ≡ steps_left (kins rows) (step o rows before next.row.value next.task).stack = ap (λ (t : Toured). steps_left (kins rows) t.stack) e in
       omega arith
 
-pub first_stage : (rows : List Rowed) (o : TourOrder) (r : Rowed) (wanted : Bool) (told : List Rowed) (seen left : List Class) (stack : List Marked) → IsRowIn rows r → told ≡ [] → seen ≡ [] → left ≡ []
-    → stack ≡ record { row = r; task = tasks.Come wanted } ∷ [] → IsStage o rows (once (told_at o (stops o (alone (kin_under (kins rows) r)) wanted))) (record { told = told; seen = seen; left = left; stack = stack })
-first_stage rows o r wanted told seen left stack i a b c d =
-    subst (λ (x : List Rowed). IsStage o rows (once (told_at o (stops o (alone (kin_under (kins rows) r)) wanted))) (record { told = x; seen = seen; left = left; stack = stack })) (sym a) (
-    subst (λ (x : List Class). IsStage o rows (once (told_at o (stops o (alone (kin_under (kins rows) r)) wanted))) (record { told = []; seen = x; left = left; stack = stack })) (sym b) (
-    subst (λ (x : List Class). IsStage o rows (once (told_at o (stops o (alone (kin_under (kins rows) r)) wanted))) (record { told = []; seen = []; left = x; stack = stack })) (sym c) (
-    subst (λ (x : List Marked). IsStage o rows (once (told_at o (stops o (alone (kin_under (kins rows) r)) wanted))) (record { told = []; seen = []; left = []; stack = x })) (sym d) (
-    record { goes = goes_first o (kins rows) (alone (kin_under (kins rows) r)) wanted; told_are = tt; stack_is = (i, tt) }
+pub first_stage : (rows : List Rowed) (o : TourOrder) (r : Rowed) (wanted : Bool) (listed : List Rowed) (seen finished : List Class) (stack : List Marked) → IsRowIn rows r → listed ≡ [] → seen ≡ [] → finished ≡ []
+    → stack ≡ record { row = r; task = tasks.Come wanted } ∷ [] → IsStage o rows (once (listed_at o (stops o (alone (kin_under (kins rows) r)) wanted))) (record { listed = listed; seen = seen; finished = finished; stack = stack })
+first_stage rows o r wanted listed seen finished stack i a b c d =
+    subst (λ (x : List Rowed). IsStage o rows (once (listed_at o (stops o (alone (kin_under (kins rows) r)) wanted))) (record { listed = x; seen = seen; finished = finished; stack = stack })) (sym a) (
+    subst (λ (x : List Class). IsStage o rows (once (listed_at o (stops o (alone (kin_under (kins rows) r)) wanted))) (record { listed = []; seen = x; finished = finished; stack = stack })) (sym b) (
+    subst (λ (x : List Class). IsStage o rows (once (listed_at o (stops o (alone (kin_under (kins rows) r)) wanted))) (record { listed = []; seen = []; finished = x; stack = stack })) (sym c) (
+    subst (λ (x : List Marked). IsStage o rows (once (listed_at o (stops o (alone (kin_under (kins rows) r)) wanted))) (record { listed = []; seen = []; finished = []; stack = x })) (sym d) (
+    record { goes = goes_first o (kins rows) (alone (kin_under (kins rows) r)) wanted; listed_are = tt; stack_is = (i, tt) }
     ))))
 
-pub ended : {A : Type 0} (rows : List Rowed) (o : TourOrder) (goal : List Kin) (told : List Rowed) (seen left : List Class) (stack : List (Step A)) → stack ≡ [] → IsStage o rows goal (record { told = told; seen = seen; left = left; stack = marks stack })
-    → map (kin_under (kins rows)) told ≡ goal
-ended {A} rows o goal told seen left stack e h =
-    sym (append-nil (map (kin_under (kins rows)) told))
-    ∙ (subst (λ (ss : List (Step A)). IsStage o rows goal (record { told = told; seen = seen; left = left; stack = marks ss })) e h).goes.goes
+pub ended : {A : Type 0} (rows : List Rowed) (o : TourOrder) (goal : List Kin) (listed : List Rowed) (seen finished : List Class) (stack : List (Step A)) → stack ≡ [] → IsStage o rows goal (record { listed = listed; seen = seen; finished = finished; stack = marks stack })
+    → map (kin_under (kins rows)) listed ≡ goal
+ended {A} rows o goal listed seen finished stack e h =
+    sym (append-nil (map (kin_under (kins rows)) listed))
+    ∙ (subst (λ (ss : List (Step A)). IsStage o rows goal (record { listed = listed; seen = seen; finished = finished; stack = marks ss })) e h).goes.goes

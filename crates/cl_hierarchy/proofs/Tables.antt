@@ -17,7 +17,7 @@ use Rattle.cl_model.specs.declared.verdict.ErrorKind.{ErrorKind}
 use Rattle.cl_model.specs.Frames.{wanted_supertype, asking_loader}
 use Rattle.cl_config.specs.Views.{Configured}
 use Rattle.cl_hierarchy.specs.Drafts.{Drafted, IsDraft}
-use Rattle.cl_hierarchy.specs.Frames.{Framed, frame_of, with_place}
+use Rattle.cl_hierarchy.specs.Frames.{Framed, frame_of, with_definer}
 use Rattle.cl_hierarchy.specs.Kept.{first_name, frames_in, kept_path, KeepsPath, last_wants, name_after, LastAccepts}
 use Rattle.cl_hierarchy.specs.Paths.{Pathed, fresh, name_of, at_loader, at_name, is_on, IsPath, with_frame, with_frames, misfit_in, misfit_under, Accepts, Completes}
 use Rattle.cl_hierarchy.specs.Repeats.{FitsLast}
@@ -71,10 +71,10 @@ pub wants_here : (es : List (Class × Framed)) (k : Class) (x : Framed) → slic
 wants_here es k x h = let s = last_split es (k, x) h in last_wants_of es s.before k x s.split
 
 -- what the last frame did with the next supertype's loader
-pub last_accepts : {E : Type 0} (es : List (Class × Framed)) (k : Class) (x new : Framed) (place : ℕ) (r : Result (Option (List ℕ)) E) → slice_get es (length es - 1) ≡ Some (k, x) → OnOk r (new ≡ with_place x place)
-    → IfOk r (λ o. o ≡ name_after x place) → IfOk r (LastAccepts es (set_value_at es (length es - 1) new) place)
-last_accepts es k x new place (Err e) h done next = tt
-last_accepts es k x new place (Ok o) h done next =
+pub last_accepts : {E : Type 0} (es : List (Class × Framed)) (k : Class) (x new : Framed) (definer : ℕ) (r : Result (Option (List ℕ)) E) → slice_get es (length es - 1) ≡ Some (k, x) → OnOk r (new ≡ with_definer x definer)
+    → IfOk r (λ o. o ≡ name_after x definer) → IfOk r (LastAccepts es (set_value_at es (length es - 1) new) definer)
+last_accepts es k x new definer (Err e) h done next = tt
+last_accepts es k x new definer (Ok o) h done next =
     let s = last_split es (k, x) h in
     let now = set_last es s.before k x new s.split ∙ ap (λ (y : Framed). s.before ++ (k, y) ∷ []) done in
     record { before = s.before; key = k; last = x; split = s.split; now = now; wants = next }
@@ -161,8 +161,8 @@ said_of r role one other t u f k p q e h =
 -- ---- the last frame goes on, or ends
 
 -- of the loader and the name that are at hand
-pub accepts_so : (es new : List (Class × Framed)) (place loader : ℕ) (o next : Option (List ℕ)) → place ≡ loader → o ≡ next → LastAccepts es new place o → LastAccepts es new loader next
-accepts_so es new place loader o next p q a = subst (λ (n : Option (List ℕ)). LastAccepts es new loader n) q (subst (λ (l : ℕ). LastAccepts es new l o) p a)
+pub accepts_so : (es new : List (Class × Framed)) (definer loader : ℕ) (o next : Option (List ℕ)) → definer ≡ loader → o ≡ next → LastAccepts es new definer o → LastAccepts es new loader next
+accepts_so es new definer loader o next p q a = subst (λ (n : Option (List ℕ)). LastAccepts es new loader n) q (subst (λ (l : ℕ). LastAccepts es new l o) p a)
 
 pub snoc_same : {A : Type 0} (xs ys : List A) (x y : A) → xs ++ x ∷ [] ≡ ys ++ y ∷ [] → (xs ≡ ys) × (x ≡ y)
 snoc_same [] [] x y e = (refl, cc)
@@ -208,17 +208,17 @@ module _ (told : Option Content) (c : Configured) (loader : ℕ) (at : List ℕ)
   waits_last kept some = last_waits es kept some
 
   -- the last frame goes on
-  pub held_accept : (next : List ℕ) (new : List (Class × Framed)) (place : ℕ) → KeepsPath told c loader at es → FitsLast told (kept_path c loader at es) place → LastAccepts es new place (Some next)
-      → KeepsPath told c loader next new × Accepts (kept_path c loader at es) (kept_path c loader next new) place
-  held_accept next new place kept fits a =
+  pub held_accept : (next : List ℕ) (new : List (Class × Framed)) (definer : ℕ) → KeepsPath told c loader at es → FitsLast told (kept_path c loader at es) definer → LastAccepts es new definer (Some next)
+      → KeepsPath told c loader next new × Accepts (kept_path c loader at es) (kept_path c loader next new) definer
+  held_accept next new definer kept fits a =
       let x = a.last in
-      let y = with_place x place in
+      let y = with_definer x definer in
       let xs = frames_in a.before in
       let name = first_name xs x.draft.class.name in
       let p = ends_as c loader at es a.before a.key x a.split in
       let q = ends_as c loader next new a.before a.key y a.now in
       let wants = next_of (wanted_supertype (frame_of y)) next a.wants in
-      let path = path_accept told c loader name xs x place (subst (IsPath told) p kept.path) (fits xs x (ap (λ (z : Pathed). z.frames) p)) wants.0 in
+      let path = path_accept told c loader name xs x definer (subst (IsPath told) p kept.path) (fits xs x (ap (λ (z : Pathed). z.frames) p)) wants.0 in
       let keys = keys_pop a.before a.key x (subst (λ (l : List (Class × Framed)). map (λ e. e.0) l ≡ map (λ e. e.1.draft.class) l) a.split kept.keys) in (
         record {
           path = subst (IsPath told) (sym q) path;
@@ -235,19 +235,19 @@ module _ (told : Option Content) (c : Configured) (loader : ℕ) (at : List ℕ)
       )
 
   -- the last frame ends
-  pub held_end : (new rest : List (Class × Framed)) (k : Class) (x : Framed) (place : ℕ) → KeepsPath told c loader at es → LastAccepts es new place None → new ≡ rest ++ (k, x) ∷ []
-      → KeepsPath told c loader k.name rest × Completes (kept_path c loader at es) (kept_path c loader k.name rest) place x
-  held_end new rest k x place kept a popped =
+  pub held_end : (new rest : List (Class × Framed)) (k : Class) (x : Framed) (definer : ℕ) → KeepsPath told c loader at es → LastAccepts es new definer None → new ≡ rest ++ (k, x) ∷ []
+      → KeepsPath told c loader k.name rest × Completes (kept_path c loader at es) (kept_path c loader k.name rest) definer x
+  held_end new rest k x definer kept a popped =
       let was = a.last in
       let xs = frames_in a.before in
       let name = first_name xs was.draft.class.name in
-      let last = snoc_same rest a.before (k, x) (a.key, with_place was place) (sym popped ∙ a.now) in
+      let last = snoc_same rest a.before (k, x) (a.key, with_definer was definer) (sym popped ∙ a.now) in
       let p = ends_as c loader at es a.before a.key was a.split in
       let whole = subst (IsPath told) p kept.path in
       let stood = (stand_pop c loader name xs was whole.stand).1 in
       let keys = keys_pop a.before a.key was (subst (λ (l : List (Class × Framed)). map (λ e. e.0) l ≡ map (λ e. e.1.draft.class) l) a.split kept.keys) in
       let key : k ≡ was.draft.class = ap (λ (e : Class × Framed). e.0) last.1 ∙ keys.1 in
-      let whole_is : x ≡ with_place was place = ap (λ (e : Class × Framed). e.1) last.1 in
+      let whole_is : x ≡ with_definer was definer = ap (λ (e : Class × Framed). e.1) last.1 in
       let below : kept_path c loader k.name rest ≡ record { config = c; loader = loader; name = name; frames = xs } =
       same_path c loader _ _ _ _ (ap (λ (l : List (Class × Framed)). first_name (frames_in l) k.name) last.0 ∙ ap (λ (z : Class). first_name xs z.name) key) (ap frames_in last.0) in (
         record {
@@ -261,6 +261,6 @@ module _ (told : Option Content) (c : Configured) (loader : ℕ) (at : List ℕ)
           split = ap (λ (z : Pathed). z.frames) p;
           now = below ∙ ap (λ (z : Pathed). with_frames z xs) (sym p);
           whole_is = whole_is;
-          complete = ap (λ (y : Framed). wanted_supertype (frame_of y)) whole_is ∙ last_next (wanted_supertype (frame_of (with_place was place))) a.wants;
+          complete = ap (λ (y : Framed). wanted_supertype (frame_of y)) whole_is ∙ last_next (wanted_supertype (frame_of (with_definer was definer))) a.wants;
         },
       )

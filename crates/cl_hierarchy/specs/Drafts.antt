@@ -34,14 +34,14 @@ pub record IsSpelt (told : Option Content) (c : Class) (f : Structure) : Type 0 
 
 -- the class that a home is of: its name, and the loader whose own content has it (5.3.5)
 abbrev pub home_class : Located → Class
-home_class h = class h.name h.place
+home_class h = class h.name h.definer
 
 -- a draft is of the class of its home, which that one's bytes spell (5.3.5)
 pub record IsDraft (told : Option Content) (d : Drafted) : Type 0 where
   pub placed : d.class ≡ home_class d.home
   pub spelt : IsSpelt told d.class d.file
-  pub leads : LeadsTo told d.home.config d.home.asked d.home.name (Some d.home.place)
-  pub within : d.home.place < length d.home.config.loaders
+  pub leads : LeadsTo told d.home.config d.home.asked d.home.name (Some d.home.definer)
+  pub within : d.home.definer < length d.home.config.loaders
 
 -- the first thing that is wrong with the bytes of a home: the version, the rest of the form, the
 -- name (5.3.5)

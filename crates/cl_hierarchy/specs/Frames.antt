@@ -10,13 +10,13 @@ use Rattle.cl_hierarchy.specs.Drafts.{Drafted}
 -- a draft, and which loaders defined the first of its direct supertypes (5.3.5, steps 3 and 4)
 pub record Framed : Type 0 where
   pub draft : Drafted
-  pub places : List ℕ
+  pub definers : List ℕ
 
 -- the classes of these supertypes' names that these loaders defined (5.3.5, steps 3 and 4)
 abbrev pub accepted_of : List Above → List ℕ → List Class
-accepted_of [] places = []
+accepted_of [] definers = []
 accepted_of (a ∷ others) [] = []
-accepted_of (a ∷ others) (place ∷ places) = class a.name place ∷ accepted_of others places
+accepted_of (a ∷ others) (definer ∷ definers) = class a.name definer ∷ accepted_of others definers
 
 -- the frame of the rules: the class, its file, and the supertypes that it accepted
 -- (5.3.5, steps 3 and 4)
@@ -25,9 +25,9 @@ frame_of x =
     record {
       class = x.draft.class;
       file = file_of x.draft.file;
-      accepted = accepted_of (supers (file_of x.draft.file)) x.places;
+      accepted = accepted_of (supers (file_of x.draft.file)) x.definers;
     }
 
 -- one supertype more, which this loader defined (5.3.5, steps 3 and 4)
-abbrev pub with_place : Framed → ℕ → Framed
-with_place x place = record x { places = x.places ++ place ∷ [] }
+abbrev pub with_definer : Framed → ℕ → Framed
+with_definer x definer = record x { definers = x.definers ++ definer ∷ [] }

@@ -19,7 +19,7 @@ use Rattle.cl_model.specs.Content.{Content}
 use Rattle.cl_model.specs.Classes.{Above}
 use Rattle.cl_model.specs.Frames.{wanted_supertype}
 use Rattle.cl_config.specs.Views.{Configured}
-use Rattle.cl_hierarchy.specs.Frames.{Framed, frame_of, with_place}
+use Rattle.cl_hierarchy.specs.Frames.{Framed, frame_of, with_definer}
 use Rattle.cl_hierarchy.specs.Paths.{Pathed, IsPath, at_name}
 
 -- what the request loads: the name of the first class, or what is looked for, while none is being
@@ -54,15 +54,15 @@ last_wants es =
 -- the name of the supertype that is wanted next, once one that this loader defined is accepted
 -- (5.3.5, steps 3 and 4)
 abbrev pub name_after : Framed → ℕ → Option (List ℕ)
-name_after x place = option_map (λ a. a.name) (wanted_supertype (frame_of (with_place x place)))
+name_after x definer = option_map (λ a. a.name) (wanted_supertype (frame_of (with_definer x definer)))
 
 -- the last of these frames accepted a supertype that this loader defined, and wants the next of
 -- this name, if any is left (5.3.5, steps 3 and 4)
-pub record LastAccepts (old new : List (Class × Framed)) (place : ℕ) (next : Option (List ℕ))
+pub record LastAccepts (old new : List (Class × Framed)) (definer : ℕ) (next : Option (List ℕ))
     : Type 0 where
   pub before : List (Class × Framed)
   pub key : Class
   pub last : Framed
   pub split : old ≡ before ++ (key, last) ∷ []
-  pub now : new ≡ before ++ (key, with_place last place) ∷ []
-  pub wants : next ≡ name_after last place
+  pub now : new ≡ before ++ (key, with_definer last definer) ∷ []
+  pub wants : next ≡ name_after last definer

@@ -26,7 +26,7 @@ use Rattle.cl_model.specs.Frames.{Frame, wanted_supertype, asking_loader, IsFram
 use Rattle.cl_config.specs.Views.{Configured}
 use Rattle.cl_delegation.specs.Worlds.{world_of}
 use Rattle.cl_hierarchy.specs.Drafts.{Drafted, IsDraft}
-use Rattle.cl_hierarchy.specs.Frames.{Framed, frame_of, with_place}
+use Rattle.cl_hierarchy.specs.Frames.{Framed, frame_of, with_definer}
 
 -- under which configuration, what a request loads through which loader, and the classes that are
 -- derived for it, the first of them first (5.3.5)
@@ -42,7 +42,7 @@ frames_of p = map frame_of p.frames
 
 -- a draft that has accepted no supertype yet (5.3.5, steps 3 and 4)
 abbrev pub fresh : Drafted → Framed
-fresh d = record { draft = d; places = [] }
+fresh d = record { draft = d; definers = [] }
 
 -- the name of a supertype that is wanted; none is, where nothing is left to load
 abbrev pub name_of : Option Above → List ℕ
@@ -122,19 +122,19 @@ misfit_under (x ∷ (y ∷ xs)) t f = misfit_under (y ∷ xs) t f
 
 -- the last class accepted a supertype that this loader defined, and wants another
 -- (5.3.5, steps 3 and 4)
-pub record Accepts (old new : Pathed) (place : ℕ) : Type 0 where
+pub record Accepts (old new : Pathed) (definer : ℕ) : Type 0 where
   pub before : List Framed
   pub last : Framed
   pub split : old.frames ≡ before ++ last ∷ []
-  pub now : new ≡ with_frames old (before ++ with_place last place ∷ [])
-  pub waits : IsSome (wanted_supertype (frame_of (with_place last place)))
+  pub now : new ≡ with_frames old (before ++ with_definer last definer ∷ [])
+  pub waits : IsSome (wanted_supertype (frame_of (with_definer last definer)))
 
 -- the last class accepted the last of its supertypes, which this loader defined, and is derived no
 -- longer: its whole frame (5.3.5, step 5)
-pub record Completes (old new : Pathed) (place : ℕ) (whole : Framed) : Type 0 where
+pub record Completes (old new : Pathed) (definer : ℕ) (whole : Framed) : Type 0 where
   pub before : List Framed
   pub last : Framed
   pub split : old.frames ≡ before ++ last ∷ []
   pub now : new ≡ with_frames old before
-  pub whole_is : whole ≡ with_place last place
+  pub whole_is : whole ≡ with_definer last definer
   pub complete : wanted_supertype (frame_of whole) ≡ None

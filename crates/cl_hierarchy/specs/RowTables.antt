@@ -33,17 +33,17 @@ use Rattle.cl_hierarchy.specs.declared.making.LineageFault.TheVariants.{Memory, 
 -- a direct supertype of a class, which this loader defined, stands among earlier rows, and fits;
 -- the search for its name led there (5.3.1, 5.3.2; 5.3.5, steps 3 and 4)
 pub record StandsAbove (told : Option Content) (config : Configured) (earlier : List Rowed)
-    (c : Class) (a : Above) (place : ℕ) : Type 0 where
+    (c : Class) (a : Above) (definer : ℕ) : Type 0 where
   pub row : Rowed
-  pub stands : row_of earlier (class a.name place) ≡ Some row
+  pub stands : row_of earlier (class a.name definer) ≡ Some row
   pub fits : FitsAs c a row
-  pub found : LeadsTo told config c.loader a.name (Some place)
+  pub found : LeadsTo told config c.loader a.name (Some definer)
 
 -- these supertypes of a class, which these loaders defined, one each (5.3.5, steps 3 and 4)
 abbrev pub StandAbove : Option Content → Configured → List Rowed → Class → List Above → List ℕ
     → Type 0
-StandAbove told config earlier c others places =
-    AllZip (StandsAbove told config earlier c) others places
+StandAbove told config earlier c others definers =
+    AllZip (StandsAbove told config earlier c) others definers
 
 -- where a content is told, a row has its class's file (5.3.5, step 2)
 abbrev pub HasItsFile : Option Content → Configured → Rowed → Type 0
@@ -56,7 +56,7 @@ pub record IsRowAfter (told : Option Content) (config : Configured) (earlier : L
     (r : Rowed) : Type 0 where
   pub is_new : row_of earlier r.class ≡ None
   pub within : IsWithinConfig config r
-  pub above : StandAbove told config earlier r.class (supers (file_of r.file)) r.places
+  pub above : StandAbove told config earlier r.class (supers (file_of r.file)) r.definers
   pub has_file : HasItsFile told config r
 
 -- each of these rows may stand where it stands, after the earlier ones (5.3.5)

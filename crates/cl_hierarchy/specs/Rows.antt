@@ -10,7 +10,7 @@ use Rattle.cl_model.specs.Classes.{Above, class_accessible, misfit}
 pub record Rowed : Type 0 where
   pub class : Class
   pub file : Structure
-  pub places : List ℕ
+  pub definers : List ℕ
 
 -- the class of a row is accessible to another (5.4.4)
 abbrev pub row_accessible : Rowed → Class → Bool

@@ -16,17 +16,17 @@ use Rattle.cl_hierarchy.specs.Lineages.{row_of}
 
 -- ---- orders
 
--- a class is told before what stands above it
-abbrev pub tells_before : TourOrder → Bool → Bool
-tells_before orders.Lineage wanted = false
-tells_before orders.Superinterfaces wanted = wanted
-tells_before orders.Fields wanted = wanted
+-- a class is listed before what stands above it
+abbrev pub lists_before : TourOrder → Bool → Bool
+lists_before orders.Lineage wanted = false
+lists_before orders.Superinterfaces wanted = wanted
+lists_before orders.Fields wanted = wanted
 
--- a class is told after what stands above it
-abbrev pub tells_after : TourOrder → Bool
-tells_after orders.Lineage = true
-tells_after orders.Superinterfaces = false
-tells_after orders.Fields = false
+-- a class is listed after what stands above it
+abbrev pub lists_after : TourOrder → Bool
+lists_after orders.Lineage = true
+lists_after orders.Superinterfaces = false
+lists_after orders.Fields = false
 
 -- a superclass is wanted itself, too
 abbrev pub wants_up : TourOrder → Bool
@@ -42,10 +42,10 @@ up_first orders.Fields = false
 
 -- ---- what a tour comes to
 
--- a tour comes to a class, or leaves it
+-- a tour comes to a class, or finishes it
 pub data Stop : Type 0 where
   Comes : (kin : Kin) → (wanted : Bool) → Stop
-  Leaves : (kin : Kin) → Stop
+  Finishes : (kin : Kin) → Stop
 
 -- one part in front of the other
 abbrev pub between : {A : Type 0} → TourOrder → List A → List A → List A
@@ -57,21 +57,21 @@ stops o Bare wanted = []
 stops o (Tree c f sup ints others) wanted =
     Comes (record { class = c; file = f; superclass = sup; interfaces = ints }) wanted
     ∷ between o (stops o sup (wants_up o)) (stops o ints true)
-    ++ Leaves (record { class = c; file = f; superclass = sup; interfaces = ints })
+    ++ Finishes (record { class = c; file = f; superclass = sup; interfaces = ints })
     ∷ stops o others wanted
 
 -- those above a class
 abbrev pub inner : TourOrder → Kin → List Stop
 inner o k = between o (stops o k.superclass (wants_up o)) (stops o k.interfaces true)
 
--- what is told at a stop
-abbrev pub tells : TourOrder → Stop → List Kin
-tells o (Comes k wanted) = if tells_before o wanted then k ∷ [] else []
-tells o (Leaves k) = if tells_after o then k ∷ [] else []
+-- what is listed at a stop
+abbrev pub lists : TourOrder → Stop → List Kin
+lists o (Comes k wanted) = if lists_before o wanted then k ∷ [] else []
+lists o (Finishes k) = if lists_after o then k ∷ [] else []
 
--- what is told at these
-abbrev pub told_at : TourOrder → List Stop → List Kin
-told_at o ss = flat_map (tells o) ss
+-- what is listed at these
+abbrev pub listed_at : TourOrder → List Stop → List Kin
+listed_at o ss = flat_map (lists o) ss
 
 -- ---- what is left to do
 
@@ -92,7 +92,7 @@ marks ss = map (λ s. plain_step s) ss
 abbrev pub stops_of : TourOrder → List Kin → Rowed → TourStep → List Stop
 stops_of o known r (tasks.Come wanted) = stops o (alone (kin_under known r)) wanted
 stops_of o known r (tasks.Over place) = stops o (forest known (drop place (interfaces_in r))) true
-stops_of o known r tasks.Leave = Leaves (kin_under known r) ∷ []
+stops_of o known r tasks.Finish = Finishes (kin_under known r) ∷ []
 
 -- those of all these, the last first
 abbrev pub stops_left : TourOrder → List Kin → List Marked → List Stop
@@ -111,10 +111,10 @@ abbrev pub upwards_of : TourOrder → Option Rowed → List Marked
 upwards_of o None = []
 upwards_of o (Some r) = record { row = r; task = tasks.Come (wants_up o) } ∷ []
 
--- to come to all that stands above a class, and then to leave it
+-- to come to all that stands above a class, and then to finish it
 abbrev pub opening_steps : TourOrder → List Rowed → Rowed → List Marked
 opening_steps o rows r =
-    record { row = r; task = tasks.Leave }
+    record { row = r; task = tasks.Finish }
     ∷ (if up_first o
     then record { row = r; task = tasks.Over 0 } ∷ upwards_of o (first_row rows (superclass_in r))
     else upwards_of o (first_row rows (superclass_in r)) ++ record { row = r; task = tasks.Over 0 }
@@ -135,9 +135,9 @@ interface_row rows r place = option_and_then (row_of rows) (slice_get (interface
 abbrev pub with_class : List Class → Class → List Class
 with_class cs c = if is_among cs c then cs else cs ++ c ∷ []
 
--- the rows that are told once a row's class is told, if it was not seen
+-- the rows that are listed once a row's class is listed, if it was not seen
 abbrev pub with_row : List Class → List Rowed → Rowed → List Rowed
-with_row seen told r = if is_among seen r.class then told else told ++ r ∷ []
+with_row seen listed r = if is_among seen r.class then listed else listed ++ r ∷ []
 
 -- ---- the end
 
@@ -151,7 +151,7 @@ abbrev pub steps_to_go : List Kin → Rowed → TourStep → ℕ
 steps_to_go known r (tasks.Come wanted) =
     4 * size (forest known (superclass_in r)) + 4 * size (forest known (interfaces_in r)) + 3
 steps_to_go known r (tasks.Over place) = 4 * size (forest known (drop place (interfaces_in r))) + 1
-steps_to_go known r tasks.Leave = 1
+steps_to_go known r tasks.Finish = 1
 
 -- the same of all
 abbrev pub steps_left : List Kin → List Marked → ℕ
@@ -160,45 +160,45 @@ steps_left known (m ∷ ms) = steps_to_go known m.row m.task + steps_left known 
 
 -- ---- the state of a tour
 
--- the rows that were told, the classes of these, the classes that were left, and what is left to do
+-- the rows that were listed, the classes of these, the classes that are finished, and what is left to do
 pub record Toured : Type 0 where
-  pub told : List Rowed
+  pub listed : List Rowed
   pub seen : List Class
-  pub left : List Class
+  pub finished : List Class
   pub stack : List Marked
 
 -- the same, without where it lies in memory
 abbrev pub plain_tour : {A : Type 0} → Tour A → Toured
 plain_tour t =
     record {
-      told = map (λ r. r.value) t.told.items;
+      listed = map (λ r. r.value) t.listed.items;
       seen = t.seen.keys;
-      left = t.left.keys;
+      finished = t.finished.keys;
       stack = marks t.stack.items;
     }
 
--- a row is told
-abbrev pub after_telling : Bool → Toured → Rowed → Toured
-after_telling false t r = t
-after_telling true t r = record t {
-  told = with_row t.seen t.told r;
+-- a row is listed
+abbrev pub after_listing : Bool → Toured → Rowed → Toured
+after_listing false t r = t
+after_listing true t r = record t {
+  listed = with_row t.seen t.listed r;
   seen = with_class t.seen
       r.class;
 }
 
--- what is left to do, once the tour came to a class that it left before, or not
-abbrev pub opening_unless_left : TourOrder → List Rowed → Toured → Rowed → Toured
-opening_unless_left o rows t r =
+-- what is left to do, once the tour came to a class that it finished before, or not
+abbrev pub opening_unless_finished : TourOrder → List Rowed → Toured → Rowed → Toured
+opening_unless_finished o rows t r =
     record t {
-      stack = if is_among t.left r.class then t.stack else t.stack
+      stack = if is_among t.finished r.class then t.stack else t.stack
           ++ opening_steps o rows r;
     }
 
 -- one step
 abbrev pub step : TourOrder → List Rowed → Toured → Rowed → TourStep → Toured
-step o rows t r (tasks.Come wanted) = opening_unless_left o rows
-    (after_telling (tells_before o wanted) t r) r
+step o rows t r (tasks.Come wanted) = opening_unless_finished o rows
+    (after_listing (lists_before o wanted) t r) r
 step o rows t r (tasks.Over place) =
     record t { stack = t.stack ++ over_from r place (interface_row rows r place) }
-step o rows t r tasks.Leave =
-    let x = after_telling (tells_after o) t r in record x { left = with_class x.left r.class }
+step o rows t r tasks.Finish =
+    let x = after_listing (lists_after o) t r in record x { finished = with_class x.finished r.class }

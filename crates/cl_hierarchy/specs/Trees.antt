@@ -26,15 +26,15 @@ use Rattle.cl_hierarchy.specs.Rows.{Rowed}
 
 -- the class of a row's superclass, if it has one (5.3.5, step 3)
 abbrev pub superclass_in : Rowed → List Class
-superclass_in r = accepted_of (superclass_of (file_of r.file)) r.places
+superclass_in r = accepted_of (superclass_of (file_of r.file)) r.definers
 
 -- the loaders of its direct superinterfaces, in file order (5.3.5, step 4)
-abbrev pub interface_places : Rowed → List ℕ
-interface_places r = drop (length (superclass_of (file_of r.file))) r.places
+abbrev pub interface_definers : Rowed → List ℕ
+interface_definers r = drop (length (superclass_of (file_of r.file))) r.definers
 
 -- the classes of its direct superinterfaces, in file order (5.3.5, step 4)
 abbrev pub interfaces_in : Rowed → List Class
-interfaces_in r = accepted_of (superinterfaces_of (file_of r.file)) (interface_places r)
+interfaces_in r = accepted_of (superinterfaces_of (file_of r.file)) (interface_definers r)
 
 -- the one of these with this class
 abbrev pub kin_named : List Kin → Class → Option Kin

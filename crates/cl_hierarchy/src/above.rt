@@ -48,7 +48,7 @@ pub(crate) fn superclass_named<T: Told>(row: &ClassRow<T>) -> Option<(&Name, Loa
         result) }
 {
     let name = row.file().super_name()?;
-    let loader = row.places().first()?;
+    let loader = row.definers().first()?;
     Some((name, *loader))
 }
 

@@ -123,7 +123,7 @@ fn draft_of<T: Told>(
     home: Home<T>,
     file: ClassFile,
 ) -> Result<Draft<T>, DraftRefused<T>>
-    requires told { IsTold T.told home.place home.name (Some home.bytes) }
+    requires told { IsTold T.told home.definer home.name (Some home.bytes) }
     requires file { ByGrammar home.bytes file }
     requires named { (file_of file).name ≡ home.name }
     ensures { ReadAs home result }
@@ -136,7 +136,7 @@ fn draft_of<T: Told>(
     };
     let class = Class {
         name,
-        loader: home.place(),
+        loader: home.definer(),
     };
     // brings that the search led here
     let _ = home.config();

@@ -5,7 +5,7 @@ ghost use Rattle.std.specs.Option.{option_map};
 ghost use Rattle.cl_classfile.specs.Files.{file_of};
 ghost use Rattle.cl_model.specs.Classes.{class, supers};
 ghost use Rattle.cl_model.specs.Frames.{NamedAs, with_accepted, wanted_supertype};
-ghost use Rattle.cl_hierarchy.specs.Frames.{frame_of, with_place};
+ghost use Rattle.cl_hierarchy.specs.Frames.{frame_of, with_definer};
 ghost use Rattle.cl_hierarchy.specs.Kept.{name_after};
 ghost use Rattle.cl_hierarchy.specs.Repeats.{Repeats};
 ghost use Rattle.cl_hierarchy.specs.Supertypes.{plain_supertype};
@@ -21,14 +21,14 @@ use std::marker::Model;
 /// (JVMS SE 8, 5.3.5, steps 3 and 4).
 pub struct Frame<T: Told> {
     draft: Draft<T>,
-    places: Vec<LoaderId>,
+    definers: Vec<LoaderId>,
 }
 
 impl<T: Told> Drop for Frame<T> {
     fn drop(self) {
         let Frame {
             draft: _,
-            places: _,
+            definers: _,
         } = self;
     }
 }
@@ -41,19 +41,19 @@ impl<T: Told> Model for Frame<T> {
 
     ghost Value = { Framed };
 
-    ghost view = { λ f. record { draft = f.draft; places = f.places.items } };
+    ghost view = { λ f. record { draft = f.draft; definers = f.definers.items } };
 
-    ghost invariant = { λ f. length f.places.items ≤ length (supers (file_of f.draft.file)) };
+    ghost invariant = { λ f. length f.definers.items ≤ length (supers (file_of f.draft.file)) };
 }
 
 impl<T: Told> Frame<T> {
     /// A class that has accepted no supertype yet. It takes no memory yet.
     pub fn new(alloc: Global, draft: Draft<T>) -> Frame<T>
-        ensures { result ≡ record { draft = draft; places = [] } }
+        ensures { result ≡ record { draft = draft; definers = [] } }
     {
         Frame {
             draft,
-            places: Vec::new(alloc),
+            definers: Vec::new(alloc),
         }
     }
 
@@ -65,40 +65,40 @@ impl<T: Told> Frame<T> {
     }
 
     /// Which loaders defined the supertypes that were accepted, in order.
-    pub fn places(&self) -> &[LoaderId]
-        ensures places { result.now ≡ self.now.places }
+    pub fn definers(&self) -> &[LoaderId]
+        ensures definers { result.now ≡ self.now.definers }
         ensures named { NamedAs (frame_of self.now).accepted
             (supers (file_of self.now.draft.file)) }
     {
-        self.places.as_slice()
+        self.definers.as_slice()
     }
 
     /// The supertype that comes next, if one is left.
     pub fn next_supertype(&self) -> Option<Supertype<'_>>
         ensures { option_map plain_supertype result ≡ wanted_supertype (frame_of self.now) }
     {
-        self.draft.supertype(self.places.len())
+        self.draft.supertype(self.definers.len())
     }
 
     /// The loader that defined the class of the supertype that comes next, where the file names that one again and it was
     /// accepted before. Constant time.
-    pub fn place_if_repeated(&self) -> Option<LoaderId>
+    pub fn definer_if_repeated(&self) -> Option<LoaderId>
         ensures { IfSome result (Repeats self.now) }
     {
-        let first = self.draft.first_of_name(self.places.len());
-        let place = self.places.as_slice().get(first)?;
-        Some(*place)
+        let first = self.draft.first_of_name(self.definers.len());
+        let definer = self.definers.as_slice().get(first)?;
+        Some(*definer)
     }
 
     /// Accepts the supertype that comes next, of which this loader defined the class.
-    pub fn accept(&mut self, place: LoaderId) -> Result<(), AllocError>
+    pub fn accept(&mut self, definer: LoaderId) -> Result<(), AllocError>
         requires { IsSome (wanted_supertype (frame_of self.old)) }
-        ensures accepted { OnOk result (self.new ≡ with_place self.old place) }
+        ensures accepted { OnOk result (self.new ≡ with_definer self.old definer) }
         ensures frame { OnOk result (IfSome (wanted_supertype (frame_of self.old))
-            (λ a. frame_of self.new ≡ with_accepted (frame_of self.old) (class a.name place))) }
+            (λ a. frame_of self.new ≡ with_accepted (frame_of self.old) (class a.name definer))) }
         ensures unchanged { IfErr result (λ e. self.new ≡ self.old) }
     {
-        self.places.push(place)?;
+        self.definers.push(definer)?;
         Ok(())
     }
 
@@ -107,18 +107,18 @@ impl<T: Told> Frame<T> {
     pub(crate) fn go_on(
         &mut self,
         alloc: Global,
-        place: LoaderId,
+        definer: LoaderId,
     ) -> Result<Option<Name>, AllocError>
         requires { IsSome (wanted_supertype (frame_of self.old)) }
-        ensures accepted { OnOk result (self.new ≡ with_place self.old place) }
-        ensures next { IfOk result (λ o. o ≡ name_after self.old place) }
+        ensures accepted { OnOk result (self.new ≡ with_definer self.old definer) }
+        ensures next { IfOk result (λ o. o ≡ name_after self.old definer) }
         ensures unchanged { IfErr result (λ e. self.new ≡ self.old) }
     {
-        let next = match self.draft.supertype(self.places.len() + 1) {
+        let next = match self.draft.supertype(self.definers.len() + 1) {
             Some(supertype) => Some(supertype.name.try_clone(alloc)?),
             None => None,
         };
-        self.accept(place)?;
+        self.accept(definer)?;
         Ok(next)
     }
 
@@ -126,7 +126,7 @@ impl<T: Told> Frame<T> {
     pub fn into_draft(self) -> Draft<T>
         ensures { result ≡ self.draft }
     {
-        let Frame { draft, places: _ } = self;
+        let Frame { draft, definers: _ } = self;
         draft
     }
 }

@@ -27,6 +27,6 @@ pub use frame::Frame;
 pub use lineage::Lineage;
 pub use making::{LineageFault, RowTable};
 pub use member::member_accessible;
-pub use path::{Again, Path};
+pub use path::{Path, Repeated};
 pub use row::ClassRow;
 pub use supertype::{Role, Supertype};

@@ -8,7 +8,7 @@ ghost use Rattle.cl_model.specs.declared.class.Class.{Class};
 ghost use Rattle.cl_model.specs.Lineages.{alone, first, is_subclass, once, superclasses, superinterfaces, upward};
 ghost use Rattle.cl_hierarchy.specs.Lineages.{IsLined, IsRowIn, field_order, kin_at, kin_of, rows_in};
 ghost use Rattle.cl_hierarchy.specs.Several.{superinterfaces_of_any};
-ghost use Rattle.cl_hierarchy.specs.Tours.{stops, told_at};
+ghost use Rattle.cl_hierarchy.specs.Tours.{stops, listed_at};
 ghost use Rattle.cl_hierarchy.specs.Trees.{SupersBefore, forest, kin_under, kins, superclass_in};
 
 use crate::above::superclass_row;
@@ -226,15 +226,15 @@ impl<T: Told> Lineage<T> {
         superinterface_classes(alloc, self.config().seed(), self.above(), self.own(), rows)
     }
 
-    /// What a tour tells from the class, each row once.
+    /// What a tour lists from the class, each row once.
     fn rows_by_tour(
         &self,
         alloc: Global,
         order: TourOrder,
         wanted: bool,
     ) -> Result<Vec<Arc<ClassRow<T>>>, AllocError>
-        ensures told { IfOk result (λ v. map (λ r. kin_at self.now r.value) v.items
-            ≡ once (told_at order (stops order (alone (kin_of self.now)) wanted))) }
+        ensures listed { IfOk result (λ v. map (λ r. kin_at self.now r.value) v.items
+            ≡ once (listed_at order (stops order (alone (kin_of self.now)) wanted))) }
         ensures rows { IfOk result (λ v. AllByRecursion (λ r. IsRowIn (rows_in self.now) r.value)
             v.items) }
     {

@@ -27,7 +27,7 @@ use std::sync::Arc;
 
 /// What became of a supertype that is looked for, which the last class may have accepted before.
 #[derive(Drop)]
-pub enum Again<T: Told> {
+pub enum Repeated<T: Told> {
     /// It was not; it is still looked for.
     Other,
     /// It is accepted again, and the class waits for the next.
@@ -101,14 +101,17 @@ fn put<T: Told>(frames: &mut Frames<T>, class: Class, frame: Frame<T>)
 
 /// The last frame accepts the supertype that it wants, of which this loader defined the class: the name of the next, if one
 /// is left.
-fn accept_last<T: Told>(frames: &mut Frames<T>, place: LoaderId) -> Result<Option<Name>, AllocError>
+fn accept_last<T: Told>(
+    frames: &mut Frames<T>,
+    definer: LoaderId,
+) -> Result<Option<Name>, AllocError>
     requires { IsSome (last_wants frames.old.entries) }
-    ensures accepted { IfOk result (LastAccepts frames.old.entries frames.new.entries place) }
+    ensures accepted { IfOk result (LastAccepts frames.old.entries frames.new.entries definer) }
     ensures unchanged { IfErr result (λ e. frames.new.entries ≡ frames.old.entries) }
 {
     let alloc = *frames.allocator();
     match frames.last_mut() {
-        Some(frame) => frame.go_on(alloc, place),
+        Some(frame) => frame.go_on(alloc, definer),
         None => unreachable!(),
     }
 }
@@ -239,38 +242,38 @@ impl<T: Told> Path<T> {
 
     /// The last class accepts the supertype that is looked for, where it accepted that one before: the file names it again. It
     /// asks nobody again, since what a loader recorded stays so, and fits in the same role as before (JVMS SE 8, 5.3, 5.3.5).
-    pub fn accept_again(&mut self) -> Result<Again<T>, AllocError>
+    pub fn accept_if_repeated(&mut self) -> Result<Repeated<T>, AllocError>
         ensures goes { IfOk result (Goes self.old self.new) }
         ensures path { IsPath T.told self.old }
         ensures unchanged { IfErr result (λ e. self.new ≡ self.old) }
     {
-        match self.place_if_repeated() {
-            None => Ok(Again::Other),
-            Some(place) => match self.accept_as(place)? {
-                None => Ok(Again::Waits),
-                Some(whole) => Ok(Again::Whole(whole)),
+        match self.definer_if_repeated() {
+            None => Ok(Repeated::Other),
+            Some(definer) => match self.accept_as(definer)? {
+                None => Ok(Repeated::Waits),
+                Some(whole) => Ok(Repeated::Whole(whole)),
             },
         }
     }
 
     /// The loader that defined the class of the supertype that is looked for, where the last class accepted that one before.
-    fn place_if_repeated(&self) -> Option<LoaderId>
+    fn definer_if_repeated(&self) -> Option<LoaderId>
         ensures repeats { IfSome result (RepeatsLast self.now) }
         ensures path { IsPath T.told self.now }
     {
         let (_, frame) = self.frames.last()?;
-        frame.place_if_repeated()
+        frame.definer_if_repeated()
     }
 
     /// The last class accepts the supertype that is looked for, of which this loader defined the class.
-    fn accept_as(&mut self, place: LoaderId) -> Result<Option<Frame<T>>, AllocError>
+    fn accept_as(&mut self, definer: LoaderId) -> Result<Option<Frame<T>>, AllocError>
         requires waits { self.old.frames ≢ [] }
-        requires fits { FitsLast T.told self.old place }
-        ensures accepted { IfOk result (λ o. MatchOption o (Accepts self.old self.new place)
-            (λ x. Completes self.old self.new place x)) }
+        requires fits { FitsLast T.told self.old definer }
+        ensures accepted { IfOk result (λ o. MatchOption o (Accepts self.old self.new definer)
+            (λ x. Completes self.old self.new definer x)) }
         ensures unchanged { IfErr result (λ e. self.new ≡ self.old) }
     {
-        match accept_last(&mut self.frames, place)? {
+        match accept_last(&mut self.frames, definer)? {
             Some(next) => {
                 self.at = next;
                 Ok(None)

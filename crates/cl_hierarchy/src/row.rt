@@ -6,7 +6,7 @@ ghost use Rattle.cl_classfile.specs.Files.{file_of};
 ghost use Rattle.cl_model.specs.Classes.{supers};
 ghost use Rattle.cl_hierarchy.specs.Drafts.{IsSpelt};
 ghost use Rattle.cl_hierarchy.specs.Supertypes.{plain_supertype};
-ghost use Rattle.cl_hierarchy.specs.Trees.{interface_places};
+ghost use Rattle.cl_hierarchy.specs.Trees.{interface_definers};
 
 use crate::draft::Draft;
 use crate::supertype::{Supertype, first_of_name, supertype_of};
@@ -20,7 +20,7 @@ use std::sync::Arc;
 pub struct ClassRow<T: Told> {
     class: Class,
     file: Arc<ClassFile>,
-    places: Vec<LoaderId>,
+    definers: Vec<LoaderId>,
     of: PhantomData<T>,
 }
 
@@ -29,7 +29,7 @@ impl<T: Told> Drop for ClassRow<T> {
         let ClassRow {
             class: _,
             file: _,
-            places: _,
+            definers: _,
             of: _,
         } = self;
     }
@@ -44,9 +44,13 @@ impl<T: Told> Model for ClassRow<T> {
 
     ghost Value = { Rowed };
 
-    ghost view = { λ r. record { class = r.class; file = r.file.value; places = r.places.items } };
+    ghost view = { λ r. record {
+      class = r.class;
+      file = r.file.value;
+      definers = r.definers.items;
+    } };
 
-    ghost invariant = { λ r. IsSpelt T.told r.class r.file.value × (length r.places.items ≡ length
+    ghost invariant = { λ r. IsSpelt T.told r.class r.file.value × (length r.definers.items ≡ length
         (supers (file_of r.file.value))) };
 }
 
@@ -57,13 +61,13 @@ impl<T: Told> ClassRow<T> {
     pub fn of(
         alloc: Global,
         draft: &Draft<T>,
-        places: Vec<LoaderId>,
+        definers: Vec<LoaderId>,
     ) -> Result<ClassRow<T>, AllocError>
-        requires { length places.items ≡ length (supers (file_of draft.now.file)) }
+        requires { length definers.items ≡ length (supers (file_of draft.now.file)) }
         ensures { IfOk result (λ r. r ≡ record {
           class = draft.now.class;
           file = draft.now.file;
-          places = places.items;
+          definers = definers.items;
         }) }
     {
         // brings that the class is spelled by its file
@@ -73,7 +77,7 @@ impl<T: Told> ClassRow<T> {
         Ok(ClassRow {
             class,
             file,
-            places,
+            definers,
             of: PhantomData,
         })
     }
@@ -104,14 +108,14 @@ impl<T: Told> ClassRow<T> {
     }
 
     /// Which loaders defined its direct superinterfaces, in file order (JVMS SE 8, 5.3.5, step 4).
-    pub fn interface_places(&self) -> &[LoaderId]
-        ensures { result.now ≡ interface_places self.now }
+    pub fn interface_definers(&self) -> &[LoaderId]
+        ensures { result.now ≡ interface_definers self.now }
     {
-        let places = self.places();
+        let definers = self.definers();
         match self.file().super_name() {
-            None => places,
-            Some(_) => match places.split_first() {
-                None => places,
+            None => definers,
+            Some(_) => match definers.split_first() {
+                None => definers,
                 Some((_, rest)) => rest,
             },
         }
@@ -128,10 +132,10 @@ impl<T: Told> ClassRow<T> {
     }
 
     /// Which loaders defined its direct supertypes, in order.
-    pub fn places(&self) -> &[LoaderId]
-        ensures places { result.now ≡ self.now.places }
-        ensures each { length self.now.places ≡ length (supers (file_of self.now.file)) }
+    pub fn definers(&self) -> &[LoaderId]
+        ensures definers { result.now ≡ self.now.definers }
+        ensures each { length self.now.definers ≡ length (supers (file_of self.now.file)) }
     {
-        self.places.as_slice()
+        self.definers.as_slice()
     }
 }

@@ -86,7 +86,7 @@ fn interface_at<T: Told>(
 {
     match row.file().interface_name(place) {
         None => Ok(None),
-        Some(name) => match row.interface_places().get(place) {
+        Some(name) => match row.interface_definers().get(place) {
             None => Ok(None),
             Some(loader) => Ok(Some(class_of(alloc, name, *loader)?)),
         },
@@ -101,7 +101,7 @@ fn put_interfaces<T: Told>(
 ) -> Result<(), AllocError>
     ensures { OnOk result (Gains classes.old.keys (interfaces_in row.now) classes.new.keys) }
 {
-    for place in 0..row.interface_places().len() {
+    for place in 0..row.interface_definers().len() {
         put_if(classes, interface_at(alloc, row, place)?)?;
     }
     Ok(())

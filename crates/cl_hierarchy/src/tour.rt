@@ -7,7 +7,7 @@ ghost use Rattle.cl_model.specs.Classes.{class, is_among};
 ghost use Rattle.cl_model.specs.Lineages.{alone, once};
 ghost use Rattle.cl_hierarchy.specs.Lineages.{IsRowIn, row_of};
 ghost use Rattle.cl_hierarchy.specs.Rows.{Rowed};
-ghost use Rattle.cl_hierarchy.specs.Tours.{first_row, interface_row, marks, opening_steps, opening_unless_left, over_from, step, stops, after_telling, tells_after, tells_before, told_at, plain_tour, up_first, upwards_of, wants_up, with_class, with_row};
+ghost use Rattle.cl_hierarchy.specs.Tours.{first_row, interface_row, marks, opening_steps, opening_unless_finished, over_from, step, stops, after_listing, lists_after, lists_before, listed_at, plain_tour, up_first, upwards_of, wants_up, with_class, with_row};
 ghost use Rattle.cl_hierarchy.specs.declared.tour.TourStep.TheVariants as tasks;
 ghost use Rattle.cl_hierarchy.specs.Trees.{SupersBefore, kin_under, kins, superclass_in};
 
@@ -34,7 +34,7 @@ pub(crate) trait Finds<T: Told> {
             (class name.now loader)) };
 }
 
-/// In which order classes are told.
+/// In which order classes are listed.
 #[derive(Clone, Copy, Debug)]
 pub(crate) enum TourOrder {
     /// A class after all that stands above it, its superclass's first (JVMS SE 8, 5.4).
@@ -46,8 +46,8 @@ pub(crate) enum TourOrder {
 }
 
 impl TourOrder {
-    fn tells_before(self, wanted: bool) -> bool
-        ensures { result ≡ tells_before self wanted }
+    fn lists_before(self, wanted: bool) -> bool
+        ensures { result ≡ lists_before self wanted }
     {
         match self {
             TourOrder::Lineage => false,
@@ -56,8 +56,8 @@ impl TourOrder {
         }
     }
 
-    fn tells_after(self) -> bool
-        ensures { result ≡ tells_after self }
+    fn lists_after(self) -> bool
+        ensures { result ≡ lists_after self }
     {
         match self {
             TourOrder::Lineage => true,
@@ -89,12 +89,12 @@ impl TourOrder {
 
 #[derive(Clone, Copy, Debug)]
 pub(crate) enum TourStep {
-    /// To come to the class, which is told or not.
+    /// To come to the class, which is listed or not.
     Come(bool),
     /// To go through its superinterfaces from this one on.
     Over(usize),
-    /// To leave it: all that stands above it was told.
-    Leave,
+    /// To finish it: all that stands above it was listed.
+    Finish,
 }
 
 /// What is left to do for a row.
@@ -131,19 +131,19 @@ fn note(alloc: Global, classes: &mut Classes, class: &Class) -> Result<bool, All
     Ok(classes.insert(class)?)
 }
 
-/// Tells a row, if its class was not told.
-fn tell<T: Told>(
+/// Lists a row, if its class was not listed.
+fn list<T: Told>(
     alloc: Global,
-    told: &mut Vec<Arc<ClassRow<T>>>,
+    listed: &mut Vec<Arc<ClassRow<T>>>,
     seen: &mut Classes,
     row: &Arc<ClassRow<T>>,
 ) -> Result<(), AllocError>
-    ensures told { OnOk result (map (λ r. r.value) told.new.items ≡ with_row seen.old.keys
-        (map (λ r. r.value) told.old.items) row.now.value) }
+    ensures listed { OnOk result (map (λ r. r.value) listed.new.items ≡ with_row seen.old.keys
+        (map (λ r. r.value) listed.old.items) row.now.value) }
     ensures seen { OnOk result (seen.new.keys ≡ with_class seen.old.keys row.now.value.class) }
 {
     if note(alloc, seen, row.class())? {
-        told.push(Arc::try_clone(row)?)?;
+        listed.push(Arc::try_clone(row)?)?;
     }
     Ok(())
 }
@@ -159,7 +159,7 @@ pub(crate) fn superclass_of<'a, T: Told, F: Finds<T>>(
 {
     match row.file().super_name() {
         None => Ok(None),
-        Some(name) => match row.places().first() {
+        Some(name) => match row.definers().first() {
             None => Ok(None),
             Some(loader) => table.find(alloc, *loader, name),
         },
@@ -178,7 +178,7 @@ fn interface_of<'a, T: Told, F: Finds<T>>(
 {
     match row.file().interface_name(place) {
         None => Ok(None),
-        Some(name) => match row.interface_places().get(place) {
+        Some(name) => match row.interface_definers().get(place) {
             None => Ok(None),
             Some(loader) => table.find(alloc, *loader, name),
         },
@@ -202,7 +202,7 @@ fn open_up<T: Told, F: Finds<T>>(
     }
 }
 
-/// To come to all that stands above a row's class, and then to leave it.
+/// To come to all that stands above a row's class, and then to finish it.
 fn open<T: Told, F: Finds<T>>(
     alloc: Global,
     order: TourOrder,
@@ -213,7 +213,7 @@ fn open<T: Told, F: Finds<T>>(
     ensures { OnOk result (marks stack.new.items ≡ marks stack.old.items ++ opening_steps order
         (F.rows table.now) row.now.value) }
 {
-    push(stack, row, TourStep::Leave)?;
+    push(stack, row, TourStep::Finish)?;
     if order.up_first() {
         push(stack, row, TourStep::Over(0))?;
         open_up(alloc, order, table, stack, row)
@@ -246,28 +246,28 @@ fn open_over<T: Told, F: Finds<T>>(
     }
 }
 
-/// A tour: what was told, and what is left to do.
+/// A tour: what was listed, and what is left to do.
 #[derive(Drop)]
 struct Tour<T: Told> {
-    told: Vec<Arc<ClassRow<T>>>,
+    listed: Vec<Arc<ClassRow<T>>>,
     seen: Classes,
-    left: Classes,
+    finished: Classes,
     stack: Vec<Step<T>>,
 }
 
 impl<T: Told> Tour<T> {
-    /// Tells a row where it is to be told.
-    fn tell_if(
+    /// Lists a row where it is to be listed.
+    fn list_if(
         &mut self,
         alloc: Global,
-        is_told: bool,
+        is_listed: bool,
         row: &Arc<ClassRow<T>>,
     ) -> Result<(), AllocError>
         ensures { OnOk result (plain_tour self.new
-            ≡ after_telling is_told (plain_tour self.old) row.now.value) }
+            ≡ after_listing is_listed (plain_tour self.old) row.now.value) }
     {
-        if is_told {
-            tell(alloc, &mut self.told, &mut self.seen, row)?;
+        if is_listed {
+            list(alloc, &mut self.listed, &mut self.seen, row)?;
         }
         Ok(())
     }
@@ -281,29 +281,30 @@ impl<T: Told> Tour<T> {
         row: &Arc<ClassRow<T>>,
         wanted: bool,
     ) -> Result<(), AllocError>
-        ensures { OnOk result (plain_tour self.new ≡ opening_unless_left order (F.rows table.now)
-            (after_telling (tells_before order wanted) (plain_tour self.old) row.now.value)
+        ensures { OnOk result (plain_tour self.new
+            ≡ opening_unless_finished order (F.rows table.now)
+            (after_listing (lists_before order wanted) (plain_tour self.old) row.now.value)
             row.now.value) }
     {
-        self.tell_if(alloc, order.tells_before(wanted), row)?;
-        if self.left.contains(row.class()) {
+        self.list_if(alloc, order.lists_before(wanted), row)?;
+        if self.finished.contains(row.class()) {
             return Ok(());
         }
         open(alloc, order, table, &mut self.stack, row)
     }
 
-    /// Leaves the class of a row.
-    fn leave(
+    /// Finishes the class of a row.
+    fn finish(
         &mut self,
         alloc: Global,
         order: TourOrder,
         row: &Arc<ClassRow<T>>,
     ) -> Result<(), AllocError>
         ensures { OnOk result (plain_tour self.new
-            ≡ step order [] (plain_tour self.old) row.now.value tasks.Leave) }
+            ≡ step order [] (plain_tour self.old) row.now.value tasks.Finish) }
     {
-        self.tell_if(alloc, order.tells_after(), row)?;
-        note(alloc, &mut self.left, row.class())?;
+        self.list_if(alloc, order.lists_after(), row)?;
+        note(alloc, &mut self.finished, row.class())?;
         Ok(())
     }
 
@@ -321,12 +322,12 @@ impl<T: Told> Tour<T> {
         match next.task {
             TourStep::Come(wanted) => self.come(alloc, order, table, &next.row, wanted),
             TourStep::Over(place) => open_over(alloc, table, &mut self.stack, &next.row, place),
-            TourStep::Leave => self.leave(alloc, order, &next.row),
+            TourStep::Finish => self.finish(alloc, order, &next.row),
         }
     }
 }
 
-/// What a tour from a row tells: the rows, each class once.
+/// What a tour from a row lists: the rows, each class once.
 pub(crate) fn rows_in_order<T: Told, F: Finds<T>>(
     alloc: Global,
     seed: Seed,
@@ -339,20 +340,20 @@ pub(crate) fn rows_in_order<T: Told, F: Finds<T>>(
     requires start { IsRowIn (F.rows table.now) start.now.value }
     ensures kins { IfOk result (λ v. map (λ r. kin_under (kins (F.rows table.now)) r.value) v.items
         ≡ once
-        (told_at order (stops order (alone (kin_under (kins (F.rows table.now)) start.now.value))
+        (listed_at order (stops order (alone (kin_under (kins (F.rows table.now)) start.now.value))
         wanted))) }
     ensures rows { IfOk result (λ v. AllByRecursion (λ r. IsRowIn (F.rows table.now) r.value)
         v.items) }
 {
     let mut tour = Tour {
-        told: Vec::new(alloc),
+        listed: Vec::new(alloc),
         seen: IndexSet::with_hasher(alloc, seed),
-        left: IndexSet::with_hasher(alloc, seed),
+        finished: IndexSet::with_hasher(alloc, seed),
         stack: Vec::new(alloc),
     };
     push(&mut tour.stack, start, TourStep::Come(wanted))?;
     while let Some(next) = tour.stack.pop() {
         tour.go(alloc, order, table, &next)?;
     }
-    Ok(tour.told)
+    Ok(tour.listed)
 }

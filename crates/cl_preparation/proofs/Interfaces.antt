@@ -10,7 +10,7 @@ use Rattle.cl_model.specs.Lineages.{Forest, Bare, Kin, once, preorder, superclas
 use Rattle.cl_hierarchy.specs.Frames.{accepted_of}
 use Rattle.cl_hierarchy.specs.Lineages.{Lined, kin_at, kin_of}
 use Rattle.cl_hierarchy.specs.Rows.{Rowed}
-use Rattle.cl_hierarchy.specs.Trees.{forest, in_front, interface_places, kin_named, kin_under, kins, superclass_in}
+use Rattle.cl_hierarchy.specs.Trees.{forest, in_front, interface_definers, kin_named, kin_under, kins, superclass_in}
 use Rattle.cl_preparation.specs.Relatives.{names_interfaces}
 
 none_named : (ns : List Name) → is_some (slice_get ns 0) ≡ false → ns ≡ []
@@ -20,19 +20,19 @@ none_named (n ∷ ns) e = absurd cc
 -- a class that names none has none right above it
 none_right_over : (known : List Kin) (r : Rowed) → names_interfaces r ≡ false → (kin_under known r).interfaces ≡ Bare
 none_right_over known r off =
-    ap (λ (ns : List Name). forest known (accepted_of (superinterfaces_of (record (file_of r.file) { interfaces = ns })) (interface_places r))) (none_named (file_of r.file).interfaces off)
+    ap (λ (ns : List Name). forest known (accepted_of (superinterfaces_of (record (file_of r.file) { interfaces = ns })) (interface_definers r))) (none_named (file_of r.file).interfaces off)
 
 -- none or one
 abbrev IsFew : List Class → Type 0
 IsFew cs = (cs ≡ []) ⊎ ((c : Class) × (cs ≡ c ∷ []))
 
 few_superclasses : (r : Rowed) → IsFew (superclass_in r)
-few_superclasses r = few (file_of r.file).super_name r.places
+few_superclasses r = few (file_of r.file).super_name r.definers
   where
-    few : (o : Option Name) (places : List ℕ) → IsFew (accepted_of (superclass_of (record (file_of r.file) { super_name = o })) places)
-    few None places = inl refl
+    few : (o : Option Name) (definers : List ℕ) → IsFew (accepted_of (superclass_of (record (file_of r.file) { super_name = o })) definers)
+    few None definers = inl refl
     few (Some n) [] = inl refl
-    few (Some n) (p ∷ places) = inr (class n p, refl)
+    few (Some n) (p ∷ definers) = inr (class n p, refl)
 
 heads : {A : Type 0} (x y : A) (xs ys : List A) → x ∷ xs ≡ y ∷ ys → (x ≡ y) × (xs ≡ ys)
 heads x y xs ys e = (cc, cc)

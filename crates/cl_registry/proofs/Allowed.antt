@@ -63,8 +63,8 @@ loader_bound c content l p name h = subst (λ (n : ℕ). l < n) (length-map c.lo
 -- a draft's class is at home, under the configuration that it was found under
 pub draft_at_home : (c : Configured) (content : Content) (d : Drafted) → IsDraft (Some content) d → d.home.config ≡ c → IsAtHome (world_of c content) d.class
 draft_at_home c content d draft config =
-    let found : home (world_of c content) d.home.asked d.home.name ≡ Some d.home.place = subst (λ (k : Configured). home (world_of k content) d.home.asked d.home.name ≡ Some d.home.place) config draft.leads in
-    subst (λ (k : Class). IsAtHome (world_of c content) k) (sym draft.placed) (home_of_home (world_of c content) d.home.asked d.home.place d.home.name found)
+    let found : home (world_of c content) d.home.asked d.home.name ≡ Some d.home.definer = subst (λ (k : Configured). home (world_of k content) d.home.asked d.home.name ≡ Some d.home.definer) config draft.leads in
+    subst (λ (k : Class). IsAtHome (world_of c content) k) (sym draft.placed) (home_of_home (world_of c content) d.home.asked d.home.definer d.home.name found)
 
 -- ---- definitions
 
@@ -168,16 +168,16 @@ entered_is_allowed content x d kept draft may fresh free =
 pub joined_is_allowed : JoinedIsAllowed
 joined_is_allowed content x h kept leads may fresh free =
     record {
-      found = subst (λ (c : Configured). home (world_of c content) h.asked h.name ≡ Some h.place) may.config leads;
-      not_own = λ e. none_not_some (recorded_definer (records_of x) h.asked h.name) fresh (subst (λ (l : ℕ). recorded_definer (records_of x) l h.name ≡ Some h.place) (sym e) may.defined);
+      found = subst (λ (c : Configured). home (world_of c content) h.asked h.name ≡ Some h.definer) may.config leads;
+      not_own = λ e. none_not_some (recorded_definer (records_of x) h.asked h.name) fresh (subst (λ (l : ℕ). recorded_definer (records_of x) l h.name ≡ Some h.definer) (sym e) may.defined);
       defined = may.defined;
-      may_add = may_add (state_of x) h.asked h.place h.name fresh free;
+      may_add = may_add (state_of x) h.asked h.definer h.name fresh free;
     }
 
 pub allowed_is_joined : AllowedIsJoined
 allowed_is_joined content x h kept config may = (
-  record { config = config; loader = loader_bound x.config content h.asked h.place h.name may.found; defined = may.defined },
-  unmet_is_fresh (world_of x.config content) (state_of x) h.asked h.place h.name (closed_of content x kept) may.found may.may_add.unmet,
+  record { config = config; loader = loader_bound x.config content h.asked h.definer h.name may.found; defined = may.defined },
+  unmet_is_fresh (world_of x.config content) (state_of x) h.asked h.definer h.name (closed_of content x kept) may.found may.may_add.unmet,
   may_be_added (state_of x) (asked_record h) may.may_add,
 )
 

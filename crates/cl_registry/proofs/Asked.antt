@@ -26,7 +26,7 @@ map_map f g None = refl
 map_map f g (Some x) = refl
 
 abbrev with_places : Drafted → List ℕ → Rowed
-with_places d ps = record { class = d.class; file = d.file; places = ps }
+with_places d ps = record { class = d.class; file = d.file; definers = ps }
 
 pub below_count : (raw loader count most : ℕ) → raw < count → raw ≡ loader → count ≡ most → loader < most
 below_count raw loader count most h e f = subst (λ (n : ℕ). n < most) e (subst (λ (n : ℕ). raw < n) f h)
@@ -98,14 +98,14 @@ module _ {R : Type 0} (value : R → Rowed) (told : Option Content) (x : Shown) 
   row_made d = ap (λ (ps : List ℕ). with_places d ps) (same_places d.class.loader (supers (file_of d.file)))
 
   -- ---- the row of a home's class
-  pub joins : {Q : Type 0} (now : Q → R) (h : Located) (o : Option Q) → h.config ≡ x.config → h.asked < length x.config.loaders → IfSome o (λ r. at h.place h.name ≡ Some (now r))
-      → MatchOption o (option_map (λ r. (value r).class.loader) (at h.place h.name) ≢ Some h.place) (λ r. (value (now r)).class.loader ≡ h.place) → MatchOption o (MayJoin x h → ⊥) (λ r. MayJoin x h)
-  joins now h None config loader row own = λ may. own (place_at h.place h.name ∙ may.defined)
-  joins now h (Some r) config loader row own = record { config = config; loader = loader; defined = sym (place_at h.place h.name) ∙ ap (option_map (λ r. (value r).class.loader)) row ∙ ap (λ (p : ℕ). Some p) own }
+  pub joins : {Q : Type 0} (now : Q → R) (h : Located) (o : Option Q) → h.config ≡ x.config → h.asked < length x.config.loaders → IfSome o (λ r. at h.definer h.name ≡ Some (now r))
+      → MatchOption o (option_map (λ r. (value r).class.loader) (at h.definer h.name) ≢ Some h.definer) (λ r. (value (now r)).class.loader ≡ h.definer) → MatchOption o (MayJoin x h → ⊥) (λ r. MayJoin x h)
+  joins now h None config loader row own = λ may. own (place_at h.definer h.name ∙ may.defined)
+  joins now h (Some r) config loader row own = record { config = config; loader = loader; defined = sym (place_at h.definer h.name) ∙ ap (option_map (λ r. (value r).class.loader)) row ∙ ap (λ (p : ℕ). Some p) own }
 
-  pub home_looked : {Q : Type 0} (now : Q → R) (h : Located) (o : Option Q) → IfSome o (λ r. at h.place h.name ≡ Some (now r)) → IfSome o (λ r. looked_row x h.place h.name ≡ Some (value (now r)))
+  pub home_looked : {Q : Type 0} (now : Q → R) (h : Located) (o : Option Q) → IfSome o (λ r. at h.definer h.name ≡ Some (now r)) → IfSome o (λ r. looked_row x h.definer h.name ≡ Some (value (now r)))
   home_looked now h None row = tt
-  home_looked now h (Some r) row = sym (rows h.place h.name) ∙ ap (option_map value) row
+  home_looked now h (Some r) row = sym (rows h.definer h.name) ∙ ap (option_map value) row
 
 -- a home whose class may not be joined, where the loader that was asked has no record
 pub join_refused : (x : Shown) (h : Located) (fault : RegistryFault) → LacksRecord x h.asked h.name → MemoryOrStray (MayJoin x h) fault → InitiateRefusedFor x h fault

@@ -163,41 +163,41 @@ module _ (told : Option Content) (x y : Shown) (d : Drafted) (v : Rowed) (k : Is
 
 -- ---- an initiation
 
-may_initiate : (told : Option Content) (x : Shown) (h : Located) → IsKept told x → LeadsTo told h.config h.asked h.name (Some h.place) → MayJoin x h → LacksRecord x h.asked h.name → (Refused (state_of x) (asked_record h) → ⊥)
-    → (content : Content) → told ≡ Some content → May (setting_of x.config x.script content) (state_of x) (Initiate h.name h.place h.asked)
+may_initiate : (told : Option Content) (x : Shown) (h : Located) → IsKept told x → LeadsTo told h.config h.asked h.name (Some h.definer) → MayJoin x h → LacksRecord x h.asked h.name → (Refused (state_of x) (asked_record h) → ⊥)
+    → (content : Content) → told ≡ Some content → May (setting_of x.config x.script content) (state_of x) (Initiate h.name h.definer h.asked)
 may_initiate told x h k leads may fresh free content e =
-    joined_is_allowed content x h (subst (λ (t : Option Content). IsKept t x) e k) (subst (λ (t : Option Content). LeadsTo t h.config h.asked h.name (Some h.place)) e leads) may fresh free
+    joined_is_allowed content x h (subst (λ (t : Option Content). IsKept t x) e k) (subst (λ (t : Option Content). LeadsTo t h.config h.asked h.name (Some h.definer)) e leads) may fresh free
 
 abbrev pub event_by : Located → Event
-event_by h = events.Initiate (class h.name h.place) h.asked
+event_by h = events.Initiate (class h.name h.definer) h.asked
 
-state_initiate : (x : Shown) (h : Located) → state_of (with_initiate x h) ≡ after (state_of x) (Initiate h.name h.place h.asked)
+state_initiate : (x : Shown) (h : Located) → state_of (with_initiate x h) ≡ after (state_of x) (Initiate h.name h.definer h.asked)
 state_initiate x h = state_event x x.rows (event_by h)
 
-pub kept_by_initiate : (told : Option Content) (x : Shown) (h : Located) → IsKept told x → LeadsTo told h.config h.asked h.name (Some h.place) → h.place < length h.config.loaders → MayJoin x h → LacksRecord x h.asked h.name
+pub kept_by_initiate : (told : Option Content) (x : Shown) (h : Located) → IsKept told x → LeadsTo told h.config h.asked h.name (Some h.definer) → h.definer < length h.config.loaders → MayJoin x h → LacksRecord x h.asked h.name
     → (Refused (state_of x) (asked_record h) → ⊥) → IsKept told (with_initiate x h)
 kept_by_initiate told x h k leads within may fresh free =
     kept_event told x x.rows (event_by h) k
     (record {
       silent = refl;
-      allows = (may.defined, may_record (state_of x) h.asked h.place h.name fresh free);
+      allows = (may.defined, may_record (state_of x) h.asked h.definer h.name fresh free);
       may = may_initiate told x h k leads may fresh free;
-      names = (subst (λ (c : Configured). h.place < length c.loaders) may.config within, may.loader);
+      names = (subst (λ (c : Configured). h.definer < length c.loaders) may.config within, may.loader);
     })
     (rows_same told x (event_by h) k refl)
     (same_rounds x x.rows (event_by h) k.trusted (ap (λ (s : State). s.round) (state_initiate x h)))
     (none_settled told x (event_by h) k refl)
 
-looked_initiate : (told : Option Content) (x : Shown) (h : Located) (row : Rowed) → IsKept told x → LacksRecord x h.asked h.name → row_of x.rows (class h.name h.place) ≡ Some row
+looked_initiate : (told : Option Content) (x : Shown) (h : Located) (row : Rowed) → IsKept told x → LacksRecord x h.asked h.name → row_of x.rows (class h.name h.definer) ≡ Some row
     → (l : ℕ) (n : List ℕ) → looked_row (with_initiate x h) l n ≡ (if (h.asked == l) && pointwise nat_eq h.name n then Some row else looked_row x l n)
 looked_initiate told x h row k fresh is =
-    looked_push told x (with_initiate x h) (record { loader = h.asked; name = h.name; place = h.place }) row k (ap (λ (s : State). s.records) (state_initiate x h)) (λ c s e. e) fresh is
+    looked_push told x (with_initiate x h) (record { loader = h.asked; name = h.name; place = h.definer }) row k (ap (λ (s : State). s.records) (state_initiate x h)) (λ c s e. e) fresh is
 
-home_found : (told : Option Content) (x : Shown) (h : Located) (row : Rowed) → IsKept told x → MayJoin x h → looked_row x h.place h.name ≡ Some row → row_of x.rows (class h.name h.place) ≡ Some row
-home_found told x h row k may is = let home = looked_some told x h.place h.place h.name k may.defined in home.found ∙ sym home.looked ∙ is
+home_found : (told : Option Content) (x : Shown) (h : Located) (row : Rowed) → IsKept told x → MayJoin x h → looked_row x h.definer h.name ≡ Some row → row_of x.rows (class h.name h.definer) ≡ Some row
+home_found told x h row k may is = let home = looked_some told x h.definer h.definer h.name k may.defined in home.found ∙ sym home.looked ∙ is
 
 pub kept_initiate : (told : Option Content) (x : Shown) (h : Located) (row : Rowed) (f : Fields) (old new : State → Type 0) (table : ℕ → List ℕ → Option Rowed) (wide : ℕ) (references : Class → ℕ → Option Settled) (prepared : List Class) (used come more : ℕ)
-    → IsRegistry told x f old → LeadsTo told h.config h.asked h.name (Some h.place) → h.place < length h.config.loaders → MayJoin x h → LacksRecord x h.asked h.name → looked_row x h.place h.name ≡ Some row
+    → IsRegistry told x f old → LeadsTo told h.config h.asked h.name (Some h.definer) → h.definer < length h.config.loaders → MayJoin x h → LacksRecord x h.asked h.name → looked_row x h.definer h.name ≡ Some row
     → BookAdds old new (asked_record h) → IsPut f.table table h.asked h.name row → KeepsOthers x f wide references prepared used come more
     → IsRegistry told (with_initiate x h) (moved f table wide references prepared used more) new
 kept_initiate told x h row f old new table wide references prepared used come more k leads within may fresh is adds put others =
@@ -214,14 +214,14 @@ shown_initiate x h history e = ap (λ (hs : List Event). grown x x.rows hs) e
 
 -- the same of fields that a call has made
 pub kept_initiated : (told : Option Content) (x : Shown) (h : Located) (row : Rowed) (f : Fields) (old new : State → Type 0) (table : ℕ → List ℕ → Option Rowed) (wide : ℕ) (references : Class → ℕ → Option Settled) (prepared : List Class) (used come more : ℕ) (history : List Event)
-    → IsRegistry told x f old → LeadsTo told h.config h.asked h.name (Some h.place) → h.place < length h.config.loaders → MayJoin x h → LacksRecord x h.asked h.name → looked_row x h.place h.name ≡ Some row
+    → IsRegistry told x f old → LeadsTo told h.config h.asked h.name (Some h.definer) → h.definer < length h.config.loaders → MayJoin x h → LacksRecord x h.asked h.name → looked_row x h.definer h.name ≡ Some row
     → BookAdds old new (asked_record h) → IsPut f.table table h.asked h.name row → KeepsOthers x f wide references prepared used come more → history ≡ x.history ++ event_by h ∷ []
     → IsRegistry told (record x { history = history }) (moved f table wide references prepared used more) new
 kept_initiated told x h row f old new table wide references prepared used come more history k leads within may fresh is adds put others e =
     subst (λ (y : Shown). IsRegistry told y (moved f table wide references prepared used more) new) (sym (shown_initiate x h history e))
     (kept_initiate told x h row f old new table wide references prepared used come more k leads within may fresh is adds put others)
 
-asked_looked : (told : Option Content) (x : Shown) (h : Located) (row : Rowed) → IsKept told x → MayJoin x h → LacksRecord x h.asked h.name → looked_row x h.place h.name ≡ Some row → looked_row (with_initiate x h) h.asked h.name ≡ Some row
+asked_looked : (told : Option Content) (x : Shown) (h : Located) (row : Rowed) → IsKept told x → MayJoin x h → LacksRecord x h.asked h.name → looked_row x h.definer h.name ≡ Some row → looked_row (with_initiate x h) h.asked h.name ≡ Some row
 asked_looked told x h row k may fresh is =
     looked_initiate told x h row k fresh (home_found told x h row k may is) h.asked h.name ∙ if_self ((h.asked == h.asked) && pointwise nat_eq h.name h.name) row _ (at_self h.asked h.name)
 
@@ -277,13 +277,13 @@ share_refused x h AlreadyPosted may free r = r
 share_refused x h NotYet may free r = r
 
 -- the record of a draft's class, by its home
-pub own_entry : (told : Option Content) (d : Drafted) → IsDraft told d → (name : List ℕ) (place : ℕ) → name ≡ d.class.name → place ≡ d.home.place → Entry place name place ≡ own_record d
+pub own_entry : (told : Option Content) (d : Drafted) → IsDraft told d → (name : List ℕ) (place : ℕ) → name ≡ d.class.name → place ≡ d.home.definer → Entry place name place ≡ own_record d
 own_entry told d draft name place named is =
     let at : place ≡ d.class.loader = is ∙ ap (λ (c : Class). c.loader) (sym draft.placed) in
     ap (λ (n : List ℕ). Entry place n place) named ∙ ap (λ (p : ℕ). Entry p d.class.name p) at
 
 -- the record of a home, by its parts
-pub asked_entry : (h : Located) (asked place : ℕ) (name : List ℕ) → asked ≡ h.asked → place ≡ h.place → name ≡ h.name → Entry asked name place ≡ asked_record h
+pub asked_entry : (h : Located) (asked place : ℕ) (name : List ℕ) → asked ≡ h.asked → place ≡ h.definer → name ≡ h.name → Entry asked name place ≡ asked_record h
 asked_entry h asked place name a p n = ap (λ (l : ℕ). Entry l name place) a ∙ ap (λ (m : List ℕ). Entry h.asked m place) n ∙ ap (λ (q : ℕ). Entry h.asked h.name q) p
 
 -- a record that is blamed, told in other parts

@@ -70,7 +70,7 @@ places_stay rs ss l (a ∷ above) (p ∷ ps) grows h = (grows l p a.name h.0, pl
 
 rows_stay : (rs ss : List Record) (rows : List Rowed) → Grows rs ss → AllByRecursion (IsPlaced rs) rows → AllByRecursion (IsPlaced ss) rows
 rows_stay rs ss [] grows h = tt
-rows_stay rs ss (r ∷ rows) grows h = (places_stay rs ss r.class.loader (supers (file_of r.file)) r.places grows h.0, rows_stay rs ss rows grows h.1)
+rows_stay rs ss (r ∷ rows) grows h = (places_stay rs ss r.class.loader (supers (file_of r.file)) r.definers grows h.0, rows_stay rs ss rows grows h.1)
 
 placed_push : (rs : List Record) (rows : List Rowed) (r : Rowed) → AllByRecursion (IsPlaced rs) rows → IsPlaced rs r → AllByRecursion (IsPlaced rs) (rows ++ r ∷ [])
 placed_push rs [] r h one = (one, tt)
@@ -85,7 +85,7 @@ pub placed_more : (told : Option Content) (x : Shown) (r : Rowed) (e : Event) �
 placed_more told x r e k one =
     let rows = x.rows ++ r ∷ [] in
     placed_push (records_of (with_event x rows e)) x.rows r (placed_event told x rows e k)
-    (places_stay (records_of x) (records_of (with_event x rows e)) r.class.loader (supers (file_of r.file)) r.places (records_event x rows e) one)
+    (places_stay (records_of x) (records_of (with_event x rows e)) r.class.loader (supers (file_of r.file)) r.definers (records_event x rows e) one)
 
 -- ---- what is kept
 

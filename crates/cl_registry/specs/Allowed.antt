@@ -42,7 +42,7 @@ EnteredIsAllowed =
 abbrev pub AllowedIsJoined : Type 0
 AllowedIsJoined =
     (content : Content) (x : Shown) (h : Located) → IsKept (Some content) x → h.config ≡ x.config
-    → MayInitiate (machine x content) (state_of x) h.name h.place h.asked
+    → MayInitiate (machine x content) (state_of x) h.name h.definer h.asked
     → MayJoin x h × LacksRecord x h.asked h.name × (Refused (state_of x) (asked_record h) → ⊥)
 
 -- a home that may be joined, where the loader has no record and this one is not refused, is one by which the machine may record it
@@ -50,9 +50,9 @@ AllowedIsJoined =
 abbrev pub JoinedIsAllowed : Type 0
 JoinedIsAllowed =
     (content : Content) (x : Shown) (h : Located) → IsKept (Some content) x
-    → LeadsTo (Some content) h.config h.asked h.name (Some h.place)
+    → LeadsTo (Some content) h.config h.asked h.name (Some h.definer)
     → MayJoin x h → LacksRecord x h.asked h.name → (Refused (state_of x) (asked_record h) → ⊥)
-    → MayInitiate (machine x content) (state_of x) h.name h.place h.asked
+    → MayInitiate (machine x content) (state_of x) h.name h.definer h.asked
 
 -- an equality of a list that may be imposed, and is neither met nor refused, may be imposed by the machine (5.3.4)
 abbrev pub ImposedIsAllowed : Type 0

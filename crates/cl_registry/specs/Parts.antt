@@ -67,6 +67,6 @@ abbrev pub row_by : (List ℕ → Option ℕ) → Drafted → Rowed
 row_by place d = record {
   class = d.class;
   file = d.file;
-  places = map (place_by place)
+  definers = map (place_by place)
       (supers (file_of d.file));
 }

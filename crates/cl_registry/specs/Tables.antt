@@ -134,7 +134,7 @@ ArePlaced records loader above places = AllZip
 
 -- the direct supertypes of a row are recorded by its class's loader (5.3; 5.3.5, steps 3 and 4)
 abbrev pub IsPlaced : List Record → Rowed → Type 0
-IsPlaced records r = ArePlaced records r.class.loader (supers (file_of r.file)) r.places
+IsPlaced records r = ArePlaced records r.class.loader (supers (file_of r.file)) r.definers
 
 -- what a registry keeps: each class that was defined has its row, whose file its bytes spell, whose direct supertypes are recorded
 -- by its loader, and which stands after those (5.3, 5.3.5)
@@ -233,7 +233,7 @@ Defines old new d row = DefinedAs old new d row
 pub record MayJoin (x : Shown) (h : Located) : Type 0 where
   pub config : h.config ≡ x.config
   pub loader : h.asked < length x.config.loaders
-  pub defined : IsRecorded (state_of x) (class h.name h.place)
+  pub defined : IsRecorded (state_of x) (class h.name h.definer)
 
 -- the loader that was asked is recorded as initiating (5.3)
 abbrev pub with_initiate : Shown → Located → Shown
@@ -244,7 +244,7 @@ with_initiate x h = with_event x (events.Initiate (home_class h) h.asked)
 abbrev pub InitiatedAs : Shown → Shown → Located → Rowed → Option ℕ → Type 0
 InitiatedAs old new h row None =
     MayJoin old h × (Refused (state_of old) (asked_record h) → ⊥) × (new ≡ with_initiate old h)
-    × (looked_row old h.place h.name ≡ Some row)
+    × (looked_row old h.definer h.name ≡ Some row)
 InitiatedAs old new h row (Some place) = (new ≡ old) × (looked_row old h.asked h.name ≡ Some row)
 
 -- the loader that was asked is recorded, by an event more unless it has recorded the name before (5.3)

@@ -235,14 +235,14 @@ pub fn asked_row<'a, T: Told>(tables: &'a Rows<T>, home: &Home<T>) -> Option<&'a
 
 /// The row of the class of a home, where the home has defined it.
 pub fn defined_row<'a, T: Told>(tables: &'a Rows<T>, home: &Home<T>) -> Option<&'a Arc<ClassRow<T>>>
-    ensures row { IfSome result (λ r. table_row tables.now.items home.now.place home.now.name
+    ensures row { IfSome result (λ r. table_row tables.now.items home.now.definer home.now.name
         ≡ Some r.now) }
     ensures own { MatchOption result
-        (placed_at tables.now.items home.now.place home.now.name ≢ Some home.now.place)
-        (λ r. r.now.value.class.loader ≡ home.now.place) }
+        (placed_at tables.now.items home.now.definer home.now.name ≢ Some home.now.definer)
+        (λ r. r.now.value.class.loader ≡ home.now.definer) }
 {
-    let row = find(tables, home.place(), home.name())?;
-    if row.class().loader != home.place() {
+    let row = find(tables, home.definer(), home.name())?;
+    if row.class().loader != home.definer() {
         return None;
     }
     Some(row)
@@ -254,7 +254,7 @@ fn event_of<T: Told>(alloc: Global, home: &Home<T>) -> Result<Event, AllocError>
 {
     let class = Class {
         name: home.name().try_clone(alloc)?,
-        loader: home.place(),
+        loader: home.definer(),
     };
     Ok(Event::Initiate(class, home.asked_loader()))
 }
@@ -303,8 +303,8 @@ pub fn join<T: Told>(
     let answered = Arc::try_clone(&row)?;
     history.reserve(left + 1)?;
     reserve_row(tables, home.asked_loader())?;
-    if let Err(refusal) = book.enter(alloc, name, home.asked_loader(), home.place()) {
-        return Err(entry_fault(refusal, home.asked_loader(), home.place()));
+    if let Err(refusal) = book.enter(alloc, name, home.asked_loader(), home.definer()) {
+        return Err(entry_fault(refusal, home.asked_loader(), home.definer()));
     }
     insert_reserved(tables, home.asked_loader(), key, row);
     history.push_reserved(event);

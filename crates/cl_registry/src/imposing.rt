@@ -281,7 +281,7 @@ impl<T: Told> Registry<T> {
         ensures { Decides result (ArePreparedAbove self.now row.now.class
             (supers (file_of row.now.file))) }
     {
-        for at in 0..row.places().len() {
+        for at in 0..row.definers().len() {
             // (one that is named again was looked for)
             if row.first_of_name(at) == at && !self.super_prepared(row, at) {
                 return false;

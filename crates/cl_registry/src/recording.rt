@@ -138,7 +138,7 @@ impl<T: Told> Registry<T> {
         ensures unchanged { IfErr result (λ fault. self.new ≡ self.old) }
         ensures kept { IsKept T.told self.new }
     {
-        let home = draft.home().place();
+        let home = draft.home().definer();
         if !self.book.admits(&name, home, home) {
             return Err(RegistryFault::Violates(Need::Entry {
                 loader: home,
@@ -205,11 +205,11 @@ impl<T: Told> Registry<T> {
         ensures unchanged { IfErr result (λ fault. self.new ≡ self.old) }
         ensures kept { IsKept T.told self.new }
     {
-        if !self.book.admits(&name, home.asked_loader(), home.place()) {
+        if !self.book.admits(&name, home.asked_loader(), home.definer()) {
             return Err(RegistryFault::Violates(Need::Entry {
                 loader: home.asked_loader(),
                 name,
-                home: home.place(),
+                home: home.definer(),
             }));
         }
         let row = match self.shared_row(home) {
@@ -253,11 +253,11 @@ impl<T: Told> Registry<T> {
     fn home_row(&self, home: &Home<T>) -> Option<&Arc<ClassRow<T>>>
         ensures none { MatchOption result (MayJoin self.now home.now → ⊥)
             (λ r. MayJoin self.now home.now) }
-        ensures row { IfSome result (λ r. looked_row self.now home.now.place home.now.name
+        ensures row { IfSome result (λ r. looked_row self.now home.now.definer home.now.name
             ≡ Some r.now.value) }
         ensures leads { LeadsTo T.told home.now.config home.now.asked home.now.name
-            (Some home.now.place) }
-        ensures within { home.now.place < length home.now.config.loaders }
+            (Some home.now.definer) }
+        ensures within { home.now.definer < length home.now.config.loaders }
         ensures kept { IsKept T.told self.now }
     {
         if !home.config().is_same(&self.config)
@@ -271,12 +271,12 @@ impl<T: Told> Registry<T> {
     /// The same row, shared once more.
     fn shared_row(&self, home: &Home<T>) -> Result<Arc<ClassRow<T>>, RegistryFault>
         ensures may { IfOk result (λ r. MayJoin self.now home.now) }
-        ensures row { IfOk result (λ r. looked_row self.now home.now.place home.now.name
+        ensures row { IfOk result (λ r. looked_row self.now home.now.definer home.now.name
             ≡ Some r.value) }
         ensures refused { IfErr result (MemoryOrStray (MayJoin self.now home.now)) }
         ensures leads { LeadsTo T.told home.now.config home.now.asked home.now.name
-            (Some home.now.place) }
-        ensures within { home.now.place < length home.now.config.loaders }
+            (Some home.now.definer) }
+        ensures within { home.now.definer < length home.now.config.loaders }
     {
         let row = match self.home_row(home) {
             Some(row) => row,

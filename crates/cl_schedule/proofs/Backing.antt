@@ -176,7 +176,7 @@ call_backed_later told old new (turn.Define d) kept h call backed = enter_later 
 call_backed_later told old new (turn.Initiate j) kept h call backed = record {
   config = backed.config ∙ sym h.goes.config;
   loader = subst (λ (c : Configured). j.value.asked < length c.loaders) (sym h.goes.config) backed.loader;
-  defined = record_later old new j.value.place j.value.place j.value.name h.goes backed.defined;
+  defined = record_later old new j.value.definer j.value.definer j.value.name h.goes backed.defined;
 }
 call_backed_later told old new (turn.Lineage c) kept h call backed = record_later old new c.loader c.loader c.name h.goes backed
 call_backed_later told old new (turn.Settle f) kept h call backed = settle_later told old new f h backed

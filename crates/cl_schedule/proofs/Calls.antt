@@ -43,11 +43,11 @@ did_define x new d row defines = by_record (recorded_definer (records_of x) d.cl
     by_record None (may, fits, more, is) = inr (Define d.class, refl, goes_by x new (events.Define d.class) (row_for x d ∷ []) more refl)
     by_record (Some place) (same, shown) = inl same
 
-pub did_initiate : (x new : Shown) (h : Located) (row : Rowed) → Initiates x new h row → Did x new (λ e. e ≡ Initiate h.name h.place h.asked)
+pub did_initiate : (x new : Shown) (h : Located) (row : Rowed) → Initiates x new h row → Did x new (λ e. e ≡ Initiate h.name h.definer h.asked)
 did_initiate x new h row initiates = by_record (recorded_definer (records_of x) h.asked h.name) initiates
   where
-    by_record : (o : Option ℕ) → InitiatedAs x new h row o → Did x new (λ e. e ≡ Initiate h.name h.place h.asked)
-    by_record None (may, fits, more, shown) = inr (Initiate h.name h.place h.asked, refl, goes_event x new (events.Initiate (class h.name h.place) h.asked) more refl)
+    by_record : (o : Option ℕ) → InitiatedAs x new h row o → Did x new (λ e. e ≡ Initiate h.name h.definer h.asked)
+    by_record None (may, fits, more, shown) = inr (Initiate h.name h.definer h.asked, refl, goes_event x new (events.Initiate (class h.name h.definer) h.asked) more refl)
     by_record (Some place) (same, shown) = inl same
 
 pub did_settle : (x new : Shown) (f : Answered) (s : Settled) → Settles x new f s → Did x new (SettlesBy x f)

@@ -149,7 +149,7 @@ rows_later old new h (r ∷ rs) all =
       record {
         recorded = record_later old new r.class.loader r.class.loader r.class.name h one.recorded;
         kept = row_stays old.rows h.more new.rows r.class r h.rows one.kept;
-        placed = placed_later old new r.class.loader h (supers (file_of r.file)) r.places one.placed;
+        placed = placed_later old new r.class.loader h (supers (file_of r.file)) r.definers one.placed;
       },
       rows_later old new h rs all.1,
     )

@@ -65,13 +65,13 @@ step_of_call x other e is = absurd is
 define_for : (c : Class) → step_for (Entry c.loader c.name c.loader) ≡ Define c
 define_for c = rw (nat_eq_equiv.refl c.loader) refl
 
-initiate_for : (h : Located) → (h.asked ≡ h.place → ⊥) → step_for (Entry h.asked h.name h.place) ≡ Initiate h.name h.place h.asked
-initiate_for h other = by_test (nat_eq h.asked h.place) (differ h.asked h.place other)
+initiate_for : (h : Located) → (h.asked ≡ h.definer → ⊥) → step_for (Entry h.asked h.name h.definer) ≡ Initiate h.name h.definer h.asked
+initiate_for h other = by_test (nat_eq h.asked h.definer) (differ h.asked h.definer other)
   where
     differ : (a b : ℕ) → (a ≡ b → ⊥) → nat_eq a b ≡ false
     differ a b ne = grind (arith, nat_tests)
 
-    by_test : (b : Bool) → b ≡ false → (if b then Define (class h.name h.place) else Initiate h.name h.place h.asked) ≡ Initiate h.name h.place h.asked
+    by_test : (b : Bool) → b ≡ false → (if b then Define (class h.name h.definer) else Initiate h.name h.definer h.asked) ≡ Initiate h.name h.definer h.asked
     by_test b e = rw e refl
 
 -- the entry that a request resolves is of the class that its loader has recorded
@@ -112,7 +112,7 @@ next_of g x r t new (turn.Define d) e follows serves request is may =
     let here : step_for (Entry d.class.loader d.class.name d.class.loader) ≡ e = define_for d.class ∙ sym is in
     subst (IsNextStep g (state_of x) (request_of r)) here (follows.step (subst (May g (state_of x)) is may).may_add)
 next_of g x r t new (turn.Initiate h) e follows serves request is may =
-    let here : step_for (Entry h.value.asked h.value.name h.value.place) ≡ e = initiate_for h.value follows.1 ∙ sym is in
+    let here : step_for (Entry h.value.asked h.value.name h.value.definer) ≡ e = initiate_for h.value follows.1 ∙ sym is in
     subst (IsNextStep g (state_of x) (request_of r)) here (follows.0.step (subst (May g (state_of x)) is may).may_add)
 next_of g x r t new (turn.Settle f) e follows serves request is may =
     settle_next g x r f e is.0 follows (some_same f.request r (sym serves.0 ∙ request)) is.1 is.2 may

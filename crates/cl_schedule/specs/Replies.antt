@@ -82,7 +82,7 @@ DefinesByStep d e = e ≡ Define d.class
 
 -- a loader that was asked is recorded by this step (5.3)
 abbrev pub InitiatesBy : Located → Step → Type 0
-InitiatesBy h e = e ≡ Initiate h.name h.place h.asked
+InitiatesBy h e = e ≡ Initiate h.name h.definer h.asked
 
 -- the step that a call may add (5.3 to 5.4.3)
 abbrev pub IsStepOf : {A : Type 0} → Shown → Turn A → Step → Type 0

@@ -104,14 +104,14 @@ alone [] x y e = (refl, cc)
 alone (z ∷ zs) x y e = absurd (ends_in zs x cc)
 
 -- the home was, which is the loader that was asked where the frame's loader is the request's
-pub defined_own : {A : Type 0} (c : Configured) (j : Job A) (w : Framed) (row : Arc (ClassRow A) Global) (new : Tasked) (t : Turn A) → IsFor j.request j.target j.path → w.draft.class.loader ≡ w.draft.home.place
-    → (IsOwnTarget j.target → j.path.frames ≡ [] → w.draft.home.place ≡ at_loader j.path → GoesOnWith j.request row.value.class new t) → AnswersOwn (loading_at c (loads.Defining j w)) new (reply.Defined row) t
+pub defined_own : {A : Type 0} (c : Configured) (j : Job A) (w : Framed) (row : Arc (ClassRow A) Global) (new : Tasked) (t : Turn A) → IsFor j.request j.target j.path → w.draft.class.loader ≡ w.draft.home.definer
+    → (IsOwnTarget j.target → j.path.frames ≡ [] → w.draft.home.definer ≡ at_loader j.path → GoesOnWith j.request row.value.class new t) → AnswersOwn (loading_at c (loads.Defining j w)) new (reply.Defined row) t
 defined_own c j w row new t for placed goes =
     λ r f e frames loader facts.
     let last = alone (frames_of j.path) (frame_of w) f frames in
     let none = none_framed j.path.frames last.0 in
     let own = own_looked j.request j.target j.path facts none for in
-    let at : w.draft.home.place ≡ at_loader j.path =
+    let at : w.draft.home.definer ≡ at_loader j.path =
     sym placed ∙ ap (λ (k : Frame). k.class.loader) last.1 ∙ loader ∙ ap loader_of (sym (some_same _ _ e)) ∙ sym own.0 in
     subst (λ (q : Request). GoesOnWith q row.value.class new t) (some_same _ _ e) (goes (own_of j.request j.target facts) none at)
 

@@ -6,7 +6,7 @@ use Rattle.cl_model.specs.Frames.{Frame}
 use Rattle.cl_config.specs.Views.{Configured}
 use Rattle.cl_delegation.specs.Searches.{Located}
 use Rattle.cl_hierarchy.specs.Drafts.{Drafted}
-use Rattle.cl_hierarchy.specs.Frames.{Framed, frame_of, with_place}
+use Rattle.cl_hierarchy.specs.Frames.{Framed, frame_of, with_definer}
 use Rattle.cl_hierarchy.specs.Paths.{Accepts, Completes, Pathed, at_loader, at_name, fresh, frames_of, sought_class, with_frame}
 use Rattle.cl_findings.specs.Findings.{Answered}
 use Rattle.cl_findings.specs.Loads.{IsSought}
@@ -111,29 +111,29 @@ descends_derives p new d s is h =
     (λ c k. derived_more p.frames (fresh d) c (subst (λ (q : Pathed). IsDerived (frames_of q) c) is k)) (λ c k. absurd k) h
 
 -- it accepted a supertype, and wants another
-pub accepts_derives : {A : Type 0} (old new : Pathed) (place : ℕ) (s : Stage A) → Accepts old new place → Derives IsNone (frames_of new) s → Derives IsNone (frames_of old) s
-accepts_derives old new place s step h =
+pub accepts_derives : {A : Type 0} (old new : Pathed) (definer : ℕ) (s : Stage A) → Accepts old new definer → Derives IsNone (frames_of new) s → Derives IsNone (frames_of old) s
+accepts_derives old new definer s step h =
     derives_by IsNone IsNone (frames_of old) (frames_of new) s
     (λ c k. inl (subst (λ (fs : List Framed). IsDerived (map frame_of fs) c) (sym step.split)
-    (derived_as step.before (with_place step.last place) step.last c refl (subst (λ (q : Pathed). IsDerived (frames_of q) c) step.now k)))) (λ c k. k) h
+    (derived_as step.before (with_definer step.last definer) step.last c refl (subst (λ (q : Pathed). IsDerived (frames_of q) c) step.now k)))) (λ c k. k) h
 
 -- it accepted its last one, and is to be defined
-pub completes_derives : {A : Type 0} (j : Job A) (old : Pathed) (place : ℕ) (x : Framed) (n : Next A) → Completes old j.path place x → DefinesBy j x n → Derives IsNone (frames_of old) n.stage
-completes_derives j old place x n step (inl is) = subst (λ (m : Next _). Derives IsNone (frames_of old) m.stage) (sym is) tt
-completes_derives j old place x n step (inr is) =
+pub completes_derives : {A : Type 0} (j : Job A) (old : Pathed) (definer : ℕ) (x : Framed) (n : Next A) → Completes old j.path definer x → DefinesBy j x n → Derives IsNone (frames_of old) n.stage
+completes_derives j old definer x n step (inl is) = subst (λ (m : Next _). Derives IsNone (frames_of old) m.stage) (sym is) tt
+completes_derives j old definer x n step (inr is) =
     subst (λ (m : Next _). Derives IsNone (frames_of old) m.stage) (sym is)
     (λ c k. inl (subst (λ (fs : List Framed). IsDerived (map frame_of fs) c) (sym step.split)
     (derived_as step.before x step.last c (ap (λ (f : Framed). f.draft.class) step.whole_is)
     (subst (λ (fs : List Frame). IsDerived fs c) (sym (map_last step.before x)) (subst (λ (q : Pathed). IsDerived (frames_of q ++ frame_of x ∷ []) c) step.now k)))))
 
 -- the class of a home is derived
-pub home_derives : {A : Type 0} (p : Pathed) (h : Located) (c : Class) (s : Stage A) → c ≡ class h.name h.place → Derives (λ k. k ≡ c) (frames_of p) s → Derives (IsHomeClass h) (frames_of p) s
+pub home_derives : {A : Type 0} (p : Pathed) (h : Located) (c : Class) (s : Stage A) → c ≡ class h.name h.definer → Derives (λ k. k ≡ c) (frames_of p) s → Derives (IsHomeClass h) (frames_of p) s
 home_derives p h c s is k = derives_more (λ k. k ≡ c) (IsHomeClass h) (frames_of p) s (λ d e. e ∙ is) k
 
 -- and the loader that is asked is its home
-pub sought_derives : {A : Type 0} (p : Pathed) (h : Located) (s : Stage A) → IsSought p h → h.place ≡ at_loader p → Derives (IsHomeClass h) (frames_of p) s → Derives (IsSoughtHere p) (frames_of p) s
+pub sought_derives : {A : Type 0} (p : Pathed) (h : Located) (s : Stage A) → IsSought p h → h.definer ≡ at_loader p → Derives (IsHomeClass h) (frames_of p) s → Derives (IsSoughtHere p) (frames_of p) s
 sought_derives p h s sought same k =
-    derives_more (IsHomeClass h) (IsSoughtHere p) (frames_of p) s (λ d e. e ∙ ap (λ (n : List ℕ). class n h.place) sought.name ∙ ap (λ (l : ℕ). class (at_name p) l) same) k
+    derives_more (IsHomeClass h) (IsSoughtHere p) (frames_of p) s (λ d e. e ∙ ap (λ (n : List ℕ). class n h.definer) sought.name ∙ ap (λ (l : ℕ). class (at_name p) l) same) k
 
 -- nothing was found there
 pub unfound_derives : {A B : Type 0} (p : Pathed) (h : Located) (o : Option B) (s : Stage A) → o ≡ None → Derives (IsHomeClass h) (frames_of p) s → Derives (IsUnfound h o) (frames_of p) s

@@ -8,7 +8,7 @@ use Rattle.cl_model.specs.Classes.{class, Above, supers}
 use Rattle.cl_model.specs.Frames.{Frame, wanted_supertype, with_accepted}
 use Rattle.cl_model.proofs.Measures.{push_falls, load_falls, accept_falls, pop_falls, turn_falls}
 use Rattle.cl_hierarchy.specs.Drafts.{Drafted}
-use Rattle.cl_hierarchy.specs.Frames.{Framed, frame_of, with_place}
+use Rattle.cl_hierarchy.specs.Frames.{Framed, frame_of, with_definer}
 use Rattle.cl_hierarchy.specs.Paths.{Pathed, frames_of, fresh, IsPath, with_frame, Accepts, Completes}
 use Rattle.cl_hierarchy.proofs.Frames.{accepts_one, none_yet}
 use Rattle.cl_tasks.specs.Measures.{Phase, Fresh, Looking, Reading, Homing, Defining, Initiating, most, turns, left_while_loading, left_once_ended, left_at}
@@ -52,24 +52,24 @@ before_within told p before last path split =
     omega arith
 
 -- the next supertype leaves less
-pub accept_less : (told : Option Content) (old new : Pathed) (place : ℕ) → IsPath told old → Accepts old new place → left_while_loading (frames_of new) < left_once_ended (frames_of old)
-accept_less told old new place path step =
+pub accept_less : (told : Option Content) (old new : Pathed) (definer : ℕ) → IsPath told old → Accepts old new definer → left_while_loading (frames_of new) < left_once_ended (frames_of old)
+accept_less told old new definer path step =
     let before = step.before in
     let last = step.last in
     let top = top_of told old before last path step.split in
     let f = frame_of last in
-    let t = class top.above.name place in
+    let t = class top.above.name definer in
     let xs = map frame_of before in
-    let grown : frame_of (with_place last place) ≡ with_accepted f t = accepts_one last (with_place last place) place refl (Some top.above) top.wants in
-    let next = some_of (wanted_supertype (frame_of (with_place last place))) step.waits in
-    let frames : frames_of new ≡ xs ++ with_accepted f t ∷ [] = ap frames_of step.now ∙ map_last before (with_place last place) ∙ ap (λ (y : Frame). xs ++ y ∷ []) grown in
+    let grown : frame_of (with_definer last definer) ≡ with_accepted f t = accepts_one last (with_definer last definer) definer refl (Some top.above) top.wants in
+    let next = some_of (wanted_supertype (frame_of (with_definer last definer))) step.waits in
+    let frames : frames_of new ≡ xs ++ with_accepted f t ∷ [] = ap frames_of step.now ∙ map_last before (with_definer last definer) ∙ ap (λ (y : Frame). xs ++ y ∷ []) grown in
     subst (λ (fs : List Frame). left_while_loading fs < left_once_ended (frames_of old)) (sym frames)
     (subst (λ (fs : List Frame). left_while_loading (xs ++ with_accepted f t ∷ []) < left_once_ended fs) (sym top.frames)
     (accept_falls most most xs f t next.0 (before_within told old before last path step.split) (ap wanted_supertype (sym grown) ∙ next.1)))
 
 -- the end of a frame leaves less
-pub complete_less : (told : Option Content) (old new : Pathed) (place : ℕ) (x : Framed) → IsPath told old → Completes old new place x → left_once_ended (frames_of new) < left_once_ended (frames_of old)
-complete_less told old new place x path step =
+pub complete_less : (told : Option Content) (old new : Pathed) (definer : ℕ) (x : Framed) → IsPath told old → Completes old new definer x → left_once_ended (frames_of new) < left_once_ended (frames_of old)
+complete_less told old new definer x path step =
     let before = step.before in
     let last = step.last in
     let xs = map frame_of before in
@@ -175,9 +175,9 @@ pub descends_less : (told : Option Content) (p : Pathed) (d : Drafted) (phase : 
 descends_less told p d phase probes more path w few waits = loading_less phase (frames_of p) probes (left_while_loading (frames_of (with_frame p (fresh d)))) (most + 7) w (push_less told p d path few waits) turns_more
 
 -- the next supertype is looked for
-pub accepts_less : (told : Option Content) (old new : Pathed) (place : ℕ) (phase : Phase) (probes more : ℕ) → IsPath told old → IsAtWork phase → Accepts old new place → left_at Looking (frames_of new) more < left_at phase (frames_of old) probes
-accepts_less told old new place phase probes more path w step = ended_less phase (frames_of old) probes (left_while_loading (frames_of new)) (most + 7) w (load_less told old path) (accept_less told old new place path step) turns_more
+pub accepts_less : (told : Option Content) (old new : Pathed) (definer : ℕ) (phase : Phase) (probes more : ℕ) → IsPath told old → IsAtWork phase → Accepts old new definer → left_at Looking (frames_of new) more < left_at phase (frames_of old) probes
+accepts_less told old new definer phase probes more path w step = ended_less phase (frames_of old) probes (left_while_loading (frames_of new)) (most + 7) w (load_less told old path) (accept_less told old new definer path step) turns_more
 
 -- a class has all its supertypes, and is to be recorded
-pub completes_less : (told : Option Content) (old new : Pathed) (place : ℕ) (x : Framed) (phase : Phase) (probes more : ℕ) → IsPath told old → IsAtWork phase → Completes old new place x → left_at Defining (frames_of new) more < left_at phase (frames_of old) probes
-completes_less told old new place x phase probes more path w step = ended_less phase (frames_of old) probes (left_once_ended (frames_of new)) 3 w (load_less told old path) (complete_less told old new place x path step) few_turns
+pub completes_less : (told : Option Content) (old new : Pathed) (definer : ℕ) (x : Framed) (phase : Phase) (probes more : ℕ) → IsPath told old → IsAtWork phase → Completes old new definer x → left_at Defining (frames_of new) more < left_at phase (frames_of old) probes
+completes_less told old new definer x phase probes more path w step = ended_less phase (frames_of old) probes (left_once_ended (frames_of new)) 3 w (load_less told old path) (complete_less told old new definer x path step) few_turns

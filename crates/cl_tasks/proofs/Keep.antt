@@ -11,7 +11,7 @@ use Rattle.cl_model.specs.Frames.{Frame, wanted_supertype, asking_loader, with_a
 use Rattle.cl_config.specs.Views.{Configured}
 use Rattle.cl_hierarchy.specs.Rows.{FitsAs, Rowed}
 use Rattle.cl_hierarchy.specs.Drafts.{Drafted}
-use Rattle.cl_hierarchy.specs.Frames.{Framed, accepted_of, frame_of, with_place}
+use Rattle.cl_hierarchy.specs.Frames.{Framed, accepted_of, frame_of, with_definer}
 use Rattle.cl_hierarchy.specs.Paths.{Pathed, frames_of, fresh, name_of, sought_name, at_loader, at_name, FrameStands, AllStand, IsPath, with_frame, misfit_in, misfit_under, Accepts, Completes}
 use Rattle.cl_model.proofs.Stacks.{complete_is_kept}
 use Rattle.cl_model.proofs.Ancestors.{class_at}
@@ -110,11 +110,11 @@ accepting_has x f a t h want k = more_accepted x f.class f.accepted t (supers f.
 
 -- the last frame has accepted a row that was told and fits
 pub takes : (x : Shown) (p : Pathed) (before : List Framed) (last : Framed) (row : Rowed) → Top p before last → Has x (frame_of last) → IsRecordedAs x (at_loader p) (at_name p) row
-    → misfit_under p.frames row.class (file_of row.file) ≡ None → Has x (frame_of (with_place last row.class.loader))
+    → misfit_under p.frames row.class (file_of row.file) ≡ None → Has x (frame_of (with_definer last row.class.loader))
 takes x p before last row top h told fits =
     let c = last.draft.class in
     let a = top.above in
-    let f : frame_of (with_place last row.class.loader) ≡ with_accepted (frame_of last) (class a.name row.class.loader) = accepts_one last (with_place last row.class.loader) row.class.loader refl (Some a) top.wants in
+    let f : frame_of (with_definer last row.class.loader) ≡ with_accepted (frame_of last) (class a.name row.class.loader) = accepts_one last (with_definer last row.class.loader) row.class.loader refl (Some a) top.wants in
     let by_name : IsRecordedAs x (at_loader p) a.name row = subst (λ (n : Name). IsRecordedAs x (at_loader p) n row) top.name told in
     let by_loader : IsRecordedAs x c.loader a.name row = subst (λ (l : ℕ). IsRecordedAs x l a.name row) top.loader by_name in
     subst (λ (z : Frame). Has x z) (sym f) (accepting_has x (frame_of last) a (class a.name row.class.loader) h top.wants (record {
@@ -149,7 +149,7 @@ accepts_holds told x old new row path h told_row fits step =
     let top = top_of told old step.before step.last path step.split in
     let has = split_have x old step.before step.last step.split h in
     subst (λ (p : Pathed). AllHave x (frames_of p)) (sym step.now)
-    (framed_other (Has x) step.before step.last (with_place step.last row.class.loader) has
+    (framed_other (Has x) step.before step.last (with_definer step.last row.class.loader) has
     (takes x old step.before step.last row top (framed_last (Has x) step.before step.last has) told_row fits))
 
 -- the last class is complete: those before it are left, and it has accepted all its supertypes

@@ -42,33 +42,33 @@ known_have : (P : Class → Type 0) (known : List Kin) (cs : List Class) → All
 known_have P known [] h k = tt
 known_have P known (c ∷ cs) h k = (named_has P known c h k.0, known_have P known cs h k.1)
 
-accepted_both : (xs ys : List Above) (places : List ℕ) → accepted_of (xs ++ ys) places ≡ accepted_of xs places ++ accepted_of ys (drop (length xs) places)
-accepted_both [] ys places = refl
+accepted_both : (xs ys : List Above) (definers : List ℕ) → accepted_of (xs ++ ys) definers ≡ accepted_of xs definers ++ accepted_of ys (drop (length xs) definers)
+accepted_both [] ys definers = refl
 accepted_both (a ∷ xs) ys [] = nothing ys
   where
     nothing : (zs : List Above) → [] ≡ accepted_of zs []
     nothing [] = refl
     nothing (z ∷ zs) = refl
-accepted_both (a ∷ xs) ys (p ∷ places) = ap (λ (cs : List Class). class a.name p ∷ cs) (accepted_both xs ys places)
+accepted_both (a ∷ xs) ys (p ∷ definers) = ap (λ (cs : List Class). class a.name p ∷ cs) (accepted_both xs ys definers)
 
 -- ---- the supertypes of the class at a place
 
 above_all : (P : Class → Type 0) (l : Lined) (place : ℕ) (r : Rowed) → IsInOrder l → slice_get (rows_in l) place ≡ Some r → AllByRecursion P (map (λ row. row.class) (take place (rows_in l)))
-    → AllByRecursion P (accepted_of (supers (file_of r.file)) r.places)
+    → AllByRecursion P (accepted_of (supers (file_of r.file)) r.definers)
 above_all P l place r order at before =
     let known = kins_after [] (take place (rows_in l)) in
     let after = after_at [] (rows_in l) place r (before_push [] l.above l.own order.above order.own) at in
     let have = known_all P [] (take place (rows_in l)) tt before in
-    subst (λ (cs : List Class). AllByRecursion P cs) (sym (accepted_both (superclass_of (file_of r.file)) (superinterfaces_of (file_of r.file)) r.places))
+    subst (λ (cs : List Class). AllByRecursion P cs) (sym (accepted_both (superclass_of (file_of r.file)) (superinterfaces_of (file_of r.file)) r.definers))
     (all_both P (superclass_in r) (interfaces_in r) (known_have P known (superclass_in r) have after.superclass) (known_have P known (interfaces_in r) have after.interfaces))
 
-prepared_above : (x : Shown) (c : Class) (above : List Above) (places : List ℕ) → ArePlaced (records_of x) c.loader above places → AllByRecursion (Contains (state_of x).prepared) (accepted_of above places)
+prepared_above : (x : Shown) (c : Class) (above : List Above) (definers : List ℕ) → ArePlaced (records_of x) c.loader above definers → AllByRecursion (Contains (state_of x).prepared) (accepted_of above definers)
     → AllByRecursion (IsPreparedAbove x c) above
-prepared_above x c [] places h k = tt
+prepared_above x c [] definers h k = tt
 prepared_above x c (a ∷ above) [] h k = absurd h
-prepared_above x c (a ∷ above) (p ∷ places) h k = (record { place = p; recorded = h.0; prepared = k.0 }, prepared_above x c above places h.1 k.1)
+prepared_above x c (a ∷ above) (p ∷ definers) h k = (record { place = p; recorded = h.0; prepared = k.0 }, prepared_above x c above definers h.1 k.1)
 
 pub supers_prepared : (x : Shown) (l : Lined) (place : ℕ) (r : Rowed) → IsInOrder l → slice_get (rows_in l) place ≡ Some r → IsPlaced (records_of x) r
     → AllByRecursion (Contains (state_of x).prepared) (map (λ row. row.class) (take place (rows_in l))) → AllByRecursion (IsPreparedAbove x r.class) (supers (file_of r.file))
 supers_prepared x l place r order at placed before =
-    prepared_above x r.class (supers (file_of r.file)) r.places placed (above_all (Contains (state_of x).prepared) l place r order at before)
+    prepared_above x r.class (supers (file_of r.file)) r.definers placed (above_all (Contains (state_of x).prepared) l place r order at before)

@@ -134,15 +134,15 @@ home_finds x c j h None t = record { frames = t.before.frames; facts = t.before.
 home_finds x c j h (Some row) t = record { before = record { frames = t.before.frames; facts = t.before.facts }; now = t.now }
 
 home_absent : {A : Type 0} (c : Configured) (j : Job A) (h : Located) (o : Option (Arc (ClassRow A) Global)) → h.name ≡ at_name j.path → (k : Class) → IsUnfound h o k → WasAbsent {A = A} (loading_at c (loads.Homing j h)) (reply.Looked o) k
-home_absent c j h None named k e = inr (ap (λ (d : Class). waits.Looking d.loader d.name) (sym (e ∙ ap (λ (n : List ℕ). class n h.place) named)))
+home_absent c j h None named k e = inr (ap (λ (d : Class). waits.Looking d.loader d.name) (sym (e ∙ ap (λ (n : List ℕ). class n h.definer) named)))
 home_absent c j h (Some row) named k e = absurd e
 
 home_calls : {A : Type 0} (told : Option Content) (j : Job A) (h : Located) (o : Option (Arc (ClassRow A) Global)) → IsHoming j h
-    → Holds told j (λ x. TellsNow {A = A} x (loading_at j.path.config (loads.Homing j h)) (reply.Looked o)) 1 (calls_found j h.place o) (job_calls [] (sought_ask j.path ∷ []) 2 j)
-home_calls {A = A} told j h None homing = unfound_holds told j h.place (λ x. TellsNow {A = A} x (loading_at j.path.config (loads.Homing j h)) (reply.Looked None)) (λ e. homing.other (sym e)) (λ x t. t.unrecorded)
-home_calls {A = A} told j h (Some row) homing = found_holds told j h.place (λ x. TellsNow {A = A} x (loading_at j.path.config (loads.Homing j h)) (reply.Looked (Some row))) (λ e. homing.other (sym e))
+    → Holds told j (λ x. TellsNow {A = A} x (loading_at j.path.config (loads.Homing j h)) (reply.Looked o)) 1 (calls_found j h.definer o) (job_calls [] (sought_ask j.path ∷ []) 2 j)
+home_calls {A = A} told j h None homing = unfound_holds told j h.definer (λ x. TellsNow {A = A} x (loading_at j.path.config (loads.Homing j h)) (reply.Looked None)) (λ e. homing.other (sym e)) (λ x t. t.unrecorded)
+home_calls {A = A} told j h (Some row) homing = found_holds told j h.definer (λ x. TellsNow {A = A} x (loading_at j.path.config (loads.Homing j h)) (reply.Looked (Some row))) (λ e. homing.other (sym e))
 
-pub steps_home : {A : Type 0} (told : Option Content) (j : Job A) (h : Located) (o : Option (Arc (ClassRow A) Global)) (n : Next A) → IsFor j.request j.target j.path → IsHoming j h → LeadsHome told j h.place o (FindsHome j h o (λ r. r.value)) n → IsPlain n.turn
+pub steps_home : {A : Type 0} (told : Option Content) (j : Job A) (h : Located) (o : Option (Arc (ClassRow A) Global)) (n : Next A) → IsFor j.request j.target j.path → IsHoming j h → LeadsHome told j h.definer o (FindsHome j h o (λ r. r.value)) n → IsPlain n.turn
     → Derives (IsUnfound h o) (frames_of j.path) n.stage → Steps told (loading_at j.path.config (loads.Homing j h)) (reply.Looked o) n
 steps_home told j h o n for homing l plain derives =
     plain_steps (loading_at j.path.config (loads.Homing j h)) (reply.Looked o) n refl refl refl l (omega arith) (home_calls told j h o homing)
@@ -159,14 +159,14 @@ defined_finds told x c j w row whole draft t = record {
 }
 
 defined_calls : {A : Type 0} (told : Option Content) (c : Configured) (j : Job A) (w : Framed) (row : Arc (ClassRow A) Global) → IsWhole told j.path w → IsDraft told w.draft
-    → Holds told j (λ x. TellsNow {A = A} x (loading_at c (loads.Defining j w)) (reply.Defined row)) 1 (calls_at phases.Defining j w.draft.home.place) (defining_calls j w)
+    → Holds told j (λ x. TellsNow {A = A} x (loading_at c (loads.Defining j w)) (reply.Defined row)) 1 (calls_at phases.Defining j w.draft.home.definer) (defining_calls j w)
 defined_calls {A = A} told c j w row whole draft =
     let now : Shown → Type 0 = λ x. TellsNow {A = A} x (loading_at c (loads.Defining j w)) (reply.Defined row) in
     subst (λ (l : ℕ). Holds told j now 1 (calls_at phases.Defining j l) (defining_calls j w)) (ap (λ (k : Class). k.loader) draft.placed)
     (defined_holds told j w.draft.class row.value.class.loader now whole.named (λ x t. t.told.now.records.1))
 
-pub steps_defined : {A : Type 0} (told : Option Content) (c : Configured) (j : Job A) (w : Framed) (row : Arc (ClassRow A) Global) (n : Next A) → j.path.config ≡ c → IsWhole told j.path w → IsDraft told w.draft → LeadsFrom told phases.Defining j w.draft.home.place (FindsBy j w.draft.home row.value) n
-    → IsPlain n.turn → Derives IsNone (frames_of j.path) n.stage → IsFor j.request j.target j.path → (IsOwnTarget j.target → j.path.frames ≡ [] → w.draft.home.place ≡ at_loader j.path → GoesOnWith j.request row.value.class (task_at c n.stage) n.turn)
+pub steps_defined : {A : Type 0} (told : Option Content) (c : Configured) (j : Job A) (w : Framed) (row : Arc (ClassRow A) Global) (n : Next A) → j.path.config ≡ c → IsWhole told j.path w → IsDraft told w.draft → LeadsFrom told phases.Defining j w.draft.home.definer (FindsBy j w.draft.home row.value) n
+    → IsPlain n.turn → Derives IsNone (frames_of j.path) n.stage → IsFor j.request j.target j.path → (IsOwnTarget j.target → j.path.frames ≡ [] → w.draft.home.definer ≡ at_loader j.path → GoesOnWith j.request row.value.class (task_at c n.stage) n.turn)
     → Steps told (loading_at c (loads.Defining j w)) (reply.Defined row) n
 steps_defined told c j w row n e whole draft l plain derives for goes =
     plain_steps (loading_at c (loads.Defining j w)) (reply.Defined row) n e refl refl l (omega arith) (defined_calls told c j w row whole draft)

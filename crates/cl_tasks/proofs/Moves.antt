@@ -26,7 +26,7 @@ use Rattle.cl_findings.specs.Bases.{IsSpeltIn}
 use Rattle.cl_findings.specs.Loads.{IsSought, IsWhole, FrameKeepsRules}
 use Rattle.cl_findings.proofs.Loads.{under}
 use Rattle.cl_hierarchy.specs.Drafts.{Drafted}
-use Rattle.cl_hierarchy.specs.Frames.{Framed, frame_of, with_place}
+use Rattle.cl_hierarchy.specs.Frames.{Framed, frame_of, with_definer}
 use Rattle.cl_hierarchy.specs.Paths.{Accepts, Completes, IsPath, Pathed, at_loader, at_name, frames_of, fresh, with_frame}
 use Rattle.cl_hierarchy.proofs.Frames.{accepts_one}
 use Rattle.cl_registry.specs.Tables.{Shown, records_of, state_of}
@@ -87,13 +87,13 @@ module _ {A : Type 0} (told : Option Content) (j : Job A) (job : IsJob told j.pa
       ((kept_is_met (state_of x) (frames_of j.path)).1 (all_kept x (frames_of j.path) holds.frames)))
 
   -- the search leads to a home
-  pub home_is : (h : Located) → IsSought j.path h → LeadsTo told h.config h.asked h.name (Some h.place) → home w (at_loader j.path) (at_name j.path) ≡ Some h.place
+  pub home_is : (h : Located) → IsSought j.path h → LeadsTo told h.config h.asked h.name (Some h.definer) → home w (at_loader j.path) (at_name j.path) ≡ Some h.definer
   home_is h sought leads =
-      let lead : LeadsTo (Some served.content) h.config h.asked h.name (Some h.place) = subst (λ (o : Option Content). LeadsTo o h.config h.asked h.name (Some h.place)) served.told_so leads in
-      subst (λ (v : World). home v (at_loader j.path) (at_name j.path) ≡ Some h.place) (sym (world_is served))
-      (subst (λ (n : List ℕ). home (world_of j.path.config served.content) (at_loader j.path) n ≡ Some h.place) sought.name
-      (subst (λ (l : ℕ). home (world_of j.path.config served.content) l h.name ≡ Some h.place) sought.asked
-      (subst (λ (c : Configured). home (world_of c served.content) h.asked h.name ≡ Some h.place) sought.config lead)))
+      let lead : LeadsTo (Some served.content) h.config h.asked h.name (Some h.definer) = subst (λ (o : Option Content). LeadsTo o h.config h.asked h.name (Some h.definer)) served.told_so leads in
+      subst (λ (v : World). home v (at_loader j.path) (at_name j.path) ≡ Some h.definer) (sym (world_is served))
+      (subst (λ (n : List ℕ). home (world_of j.path.config served.content) (at_loader j.path) n ≡ Some h.definer) sought.name
+      (subst (λ (l : ℕ). home (world_of j.path.config served.content) l h.name ≡ Some h.definer) sought.asked
+      (subst (λ (c : Configured). home (world_of c served.content) h.asked h.name ≡ Some h.definer) sought.config lead)))
 
 -- ---- from what is open into hand
 
@@ -238,12 +238,12 @@ unrecorded_holds told j holds job path has = λ g x p served is h.
     moves j j g.world p (state_of x) 1 1 0 [] [] (sought_ask j.path ∷ []) [] refl refl (omega arith)
 
 -- the home, which is another loader, is asked
-pub homing_holds : {A : Type 0} (told : Option Content) (j : Job A) (h : Located) → IsJob told j.path.config j → IsPath told j.path → IsHoming j h → LeadsTo told h.config h.asked h.name (Some h.place)
+pub homing_holds : {A : Type 0} (told : Option Content) (j : Job A) (h : Located) → IsJob told j.path.config j → IsPath told j.path → IsHoming j h → LeadsTo told h.config h.asked h.name (Some h.definer)
     → Holds told j (HoldsOn j) 0 (job_calls [] (sought_ask j.path ∷ []) 2 j) (calls_at phases.Reading j 0)
 homing_holds told j h job path homing leads = λ g x p served is holds.
     let found = home_is told j job path g x served h homing.sought leads in
-    let off : is_among (path_of [] (frames_of j.path)) (class (at_name j.path) h.place) ≡ false = subst (λ (n : List ℕ). is_among (path_of [] (frames_of j.path)) (class n h.place) ≡ false) homing.sought.name (path_scanned (frames_of j.path) (class h.name h.place) ∙ homing.off) in
-    let falls = goes_home g.world p (state_of x) j.path.loader j.path.name (frames_of j.path) (at_loader j.path) (at_name j.path) (framed told j job path g x served) (asks told j job path g x served p is holds) h.place found off (λ e. homing.other (sym e)) in
+    let off : is_among (path_of [] (frames_of j.path)) (class (at_name j.path) h.definer) ≡ false = subst (λ (n : List ℕ). is_among (path_of [] (frames_of j.path)) (class n h.definer) ≡ false) homing.sought.name (path_scanned (frames_of j.path) (class h.name h.definer) ∙ homing.off) in
+    let falls = goes_home g.world p (state_of x) j.path.loader j.path.name (frames_of j.path) (at_loader j.path) (at_name j.path) (framed told j job path g x served) (asks told j job path g x served p is holds) h.definer found off (λ e. homing.other (sym e)) in
     moves j j g.world p (state_of x) 0 0 2 (sought_ask j.path ∷ []) [] [] (sought_ask j.path ∷ []) refl refl (omega arith)
 
 -- the home has no record
@@ -381,18 +381,18 @@ descends_holds {A} told j d new job path grown is_new waits = λ g y p served is
 -- ---- a supertype that is accepted
 
 -- the frames of a path and of one that goes on from it, or lost its last class, as they stand in hand
-pub accepts_left : {A : Type 0} (told : Option Content) (j : Job A) (new : Pathed) (place : ℕ) (holds : Shown → Type 0) → IsPath told j.path → Accepts j.path new place
+pub accepts_left : {A : Type 0} (told : Option Content) (j : Job A) (new : Pathed) (definer : ℕ) (holds : Shown → Type 0) → IsPath told j.path → Accepts j.path new definer
     → Holds told j holds 0 (job_calls [] [] 1 (record j { path = new })) (calls_at phases.Initiating j 0)
-accepts_left {A} told j new place holds path step = λ g y p served is h.
+accepts_left {A} told j new definer holds path step = λ g y p served is h.
     let w = g.world in
     let top = top_of told j.path step.before step.last path step.split in
     let xs = map frame_of step.before in
     let f = frame_of step.last in
-    let e = frame_of (with_place step.last place) in
-    let t = class top.above.name place in
-    let grown : e ≡ with_accepted f t = accepts_one step.last (with_place step.last place) place refl (Some top.above) top.wants in
+    let e = frame_of (with_definer step.last definer) in
+    let t = class top.above.name definer in
+    let grown : e ≡ with_accepted f t = accepts_one step.last (with_definer step.last definer) definer refl (Some top.above) top.wants in
     let loader : new.loader ≡ j.path.loader = ap (λ (q : Pathed). q.loader) step.now in
-    let frames_new : frames_of new ≡ xs ++ e ∷ [] = ap frames_of step.now ∙ map_last step.before (with_place step.last place) in
+    let frames_new : frames_of new ≡ xs ++ e ∷ [] = ap frames_of step.now ∙ map_last step.before (with_definer step.last definer) in
     let hand : in_hand new.loader (frames_of new) ≡ in_hand j.path.loader (frames_of j.path) =
     ap (λ (l : ℕ). in_hand l (frames_of new)) loader ∙ ap (in_hand j.path.loader) frames_new ∙ hand_last j.path.loader xs e ∙ sym (ap (in_hand j.path.loader) top.frames ∙ hand_last j.path.loader xs f) in
     let from : hand_calls j.path.loader (frames_of j.path) ≡ hand_calls j.path.loader xs + frame_calls (asking_loader j.path.loader xs) f = ap (hand_calls j.path.loader) top.frames ∙ calls_last j.path.loader xs f in
@@ -405,9 +405,9 @@ accepts_left {A} told j new place holds path step = λ g y p served is h.
     moves {A = A} j (record j { path = new }) w p (state_of y) 0 0 1 [] [] [] [] refl refl (omega arith)
 
 -- the last class has all its supertypes, and is to be recorded
-pub completes_left : {A : Type 0} (told : Option Content) (j : Job A) (new : Pathed) (place : ℕ) (x : Framed) (holds : Shown → Type 0) → IsPath told j.path → Completes j.path new place x → IsWhole told new x
+pub completes_left : {A : Type 0} (told : Option Content) (j : Job A) (new : Pathed) (definer : ℕ) (x : Framed) (holds : Shown → Type 0) → IsPath told j.path → Completes j.path new definer x → IsWhole told new x
     → Holds told j holds 0 (job_calls [] (sought_ask new ∷ ask_for x.draft.class ∷ []) (1 + away_calls (at_loader new) x.draft.class.loader) (record j { path = new })) (calls_at phases.Initiating j 0)
-completes_left {A} told j new place x holds path step whole = λ g y p served is h.
+completes_left {A} told j new definer x holds path step whole = λ g y p served is h.
     let w = g.world in
     let c = x.draft.class in
     let top = top_of told j.path step.before step.last path step.split in

@@ -147,12 +147,12 @@ pub waits_first : (d : Drafted) → (length (supers (file_of d.file)) ≡ 0 → 
 waits_first d h = some_waits (supers (file_of d.file)) h
 
 pub leads_root : {A : Type 0} (told : Option Content) (j : Job A) (d : Drafted) (n : Next A) → IsJob told j.path.config j → IsPath told j.path → IsSought j.path d.home → IsDraft told d → is_on j.path d.class ≡ false → length (supers (file_of d.file)) ≡ 0
-    → DefinesBy j (fresh d) n → LeadsFrom told phases.Homing j d.home.place (HoldsOn j) n
+    → DefinesBy j (fresh d) n → LeadsFrom told phases.Homing j d.home.definer (HoldsOn j) n
 leads_root told j d n job path home draft off alone h =
     let place = ap (λ (k : Class). k.loader) draft.placed in
     let whole : IsWhole told j.path (fresh d) = root_is_whole told j.path d path draft home off (none_waits (supers (file_of d.file)) alone) in
-    leads_define told j (fresh d) (room_of (room_at phases.Homing j 0) (calls_at phases.Homing j d.home.place)) (HoldsOn j) n job path whole draft
-    (less_room (past_left j.target) (left_at phases.Defining (frames_of j.path) 0) (left_at phases.Homing (frames_of j.path) 0) (roots_less told j.path phases.Homing 0 0 path tt)) (phase_has phases.Homing j d.home.place)
+    leads_define told j (fresh d) (room_of (room_at phases.Homing j 0) (calls_at phases.Homing j d.home.definer)) (HoldsOn j) n job path whole draft
+    (less_room (past_left j.target) (left_at phases.Defining (frames_of j.path) 0) (left_at phases.Homing (frames_of j.path) 0) (roots_less told j.path phases.Homing 0 0 path tt)) (phase_has phases.Homing j d.home.definer)
     (subst (λ (l : ℕ). Holds told j (HoldsOn j) 0 (defining_calls j (fresh d)) (calls_at phases.Homing j l)) place (root_holds told j (fresh d) job path whole)) (λ y k. (k, fresh_has y d)) h
 
 -- ---- a job on another path
@@ -194,17 +194,17 @@ leads_moved told j c room holds n e l = subst (λ (k : Configured). LeadsBy told
 -- ---- a class that waits for its first supertype
 
 pub leads_descent : {A : Type 0} (told : Option Content) (j : Job A) (d : Drafted) (new : Pathed) (n : Next A) → IsJob told j.path.config j → IsPath told j.path → IsPath told new → new ≡ with_frame j.path (fresh d) → length (supers (file_of d.file)) ≤ most → IsSome (wanted_supertype (frame_of (fresh d)))
-    → LeadsAt told phases.Fresh (on_path j new) (HoldsOn (on_path j new)) n → LeadsFrom told phases.Homing j d.home.place (HoldsOn j) n
+    → LeadsAt told phases.Fresh (on_path j new) (HoldsOn (on_path j new)) n → LeadsFrom told phases.Homing j d.home.definer (HoldsOn j) n
 leads_descent {A} told j d new n job path on is few waits l =
     let grown = with_frame j.path (fresh d) in
     let m : LeadsAt told phases.Fresh (on_path j grown) (HoldsOn (on_path j grown)) n = subst (λ (p : Pathed). LeadsAt {A = A} told phases.Fresh (on_path j p) (HoldsOn (on_path j p)) n) is l in
     let drafts : AllByRecursion (λ (x : Framed). IsDraft told x.draft) (j.path.frames ++ fresh d ∷ []) = subst (λ (p : Pathed). AllByRecursion (λ (x : Framed). IsDraft told x.draft) p.frames) is on.drafts in
     let draft : IsDraft told d = all_last (λ (x : Framed). IsDraft told x.draft) j.path.frames (fresh d) drafts in
     let place = ap (λ (k : Class). k.loader) draft.placed in
-    let calls : Holds told j (HoldsOn j) 0 (calls_at phases.Fresh (on_path j grown) 0) (calls_at phases.Homing j d.home.place) =
+    let calls : Holds told j (HoldsOn j) 0 (calls_at phases.Fresh (on_path j grown) 0) (calls_at phases.Homing j d.home.definer) =
     subst (λ (l : ℕ). Holds told j (HoldsOn j) 0 (calls_at phases.Fresh (on_path j grown) 0) (calls_at phases.Homing j l)) place
     (descends_holds told j d grown job path (subst (λ (p : Pathed). IsPath told p) is on) refl waits) in
-    leads_by (room_of (room_at phases.Homing j 0) (calls_at phases.Homing j d.home.place)) (HoldsOn j) m
+    leads_by (room_of (room_at phases.Homing j 0) (calls_at phases.Homing j d.home.definer)) (HoldsOn j) m
     (fresh_looks (past_left j.target) (frames_of grown) (left_at phases.Homing (frames_of j.path) 0) (descends_less told j.path d phases.Homing 0 0 path tt few waits)) calls
     (λ x h. record { frames = push_holds x j.path d h.frames; facts = h.facts })
 
@@ -251,34 +251,34 @@ accepts_last old new place o x e h = subst (λ (k : Option Framed). MatchOption 
 
 -- ---- the loader that was asked
 
-home_records : (x : Shown) (p : Pathed) (h : Located) (row : Rowed) → IsSought p h → IsRecordedAs x h.place (at_name p) row → row.class.loader ≡ h.place → recorded_definer (records_of x) h.place h.name ≡ Some h.place
+home_records : (x : Shown) (p : Pathed) (h : Located) (row : Rowed) → IsSought p h → IsRecordedAs x h.definer (at_name p) row → row.class.loader ≡ h.definer → recorded_definer (records_of x) h.definer h.name ≡ Some h.definer
 home_records x p h row sought told own =
-    subst (λ (n : List ℕ). recorded_definer (records_of x) h.place n ≡ Some h.place) (sym sought.name) (told.records.1 ∙ ap (λ (l : ℕ). Some l) own)
+    subst (λ (n : List ℕ). recorded_definer (records_of x) h.definer n ≡ Some h.definer) (sym sought.name) (told.records.1 ∙ ap (λ (l : ℕ). Some l) own)
 
-away_wanted : {A : Type 0} (told : Option Content) (j : Job A) (h : Arc (Home A) Global) → IsJob told j.path.config j → IsPath told j.path → IsSought j.path h.value → h.value.place ≢ at_loader j.path → LeadsTo told h.value.config h.value.asked h.value.name (Some h.value.place)
-    → (g : Setting) (y : Shown) → ServedIn told j.path.config g (state_of y) → HoldsOn j y → recorded_definer (records_of y) h.value.place h.value.name ≡ Some h.value.place → IsWanted g (state_of y) j.request (Entry h.value.asked h.value.name h.value.place)
+away_wanted : {A : Type 0} (told : Option Content) (j : Job A) (h : Arc (Home A) Global) → IsJob told j.path.config j → IsPath told j.path → IsSought j.path h.value → h.value.definer ≢ at_loader j.path → LeadsTo told h.value.config h.value.asked h.value.name (Some h.value.definer)
+    → (g : Setting) (y : Shown) → ServedIn told j.path.config g (state_of y) → HoldsOn j y → recorded_definer (records_of y) h.value.definer h.value.name ≡ Some h.value.definer → IsWanted g (state_of y) j.request (Entry h.value.asked h.value.name h.value.definer)
 away_wanted {A} told j h job path sought other lead g y served holds rec =
     let i = h.value in
-    let need : rust.Need = needs.Entry i.asked i.name i.place in
+    let need : rust.Need = needs.Entry i.asked i.name i.definer in
     let b : Based = refused_at {B = A} j.request j.target j.path (nexts.Initiate h) in
     let met : AllMet (state_of y) b.needs = path_met y j (home_record i ∷ []) holds (rec, tt) in
-    let next : IsNextNeed g.world (state_of y) (request_of j.request) (Entry i.asked i.name i.place) =
+    let next : IsNextNeed g.world (state_of y) (request_of j.request) (Entry i.asked i.name i.definer) =
     (concludes_at told j.path.config g (state_of y) j.request (verdicts.Linkage need) b served (away_rests told j.request j.target j.path i need job.for_request job.spelt path (sought, other) lead refl) refl refl met).next in
-    record { need = next; step = λ may. record_is_next g (state_of y) (request_of j.request) i.asked i.place i.name next may }
+    record { need = next; step = λ may. record_is_next g (state_of y) (request_of j.request) i.asked i.definer i.name next may }
 
 pub leads_initiate : {A : Type 0} (told : Option Content) (j : Job A) (h kept : Arc (Home A) Global) (row : Rowed) → kept.value ≡ h.value → IsJob told j.path.config j → IsPath told j.path → IsSought j.path h.value
-    → LeadsTo told h.value.config h.value.asked h.value.name (Some h.value.place) → h.value.place ≢ at_loader j.path → row.class.loader ≡ h.value.place
-    → LeadsFrom told phases.Defining j h.value.place (FindsAt j h.value.place row) (record { stage = stages.Load (loads.Initiating j kept); turn = turn.Initiate h })
+    → LeadsTo told h.value.config h.value.asked h.value.name (Some h.value.definer) → h.value.definer ≢ at_loader j.path → row.class.loader ≡ h.value.definer
+    → LeadsFrom told phases.Defining j h.value.definer (FindsAt j h.value.definer row) (record { stage = stages.Load (loads.Initiating j kept); turn = turn.Initiate h })
 leads_initiate told j h kept row same job path sought lead other own = record {
-  kept = (job, (subst (λ (i : Located). IsSought j.path i) (sym same) sought, subst (λ (i : Located). i.place ≢ at_loader j.path) (sym same) other));
+  kept = (job, (subst (λ (i : Located). IsSought j.path i) (sym same) sought, subst (λ (i : Located). i.definer ≢ at_loader j.path) (sym same) other));
   number = refl;
   asks = ap (λ (i : Located). waits.Initiating i) same;
   serves = refl;
   left = less_room (past_left j.target) (left_at phases.Initiating (frames_of j.path) 0) (left_at phases.Defining (frames_of j.path) 0) (defined_less (frames_of j.path) 0 0);
-  calls = same_holds told j (FindsAt j h.value.place row) (job_calls [] (sought_ask j.path ∷ []) 1 j) (calls_at phases.Defining j h.value.place) (sym (away_defined j h.value.place (λ e. other (sym e))));
+  calls = same_holds told j (FindsAt j h.value.definer row) (job_calls [] (sought_ask j.path ∷ []) 1 j) (calls_at phases.Defining j h.value.definer) (sym (away_defined j h.value.definer (λ e. other (sym e))));
   keeps = λ x f. record {
     frames = f.before.frames;
-    facts = (subst (λ (i : Located). recorded_definer (records_of x) i.place i.name ≡ Some i.place) (sym same) (home_records x j.path h.value row sought f.now own), f.before.facts);
+    facts = (subst (λ (i : Located). recorded_definer (records_of x) i.definer i.name ≡ Some i.definer) (sym same) (home_records x j.path h.value row sought f.now own), f.before.facts);
   };
   backed = λ x config named consistent f. record {
     config = sought.config ∙ sym config;
@@ -292,7 +292,7 @@ pub differ : (a b : ℕ) → eqb a b ≡ false → a ≡ b → ⊥
 differ a b h e = let k : eqb a b ≡ true = eq-eqb a b e in cc
 
 -- the home, another loader, is asked for what is looked for
-pub leads_homing : {A : Type 0} (told : Option Content) (j : Job A) (h : Located) (loader : ℕ) (name : List ℕ) → IsJob told j.path.config j → IsPath told j.path → IsHoming j h → LeadsTo told h.config h.asked h.name (Some h.place) → loader ≡ h.place → name ≡ at_name j.path
+pub leads_homing : {A : Type 0} (told : Option Content) (j : Job A) (h : Located) (loader : ℕ) (name : List ℕ) → IsJob told j.path.config j → IsPath told j.path → IsHoming j h → LeadsTo told h.config h.asked h.name (Some h.definer) → loader ≡ h.definer → name ≡ at_name j.path
     → LeadsAt told phases.Reading j (HoldsOn j) (record { stage = stages.Load (loads.Homing j h); turn = turn.Look loader name })
 leads_homing told j h loader name job path homing leads is_loader is_name = record {
   kept = (job, homing);

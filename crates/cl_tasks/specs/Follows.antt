@@ -132,7 +132,7 @@ AnswerFollows g s r (answers.SourceFault name loader) = Unit {0}
 abbrev pub Follows : {A : Type 0} → Setting → State → Request → Turn A → Type 0
 Follows g s r (turn.Define d) = IsWanted g s r (own_record d)
 Follows g s r (turn.Initiate h) = IsWanted g s r (asked_record h.value)
-    × (h.value.asked ≡ h.value.place → ⊥)
+    × (h.value.asked ≡ h.value.definer → ⊥)
 Follows g s r (turn.Settle f) = IsSettledNext g s r f
 Follows g s r (turn.Impose e k) = IsNextOf e.value k (IsWanted g s r)
 Follows g s r (turn.Mark e) = IsPreparedNext g s r e.value.origin

@@ -106,7 +106,7 @@ loading_at c (loads.Looking j) = at_work c (waits.Looking (at_loader j.path) (at
 loading_at c (loads.Searching j s) =
     record (at_work c (waits.Reading (next_loader s) (at_name j.path)) Reading (probes_left s)
     (job_calls (sought_ask j.path ∷ []) [] 0 j) j) { absent = Some (sought_class j.path) }
-loading_at c (loads.Homing j h) = at_work c (waits.Looking h.place (at_name j.path)) Homing 0
+loading_at c (loads.Homing j h) = at_work c (waits.Looking h.definer (at_name j.path)) Homing 0
     (job_calls [] (sought_ask j.path ∷ []) 2 j) j
 loading_at c (loads.Defining j x) =
     record (at_work c (waits.Defining x.draft) Defining 0
@@ -295,7 +295,7 @@ pub record IsSearch {A : Type 0} (j : Job A) (s : Searched) : Type 0 where
 pub record IsHoming {A : Type 0} (j : Job A) (h : Located) : Type 0 where
   pub sought : IsSought j.path h
   pub off : is_on j.path (home_class h) ≡ false
-  pub other : h.place ≢ at_loader j.path
+  pub other : h.definer ≢ at_loader j.path
 
 -- the record of the loader that was asked comes next, of the class of this home (5.3)
 abbrev pub InitiatesNext : {A : Type 0} → Option Content → Job A → Arc (Home A) Global → Type 0

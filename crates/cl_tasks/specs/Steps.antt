@@ -101,18 +101,18 @@ FindsRow j row x = FindsAt j (at_loader j.path) row x
 
 -- and so at this home (5.3)
 abbrev pub FindsBy : {A : Type 0} → Job A → Located → Rowed → Shown → Type 0
-FindsBy j h row x = FindsAt j h.place row x
+FindsBy j h row x = FindsAt j h.definer row x
 
 -- what the home was found to have recorded, if anything (5.3)
 abbrev pub FindsHome : {A B : Type 0} → Job A → Located → Option B → (B → Rowed) → Shown → Type 0
 FindsHome j h None of x = HoldsOn j x
-FindsHome j h (Some row) of x = FindsAt j h.place (of row) x
+FindsHome j h (Some row) of x = FindsAt j h.definer (of row) x
 
 -- the home that an obstacle names is one of so many loaders (5.3.2)
 abbrev pub EndWithin : {A : Type 0} → ℕ → Obstacle A → Type 0
 EndWithin count (obstacles.Missing u) = Unit {0}
-EndWithin count (obstacles.Unreadable u) = u.home.place < count
-EndWithin count (obstacles.Circle h) = h.place < count
+EndWithin count (obstacles.Unreadable u) = u.home.definer < count
+EndWithin count (obstacles.Circle h) = h.definer < count
 EndWithin count (obstacles.Misfit row c kind) = Unit {0}
 
 -- a class that does not fit is recorded where it was asked for (5.3)

@@ -24,7 +24,7 @@ use crate::turn::Turn;
 use cl_config::Config;
 use cl_delegation::Home;
 use cl_findings::Obstacle;
-use cl_hierarchy::{Again, ClassRow, Draft, DraftRefused, Frame, Path};
+use cl_hierarchy::{ClassRow, Draft, DraftRefused, Frame, Path, Repeated};
 use cl_model::{ErrorKind, Told};
 use std::alloc::{AllocError, Global};
 use std::sync::Arc;
@@ -54,7 +54,7 @@ pub(crate) fn derive<T: Told>(alloc: Global, job: Job<T>, home: Home<T>) -> Next
     requires job { IsJob T.told job.path.config job }
     requires home { IsSought job.path home }
     requires off { is_on job.path (home_class home) ≡ false }
-    ensures leads { LeadsFrom T.told Homing job home.place (HoldsOn job) result }
+    ensures leads { LeadsFrom T.told Homing job home.definer (HoldsOn job) result }
     ensures plain { IsPlain result.turn }
     ensures derives { Derives (IsHomeClass home) (frames_of job.path) result.stage }
 {
@@ -74,7 +74,7 @@ fn follow_draft<T: Told>(alloc: Global, job: Job<T>, draft: Draft<T>) -> Next<T>
     requires job { IsJob T.told job.path.config job }
     requires home { IsSought job.path draft.home }
     requires off { is_on job.path draft.class ≡ false }
-    ensures leads { LeadsFrom T.told Homing job draft.home.place (HoldsOn job) result }
+    ensures leads { LeadsFrom T.told Homing job draft.home.definer (HoldsOn job) result }
     ensures plain { IsPlain result.turn }
     ensures derives { Derives (λ c. c ≡ draft.class) (frames_of job.path) result.stage }
 {
@@ -97,7 +97,7 @@ fn descend<T: Told>(alloc: Global, job: Job<T>, draft: Draft<T>) -> Next<T>
     requires waits { IsSome (wanted_supertype (frame_of (fresh draft))) }
     requires few { length (supers (file_of draft.file)) ≤ most }
     // What it leads to.
-    ensures leads { LeadsFrom T.told Homing job draft.home.place (HoldsOn job) result }
+    ensures leads { LeadsFrom T.told Homing job draft.home.definer (HoldsOn job) result }
     ensures plain { IsPlain result.turn }
     ensures derives { Derives (λ c. c ≡ draft.class) (frames_of job.path) result.stage }
 {
@@ -149,17 +149,17 @@ pub(crate) fn take_defined<T: Told>(
 ) -> Next<T>
     requires job { IsJob T.told config.now.value job }
     requires whole { IsWhole T.told job.path whole }
-    ensures leads { LeadsFrom T.told Defining job whole.draft.home.place
+    ensures leads { LeadsFrom T.told Defining job whole.draft.home.definer
         (FindsBy job whole.draft.home row.value) result }
     ensures own { IsOwnTarget job.target → job.path.frames ≡ []
-        → whole.draft.home.place ≡ at_loader job.path
+        → whole.draft.home.definer ≡ at_loader job.path
         → GoesOnWith job.request row.value.class (task_at config.now.value result.stage)
         result.turn }
     ensures plain { IsPlain result.turn }
     ensures derives { Derives IsNone (frames_of job.path) result.stage }
 {
     let home = whole.draft().home();
-    if home.place() == job.path.at_loader() {
+    if home.definer() == job.path.at_loader() {
         return go_on(alloc, config, job, row);
     }
     match Arc::try_clone(home) {
@@ -173,7 +173,7 @@ pub(crate) fn take_defined<T: Told>(
 pub(crate) fn initiate<T: Told>(job: Job<T>, home: Arc<Home<T>>, row: &ClassRow<T>) -> Next<T>
     requires job { IsJob T.told job.path.config job }
     requires next { InitiatesNext T.told job home }
-    ensures leads { LeadsFrom T.told Defining job home.value.place
+    ensures leads { LeadsFrom T.told Defining job home.value.definer
         (FindsBy job home.value row.now) result }
     ensures plain { IsPlain result.turn }
     ensures derives { Derives IsNone (frames_of job.path) result.stage }
@@ -183,7 +183,7 @@ pub(crate) fn initiate<T: Told>(job: Job<T>, home: Arc<Home<T>>, row: &ClassRow<
     let _ = job.path.at_name();
     // a home has its own class alone, unless the source told two things: one that tells a content
     // never does
-    if row.class().loader != home.place() {
+    if row.class().loader != home.definer() {
         return out_of_memory(job.q, job.request);
     }
     match Arc::try_clone(&home) {
@@ -312,10 +312,10 @@ fn accept_repeated<T: Told>(path: &mut Path<T>) -> Result<Option<Frame<T>>, Allo
     ensures { IfOk result (PathComesTo T.told path.old path.new) }
 {
     loop {
-        match path.accept_again()? {
-            Again::Other => return Ok(None),
-            Again::Waits => {}
-            Again::Whole(whole) => return Ok(Some(whole)),
+        match path.accept_if_repeated()? {
+            Repeated::Other => return Ok(None),
+            Repeated::Waits => {}
+            Repeated::Whole(whole) => return Ok(Some(whole)),
         }
     }
 }

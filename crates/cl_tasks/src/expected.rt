@@ -99,7 +99,7 @@ fn is_to_initiate<T: Told>(home: &Home<T>, reply: &Reply<T>) -> bool
 {
     match reply {
         Reply::Initiated(_) | Reply::Memory => true,
-        Reply::Refused(need) => is_entry(need, home.asked_loader(), home.name(), home.place()),
+        Reply::Refused(need) => is_entry(need, home.asked_loader(), home.name(), home.definer()),
         _ => false,
     }
 }

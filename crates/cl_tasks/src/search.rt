@@ -114,7 +114,7 @@ fn at_home<T: Told>(alloc: Global, job: Job<T>, home: Home<T>) -> Next<T>
         Err(_) => return out_of_memory(job.q, job.request),
         Ok(name) => Class {
             name,
-            loader: home.place(),
+            loader: home.definer(),
         },
     };
     // brings what a home keeps
@@ -141,7 +141,7 @@ pub(crate) fn take_look<T: Told>(
 ) -> Next<T>
     requires job { IsJob T.told job.path.config job }
     requires home { IsHoming job home }
-    ensures leads { LeadsHome T.told job home.place row
+    ensures leads { LeadsHome T.told job home.definer row
         (FindsHome job home row (λ r. r.value)) result }
     ensures plain { IsPlain result.turn }
     ensures derives { Derives (IsUnfound home row) (frames_of job.path) result.stage }

@@ -7,7 +7,7 @@ use Rattle.cl_findings.proofs.stands.frame_stands.Goals as goal
 
 pub returns : goal.returns
 returns g c =
-    let within = accepted_within (supers (file_of c.args.frame.now.draft.file)) c.args.frame.now.places in
-    let e = rw c.places-at-end.ensures.places at c.loop-at-test.false in
+    let within = accepted_within (supers (file_of c.args.frame.now.draft.file)) c.args.frame.now.definers in
+    let e = rw c.definers-at-end.ensures.definers at c.loop-at-test.false in
     let le : length (frame_of c.args.frame.now).accepted ≤ c.loop-at.at = omega (arith, within, e) in
     λ s held. all_there _ (frame_of c.args.frame.now).accepted c.loop-at.at le (λ k lt. c.loop-at.invariant k lt s held)

@@ -12,7 +12,7 @@ go_on-requires g c =
 pub returns-clause-accepted : goal.returns-clause-accepted
 returns-clause-accepted g c =
     let e = last_entry c.args.frames.now.entries c.in-Some.frame.now c.in-Some.ensures.value in
-    last_accepts c.args.frames.now.entries e.0 c.in-Some.frame.now c.go_on.new.self c.args.place c.go_on.result e.1 c.go_on.ensures.accepted c.go_on.ensures.next
+    last_accepts c.args.frames.now.entries e.0 c.in-Some.frame.now c.go_on.new.self c.args.definer c.go_on.result e.1 c.go_on.ensures.accepted c.go_on.ensures.next
 
 pub returns-clause-unchanged : goal.returns-clause-unchanged
 returns-clause-unchanged g c =

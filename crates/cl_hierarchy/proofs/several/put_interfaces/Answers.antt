@@ -1,7 +1,7 @@
 use Rattle.std.proofs.Common.{◌≡◌, ◌≤◌, ℕ, List, ap, arith, length}
 use Rattle.cl_model.specs.Classes.{superinterfaces_of}
 use Rattle.cl_classfile.specs.Files.{file_of}
-use Rattle.cl_hierarchy.specs.Trees.{interface_places, interfaces_in}
+use Rattle.cl_hierarchy.specs.Trees.{interface_definers, interfaces_in}
 use Rattle.cl_hierarchy.proofs.Joining.{accepted_few, joins_all, joins_next, joins_none}
 use Rattle.cl_hierarchy.proofs.several.put_interfaces.Goals as goal
 
@@ -14,8 +14,8 @@ loop-place-preserved g c =
 
 pub returns : goal.returns
 returns g c =
-    let few = accepted_few (superinterfaces_of (file_of c.args.row.now.file)) (interface_places c.args.row.now) in
-    let e : c.interface_places-place-end.result.now ≡ interface_places c.args.row.now = c.interface_places-place-end.ensures in
+    let few = accepted_few (superinterfaces_of (file_of c.args.row.now.file)) (interface_definers c.args.row.now) in
+    let e : c.interface_definers-place-end.result.now ≡ interface_definers c.args.row.now = c.interface_definers-place-end.ensures in
     let count = ap (λ (ps : List ℕ). length ps) e in
     let test = c.loop-place-test.false in
     let many : length (interfaces_in c.args.row.now) ≤ c.loop-place.place = omega (arith, few, count, test) in

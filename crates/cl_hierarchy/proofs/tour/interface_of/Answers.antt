@@ -8,12 +8,12 @@ returns-in-None g c = unnamed (g.F.Finds.rows c.args.table.now) c.args.row.now c
 
 pub returns-in-None-get : goal.returns-in-None-get
 returns-in-None-get g c =
-    unplaced (g.F.Finds.rows c.args.table.now) c.args.row.now c.interface_places.result.now c.args.place c.interface_places.ensures
-    (sym (slice_get_past c.interface_places.result.now c.args.place c.in-None-get.ensures.lookup.3))
+    unplaced (g.F.Finds.rows c.args.table.now) c.args.row.now c.interface_definers.result.now c.args.place c.interface_definers.ensures
+    (sym (slice_get_past c.interface_definers.result.now c.args.place c.in-None-get.ensures.lookup.3))
 
 pub returns-in-Some-get : goal.returns-in-Some-get
 returns-in-Some-get g c =
     found_so _ _ _ c.find.result
-    (row_at_place (g.F.Finds.rows c.args.table.now) c.args.row.now c.deref.result.now c.interface_places.result.now c.args.place c.in-Some.name.now c.in-Some-get.loader.now (c.deref.ensures ∙ c.file.ensures.file) c.interface_places.ensures c.in-Some.ensures
-    (sym (slice_get_read c.interface_places.result.now _ c.args.place c.in-Some-get.loader.now refl c.in-Some-get.ensures.lookup.3.0 c.in-Some-get.ensures.lookup.1)))
+    (row_at_place (g.F.Finds.rows c.args.table.now) c.args.row.now c.deref.result.now c.interface_definers.result.now c.args.place c.in-Some.name.now c.in-Some-get.loader.now (c.deref.ensures ∙ c.file.ensures.file) c.interface_definers.ensures c.in-Some.ensures
+    (sym (slice_get_read c.interface_definers.result.now _ c.args.place c.in-Some-get.loader.now refl c.in-Some-get.ensures.lookup.3.0 c.in-Some-get.ensures.lookup.1)))
     c.find.ensures

@@ -25,8 +25,8 @@ loop-next-preserved g c =
 pub returns-clause-kins : goal.returns-clause-kins
 returns-clause-kins g c =
     let e : length c.loop-next.tour.stack.items ≡ 0 = omega (arith, c.in_default.ensures.cases) in
-    sym (map-map (kin_under (kins (g.F.Finds.rows c.args.table.now))) (λ r. r.value) c.loop-next.tour.told.items)
+    sym (map-map (kin_under (kins (g.F.Finds.rows c.args.table.now))) (λ r. r.value) c.loop-next.tour.listed.items)
     ∙ ended (g.F.Finds.rows c.args.table.now) c.args.order _ _ _ _ c.loop-next.tour.stack.items (nil_from_length _ e) c.loop-next.invariant
 
 pub returns-clause-rows : goal.returns-clause-rows
-returns-clause-rows g c = all_back (λ r. r.value) _ c.loop-next.tour.told.items c.loop-next.invariant.told_are
+returns-clause-rows g c = all_back (λ r. r.value) _ c.loop-next.tour.listed.items c.loop-next.invariant.listed_are

@@ -11,7 +11,7 @@ use Rattle.cl_tasks.proofs.accept.derive.Goals as goal
 
 pub returns-in-Err-Unreadable-clause-leads : goal.returns-in-Err-Unreadable-clause-leads
 returns-in-Err-Unreadable-clause-leads g c =
-    leads_by (room_of (room_at phases.Homing c.args.job 0) (calls_at phases.Homing c.args.job c.args.home.place)) (HoldsOn c.args.job) c.obstacle.ensures.leads (omega arith) (past_phase g.T.Told.told c.args.job (HoldsOn c.args.job) phases.Homing c.args.home.place) (λ x h. (h, tt))
+    leads_by (room_of (room_at phases.Homing c.args.job 0) (calls_at phases.Homing c.args.job c.args.home.definer)) (HoldsOn c.args.job) c.obstacle.ensures.leads (omega arith) (past_phase g.T.Told.told c.args.job (HoldsOn c.args.job) phases.Homing c.args.home.definer) (λ x h. (h, tt))
 
 pub returns-in-Err-Unreadable-clause-derives : goal.returns-in-Err-Unreadable-clause-derives
 returns-in-Err-Unreadable-clause-derives g c = past_derives (IsHomeClass c.args.home) (frames_of c.args.job.path) c.obstacle.result.stage c.obstacle.ensures.past

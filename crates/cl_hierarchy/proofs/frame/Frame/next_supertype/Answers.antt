@@ -10,6 +10,6 @@ use Rattle.cl_hierarchy.proofs.frame.Frame.next_supertype.Goals as goal
 pub returns : goal.returns
 returns g c =
     let others = supers (file_of c.self.inside.draft.file) in
-    let counted : vec_len c.self.inside.places ≡ length c.self.inside.places.items = omega arith in
-    c.supertype.ensures.name ∙ ap (λ (n : ℕ). slice_get others n) (c.len.ensures ∙ counted ∙ sym (as_many others c.self.inside.places.items c.self.invariant))
+    let counted : vec_len c.self.inside.definers ≡ length c.self.inside.definers.items = omega arith in
+    c.supertype.ensures.name ∙ ap (λ (n : ℕ). slice_get others n) (c.len.ensures ∙ counted ∙ sym (as_many others c.self.inside.definers.items c.self.invariant))
     ∙ ap (λ (x : Framed). wanted_supertype (frame_of x)) c.self.view_is

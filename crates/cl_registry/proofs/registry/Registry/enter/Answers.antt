@@ -16,8 +16,8 @@ use Rattle.cl_findings.specs.Loads.{own_record}
 pub returns-then-not-admits-clause-refused : goal.returns-then-not-admits-clause-refused
 returns-then-not-admits-clause-refused g c =
     let x : Shown = shown_of c.self.inside in
-    subst (λ (y : Shown). BlamesNeed y (needs.Entry c.place-home.result c.args.name c.place-home.result) (own_record c.args.draft.now)) c.self.view_is
-    (blames_record x _ c.admits.result _ _ _ (own_record c.args.draft.now) (own_entry g.T.Told.told c.args.draft.now c.home.ensures.draft c.args.name c.place-home.result c.requires.named (c.place-home.ensures ∙ ap (λ (h : Located). h.place) (c.deref.ensures ∙ c.home.ensures.home))) c.admits.ensures
+    subst (λ (y : Shown). BlamesNeed y (needs.Entry c.definer-home.result c.args.name c.definer-home.result) (own_record c.args.draft.now)) c.self.view_is
+    (blames_record x _ c.admits.result _ _ _ (own_record c.args.draft.now) (own_entry g.T.Told.told c.args.draft.now c.home.ensures.draft c.args.name c.definer-home.result c.requires.named (c.definer-home.ensures ∙ ap (λ (h : Located). h.definer) (c.deref.ensures ∙ c.home.ensures.home))) c.admits.ensures
     c.if-not-admits.true c.self.invariant.book)
 
 pub record-requires-clause-fresh : goal.record-requires-clause-fresh
@@ -73,6 +73,6 @@ pub returns-in-Err-clause-refused : goal.returns-in-Err-clause-refused
 returns-in-Err-clause-refused g c =
     let x : Shown = shown_of c.self.inside in
     let d = c.args.draft.now in
-    let own = own_entry g.T.Told.told d c.home.ensures.draft c.args.name c.place-home.result c.requires.named (c.place-home.ensures ∙ ap (λ (h : Located). h.place) (c.deref.ensures ∙ c.home.ensures.home)) in
+    let own = own_entry g.T.Told.told d c.home.ensures.draft c.args.name c.definer-home.result c.requires.named (c.definer-home.ensures ∙ ap (λ (h : Located). h.definer) (c.deref.ensures ∙ c.home.ensures.home)) in
     subst (λ (y : Shown). AddRefusedFor y (own_record d) c.in-Err.fault) c.self.view_is
     (add_refused x _ (own_record d) c.in-Err.fault c.self.invariant.book (not_refused x _ c.admits.result _ (own_record d) own c.admits.ensures c.if-not-admits.false c.self.invariant.book) c.in-Err.ensures.blames)

@@ -13,5 +13,5 @@ returns-clause-none g c =
 
 pub returns-clause-row : goal.returns-clause-row
 returns-clause-row g c =
-    subst (λ (y : Shown). IfSome c.defined_row.result (λ r. looked_row y c.args.home.now.place c.args.home.now.name ≡ Some r.now.value)) c.self.view_is
+    subst (λ (y : Shown). IfSome c.defined_row.result (λ r. looked_row y c.args.home.now.definer c.args.home.now.name ≡ Some r.now.value)) c.self.view_is
     (home_looked (λ r. r.value) g.T.Told.told _ c.self.invariant.kept (table_row c.self.inside.tables.items) c.self.invariant.rows (λ r. r.now) c.args.home.now c.defined_row.result c.defined_row.ensures.row)

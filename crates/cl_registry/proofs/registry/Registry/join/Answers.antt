@@ -15,22 +15,22 @@ pub returns-then-not-admits-clause-refused : goal.returns-then-not-admits-clause
 returns-then-not-admits-clause-refused g c =
     let x : Shown = shown_of c.self.inside in
     let h = c.args.home.now in
-    subst (λ (y : Shown). BlamesNeed y (needs.Entry c.asked_loader-then-not-admits.result c.args.name c.place-then-not-admits.result) (asked_record h)) c.self.view_is
-    (blamed_as x (asked_record h) (asked_record h) c.args.name c.args.name c.asked_loader.result c.asked_loader-then-not-admits.result c.place.result c.place-then-not-admits.result (c.asked_loader.ensures ∙ sym c.asked_loader-then-not-admits.ensures) (c.place.ensures ∙ sym c.place-then-not-admits.ensures) refl
-    (blames_record x _ c.admits.result _ _ _ (asked_record h) (asked_entry h c.asked_loader.result c.place.result c.args.name c.asked_loader.ensures c.place.ensures c.requires.named) c.admits.ensures c.if-not-admits.true c.self.invariant.book) refl)
+    subst (λ (y : Shown). BlamesNeed y (needs.Entry c.asked_loader-then-not-admits.result c.args.name c.definer-then-not-admits.result) (asked_record h)) c.self.view_is
+    (blamed_as x (asked_record h) (asked_record h) c.args.name c.args.name c.asked_loader.result c.asked_loader-then-not-admits.result c.definer.result c.definer-then-not-admits.result (c.asked_loader.ensures ∙ sym c.asked_loader-then-not-admits.ensures) (c.definer.ensures ∙ sym c.definer-then-not-admits.ensures) refl
+    (blames_record x _ c.admits.result _ _ _ (asked_record h) (asked_entry h c.asked_loader.result c.definer.result c.args.name c.asked_loader.ensures c.definer.ensures c.requires.named) c.admits.ensures c.if-not-admits.true c.self.invariant.book) refl)
 
 pub returns-in-Err-clause-refused : goal.returns-in-Err-clause-refused
 returns-in-Err-clause-refused g c =
     let x : Shown = shown_of c.self.inside in
     let h = c.args.home.now in
-    share_refused c.args.self.now h c.in-Err.fault c.requires.may (subst (λ (y : Shown). Refused (state_of y) (asked_record h) → ⊥) c.self.view_is (not_refused x _ c.admits.result _ (asked_record h) (asked_entry h c.asked_loader.result c.place.result c.args.name c.asked_loader.ensures c.place.ensures c.requires.named) c.admits.ensures c.if-not-admits.false c.self.invariant.book)) c.in-Err.ensures.refused
+    share_refused c.args.self.now h c.in-Err.fault c.requires.may (subst (λ (y : Shown). Refused (state_of y) (asked_record h) → ⊥) c.self.view_is (not_refused x _ c.admits.result _ (asked_record h) (asked_entry h c.asked_loader.result c.definer.result c.args.name c.asked_loader.ensures c.definer.ensures c.requires.named) c.admits.ensures c.if-not-admits.false c.self.invariant.book)) c.in-Err.ensures.refused
 
 pub returns-in-Err-join-clause-refused : goal.returns-in-Err-join-clause-refused
 returns-in-Err-join-clause-refused g c =
     let x : Shown = shown_of c.self.inside in
     let h = c.args.home.now in
     subst (λ (y : Shown). AddRefusedFor y (asked_record h) c.in-Err-join.fault) c.self.view_is
-    (add_refused x _ (asked_record h) c.in-Err-join.fault c.self.invariant.book (not_refused x _ c.admits.result _ (asked_record h) (asked_entry h c.asked_loader.result c.place.result c.args.name c.asked_loader.ensures c.place.ensures c.requires.named) c.admits.ensures c.if-not-admits.false c.self.invariant.book) c.in-Err-join.ensures.blames)
+    (add_refused x _ (asked_record h) c.in-Err-join.fault c.self.invariant.book (not_refused x _ c.admits.result _ (asked_record h) (asked_entry h c.asked_loader.result c.definer.result c.args.name c.asked_loader.ensures c.definer.ensures c.requires.named) c.admits.ensures c.if-not-admits.false c.self.invariant.book) c.in-Err-join.ensures.blames)
 
 pub join-requires-clause-fresh : goal.join-requires-clause-fresh
 join-requires-clause-fresh g c =
@@ -51,7 +51,7 @@ invariant_of-self-2 g c =
     let e = c.in-Ok-join.ensures in
     let fresh : LacksRecord x h.asked h.name = subst (λ (y : Shown). LacksRecord y h.asked h.name) (sym c.self.view_is) c.requires.fresh in
     let may : MayJoin x h = subst (λ (y : Shown). MayJoin y h) (sym c.self.view_is) c.requires.may in
-    let is : looked_row x h.place h.name ≡ Some c.in-Ok.row.value = subst (λ (y : Shown). looked_row y h.place h.name ≡ Some c.in-Ok.row.value) (sym c.self.view_is) c.in-Ok.ensures.row in
+    let is : looked_row x h.definer h.name ≡ Some c.in-Ok.row.value = subst (λ (y : Shown). looked_row y h.definer h.name ≡ Some c.in-Ok.row.value) (sym c.self.view_is) c.in-Ok.ensures.row in
     kept_initiated g.T.Told.told x h c.in-Ok.row.value _ _ _ _ _ _ _ _ c.to_come-left.result _ _ c.self.invariant c.in-Ok.ensures.leads c.in-Ok.ensures.within may fresh is e.entered e.put
     (record {
       width = e.width;
@@ -69,7 +69,7 @@ returns-clause-initiated g c =
     let y : Shown = record x { history = c.join.new.history.items } in
     let v = c.in-Ok-join.row.value in
     let may : MayJoin x h = subst (λ (z : Shown). MayJoin z h) (sym c.self.view_is) c.requires.may in
-    let is : looked_row x h.place h.name ≡ Some v = subst (λ (z : Shown). looked_row z h.place h.name ≡ Some c.in-Ok.row.value) (sym c.self.view_is) c.in-Ok.ensures.row ∙ ap (λ (w : Rowed). Some w) (sym e.row) in
+    let is : looked_row x h.definer h.name ≡ Some v = subst (λ (z : Shown). looked_row z h.definer h.name ≡ Some c.in-Ok.row.value) (sym c.self.view_is) c.in-Ok.ensures.row ∙ ap (λ (w : Rowed). Some w) (sym e.row) in
     subst (λ (z : Shown). InitiatedAs z y h v None) c.self.view_is (may, (e.entered (state_of x) c.self.invariant.book).0, shown_initiate x h _ e.event.events, is)
 
 pub returns-clause-kept : goal.returns-clause-kept

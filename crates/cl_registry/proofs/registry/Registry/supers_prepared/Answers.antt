@@ -11,7 +11,7 @@ returns-then-not-super_prepared g c =
 
 pub returns : goal.returns
 returns g c =
-    let each = c.places-at-end.ensures.each in
-    let long : length (supers (file_of c.args.row.now.file)) ≡ length c.places-at-end.result.now = sym each ∙ sym (ap length c.places-at-end.ensures.places) in
+    let each = c.definers-at-end.ensures.each in
+    let long : length (supers (file_of c.args.row.now.file)) ≡ length c.definers-at-end.result.now = sym each ∙ sym (ap length c.definers-at-end.ensures.definers) in
     let out = c.loop-at-test.false in
     all_there (IsPreparedAbove c.args.self.now c.args.row.now.class) (supers (file_of c.args.row.now.file)) (length (supers (file_of c.args.row.now.file))) (omega arith) (λ k h. c.loop-at.invariant k (omega arith))

@@ -1,4 +1,4 @@
--- The rows that a tour tells in the order of a lineage are that lineage.
+-- The rows that a tour lists in the order of a lineage are that lineage.
 use Rattle.std.proofs.Common.{◌≡◌, ◌∙◌, ◌-◌, inl, inr, Bool, true, false, ◌||◌, if◌then◌else◌, List, [], ◌∷◌, ◌++◌, Option, Some, None, append_assoc, append-nil, is_some, length, map, reverse, slice_get, refl, sym, ap, subst}
 use Rattle.std.proofs.lemmas.Bool.{or_parts, or_from}
 use Rattle.std.specs.List.{AllByRecursion}
@@ -14,7 +14,7 @@ use Rattle.cl_model.proofs.Complete.{is_class, or_true}
 use Rattle.cl_config.specs.Views.{Configured}
 use Rattle.cl_hierarchy.specs.declared.tour.TourOrder.TheVariants as orders
 use Rattle.cl_hierarchy.specs.Rows.{Rowed}
-use Rattle.cl_hierarchy.specs.Tours.{stops, told_at}
+use Rattle.cl_hierarchy.specs.Tours.{stops, listed_at}
 use Rattle.cl_hierarchy.specs.Trees.{AllKnown, SupersBefore, forest, in_front, interfaces_in, kin_named, kin_under, kins, kins_after, superclass_in}
 use Rattle.cl_hierarchy.specs.Lineages.{IsInOrder, IsLined, IsLineageOf, IsRowIn, IsWithinConfig, Lined, kin_of, row_of}
 use Rattle.cl_hierarchy.specs.RowTables.{AreRows, AreRowsAfter, IsMadeOf}
@@ -22,7 +22,7 @@ use Rattle.cl_hierarchy.proofs.Ancestry.{IsRowKin, kin_stays, kins_push, row_kin
 use Rattle.cl_hierarchy.proofs.Climbs.{before_split}
 use Rattle.cl_hierarchy.proofs.Ends.{all_pop, last_of}
 use Rattle.cl_hierarchy.proofs.RowTables.{made, supers_before}
-use Rattle.cl_hierarchy.proofs.Tours.{classes_both, lineage_told, within_join, within_right}
+use Rattle.cl_hierarchy.proofs.Tours.{classes_both, lineage_listed, within_join, within_right}
 use Rattle.std.proofs.lemmas.Option.{same_Some}
 
 -- ---- classes among others
@@ -182,30 +182,30 @@ part_kin ks known r part up over =
     ap (λ (f : Forest). made_of f (forest ks (interfaces_in r))) (part_forest ks known (superclass_in r) part up)
     ∙ ap (λ (f : Forest). made_of (forest known (superclass_in r)) f) (part_forest ks known (interfaces_in r) part over)
 
--- ---- rows that are told in that order
+-- ---- rows that are listed in that order
 
-record Stands (known ks : List Kin) (told : List Rowed) : Type 0 where
-  before : SupersBefore ks told
-  tree : reverse (kins_after ks told) ≡ reverse ks ++ map (kin_under known) told
+record Stands (known ks : List Kin) (listed : List Rowed) : Type 0 where
+  before : SupersBefore ks listed
+  tree : reverse (kins_after ks listed) ≡ reverse ks ++ map (kin_under known) listed
 
 pub reverse_first : (k : Kin) (ks : List Kin) → reverse (k ∷ ks) ≡ reverse ks ++ k ∷ []
 reverse_first k ks = reverse_onto ks k []
 
-stand : (rows : List Rowed) → SupersBefore [] rows → (ks : List Kin) (told : List Rowed) → Part ks (kins rows) → AllByRecursion (IsRowIn rows) told → Fresh (classes ks) (map (kin_under (kins rows)) told) → Stands (kins rows) ks told
+stand : (rows : List Rowed) → SupersBefore [] rows → (ks : List Kin) (listed : List Rowed) → Part ks (kins rows) → AllByRecursion (IsRowIn rows) listed → Fresh (classes ks) (map (kin_under (kins rows)) listed) → Stands (kins rows) ks listed
 stand rows ordered ks [] part all fresh = record { before = tt; tree = sym (append-nil (reverse ks)) }
-stand rows ordered ks (r ∷ told) part all fresh =
+stand rows ordered ks (r ∷ listed) part all fresh =
     let known : List Kin = kins rows in
     let k : Kin = kin_under known r in
     let is : IsRowKin known r.class r = row_kin [] rows r.class r ordered all.0 in
     let up : AllKnown ks (superclass_in r) = all_known ks (superclass_in r) (λ c e. fresh.1.superclass c (roots_are known (superclass_in r) is.superclass c e)) in
     let over : AllKnown ks (interfaces_in r) = all_known ks (interfaces_in r) (λ c e. fresh.1.interfaces c (roots_are known (interfaces_in r) is.interfaces c e)) in
     let same : kin_under ks r ≡ k = part_kin ks known r part up over in
-    let rest : Stands known (k ∷ ks) told = stand rows ordered (k ∷ ks) told (part_more ks known k part is.kin) all.1 fresh.2 in
+    let rest : Stands known (k ∷ ks) listed = stand rows ordered (k ∷ ks) listed (part_more ks known k part is.kin) all.1 fresh.2 in
     record {
-      before = (record { is_new = kin_absent ks r.class fresh.0; superclass = up; interfaces = over }, subst (λ (x : Kin). SupersBefore (x ∷ ks) told) (sym same) rest.before);
+      before = (record { is_new = kin_absent ks r.class fresh.0; superclass = up; interfaces = over }, subst (λ (x : Kin). SupersBefore (x ∷ ks) listed) (sym same) rest.before);
       tree =
-          ap (λ (x : Kin). reverse (kins_after (x ∷ ks) told)) same ∙ rest.tree ∙ ap (λ (xs : List Kin). xs ++ map (kin_under known) told) (reverse_first k ks)
-          ∙ append_assoc (reverse ks) (k ∷ []) (map (kin_under known) told);
+          ap (λ (x : Kin). reverse (kins_after (x ∷ ks) listed)) same ∙ rest.tree ∙ ap (λ (xs : List Kin). xs ++ map (kin_under known) listed) (reverse_first k ks)
+          ∙ append_assoc (reverse ks) (k ∷ []) (map (kin_under known) listed);
     }
 
 -- ---- no class stands above itself
@@ -301,12 +301,12 @@ is_lineage : (told : Option Content) (config : Configured) (rows above : List Ro
 is_lineage None config rows above own c h e = tt
 is_lineage (Some content) config rows above own c h e = made config content rows c (kin_under (kins above) own) h e
 
--- ---- what was told is the lineage of the class
+-- ---- what was listed is the lineage of the class
 
 -- rows of a table in the order of the lineage of one of them
-pub record AreTold (rows : List Rowed) (start : Rowed) (told : List Rowed) : Type 0 where
-  pub all : AllByRecursion (IsRowIn rows) told
-  pub order : map (kin_under (kins rows)) told ≡ lineage (kin_under (kins rows) start)
+pub record AreListed (rows : List Rowed) (start : Rowed) (listed : List Rowed) : Type 0 where
+  pub all : AllByRecursion (IsRowIn rows) listed
+  pub order : map (kin_under (kins rows)) listed ≡ lineage (kin_under (kins rows) start)
 
 -- the last of the lineage of a row is its own class
 pub lineage_ends : (rows : List Rowed) (c : Class) (start : Rowed) → SupersBefore [] rows → row_of rows c ≡ Some start
@@ -319,14 +319,14 @@ lineage_ends rows c start ordered e =
     once_last [] (postorder k.superclass ++ postorder k.interfaces) k refl apart
 
 -- the rows of a lineage, the own one last, and what tree they make
-pub record IsToldOrder (rows : List Rowed) (start : Rowed) (l : Lined) : Type 0 where
+pub record IsListedOrder (rows : List Rowed) (start : Rowed) (l : Lined) : Type 0 where
   pub order : IsInOrder l
   pub kin : kin_of l ≡ kin_under (kins rows) l.own
   pub own_kin : kin_under (kins rows) l.own ≡ kin_under (kins rows) start
 
-pub told_order : (config : Configured) (rows : List Rowed) (c : Class) (start : Rowed) (above : List Rowed) (own : Rowed) → SupersBefore [] rows → row_of rows c ≡ Some start → AreTold rows start (above ++ own ∷ [])
-    → IsToldOrder rows start (record { config = config; above = above; own = own })
-told_order config rows c start above own ordered e t =
+pub listed_order : (config : Configured) (rows : List Rowed) (c : Class) (start : Rowed) (above : List Rowed) (own : Rowed) → SupersBefore [] rows → row_of rows c ≡ Some start → AreListed rows start (above ++ own ∷ [])
+    → IsListedOrder rows start (record { config = config; above = above; own = own })
+listed_order config rows c start above own ordered e t =
     let known : List Kin = kins rows in
     let k : Kin = kin_under known start in
     let l : Lined = record { config = config; above = above; own = own } in
@@ -351,13 +351,13 @@ pub record IsLineageMade (told : Option Content) (config : Configured) (rows : L
   pub lined : IsLined told l
   pub made : IsMadeOf config rows c l
 
-pub lineage_made : (told : Option Content) (config : Configured) (rows : List Rowed) (c : Class) (start : Rowed) (above : List Rowed) (own : Rowed) → AreRows told config rows → row_of rows c ≡ Some start → AreTold rows start (above ++ own ∷ [])
+pub lineage_made : (told : Option Content) (config : Configured) (rows : List Rowed) (c : Class) (start : Rowed) (above : List Rowed) (own : Rowed) → AreRows told config rows → row_of rows c ≡ Some start → AreListed rows start (above ++ own ∷ [])
     → IsLineageMade told config rows c (record { config = config; above = above; own = own })
 lineage_made told config rows c start above own h e t =
     let ordered : SupersBefore [] rows = supers_before told config rows h in
     let l : Lined = record { config = config; above = above; own = own } in
     let first : IsRowKin (kins rows) c start = row_kin [] rows c start ordered e in
-    let is = told_order config rows c start above own ordered e t in
+    let is = listed_order config rows c start above own ordered e t in
     let named : kin_named (kins rows) c ≡ Some (kin_of l) = first.kin ∙ ap (λ (x : Kin). Some x) (sym (is.kin ∙ is.own_kin)) in
     let own_class : own.class ≡ c = ap (λ (x : Kin). x.class) is.own_kin ∙ first.same in
     let last : IsRowIn rows own = (all_pop (IsRowIn rows) above own t.all).1 in
@@ -376,18 +376,18 @@ pub all_forth : {A B : Type 0} (f : A → B) (P : B → Type 0) (xs : List A) �
 all_forth f P [] h = tt
 all_forth f P (x ∷ xs) h = (h.0, all_forth f P xs h.1)
 
-pub told_in : {A : Type 0} (v : A → Rowed) (rows : List Rowed) (start : Rowed) (items : List A) → map (λ x. kin_under (kins rows) (v x)) items ≡ once (told_at orders.Lineage (stops orders.Lineage (alone (kin_under (kins rows) start)) true))
-    → AllByRecursion (λ x. IsRowIn rows (v x)) items → AreTold rows start (map v items)
-told_in v rows start items e all = record {
+pub listed_in : {A : Type 0} (v : A → Rowed) (rows : List Rowed) (start : Rowed) (items : List A) → map (λ x. kin_under (kins rows) (v x)) items ≡ once (listed_at orders.Lineage (stops orders.Lineage (alone (kin_under (kins rows) start)) true))
+    → AllByRecursion (λ x. IsRowIn rows (v x)) items → AreListed rows start (map v items)
+listed_in v rows start items e all = record {
   all = all_forth v (IsRowIn rows) items all;
-  order = map-map (kin_under (kins rows)) v items ∙ e ∙ ap (λ (ks : List Kin). once ks) (lineage_told (alone (kin_under (kins rows) start)) true);
+  order = map-map (kin_under (kins rows)) v items ∙ e ∙ ap (λ (ks : List Kin). once ks) (lineage_listed (alone (kin_under (kins rows) start)) true);
 }
 
-pub told_made : {A : Type 0} (v : A → Rowed) (told : Option Content) (config : Configured) (rows : List Rowed) (held : Configured) (c : Class) (start : Rowed) (items rest : List A) (x : A) → AreRows told config rows → held ≡ config → row_of rows c ≡ Some start
-    → AreTold rows start (map v items) → items ≡ rest ++ x ∷ [] → IsLineageMade told config rows c (record { config = held; above = map v rest; own = v x })
-told_made {A} v told config rows held c start items rest x h same e t split =
+pub listed_made : {A : Type 0} (v : A → Rowed) (told : Option Content) (config : Configured) (rows : List Rowed) (held : Configured) (c : Class) (start : Rowed) (items rest : List A) (x : A) → AreRows told config rows → held ≡ config → row_of rows c ≡ Some start
+    → AreListed rows start (map v items) → items ≡ rest ++ x ∷ [] → IsLineageMade told config rows c (record { config = held; above = map v rest; own = v x })
+listed_made {A} v told config rows held c start items rest x h same e t split =
     subst (λ (k : Configured). IsLineageMade told config rows c (record { config = k; above = map v rest; own = v x })) (sym same) (
-    lineage_made told config rows c start (map v rest) (v x) h e (subst (λ (rs : List Rowed). AreTold rows start rs) (ap (λ (xs : List A). map v xs) split ∙ map_push v rest x) t)
+    lineage_made told config rows c start (map v rest) (v x) h e (subst (λ (rs : List Rowed). AreListed rows start rs) (ap (λ (xs : List A). map v xs) split ∙ map_push v rest x) t)
     )
 
 -- the row of a class is that of its own class
@@ -396,9 +396,9 @@ row_in told config rows c start h e =
     let is = row_kin [] rows c start (supers_before told config rows h) e in
     subst (λ (x : Class). row_of rows x ≡ Some start) (sym is.same) e
 
--- something was told
-pub nothing_told : (rows : List Rowed) (c : Class) (start : Rowed) → SupersBefore [] rows → row_of rows c ≡ Some start → AreTold rows start [] → ⊥
-nothing_told rows c start ordered e t =
+-- something was listed
+pub nothing_listed : (rows : List Rowed) (c : Class) (start : Rowed) → SupersBefore [] rows → row_of rows c ≡ Some start → AreListed rows start [] → ⊥
+nothing_listed rows c start ordered e t =
     let k : Kin = kin_under (kins rows) start in
     nothing (once (postorder k.superclass ++ postorder k.interfaces)) k (t.order ∙ lineage_ends rows c start ordered e)
   where
@@ -406,6 +406,6 @@ nothing_told rows c start ordered e t =
     nothing [] k e = absurd cc
     nothing (x ∷ xs) k e = absurd cc
 
-pub told_some : {A : Type 0} (v : A → Rowed) (told : Option Content) (config : Configured) (rows : List Rowed) (c : Class) (start : Rowed) (items : List A) → AreRows told config rows → row_of rows c ≡ Some start → AreTold rows start (map v items) → length items ≡ 0 → ⊥
-told_some v told config rows c start [] h e t n = nothing_told rows c start (supers_before told config rows h) e t
-told_some v told config rows c start (x ∷ items) h e t n = absurd cc
+pub listed_some : {A : Type 0} (v : A → Rowed) (told : Option Content) (config : Configured) (rows : List Rowed) (c : Class) (start : Rowed) (items : List A) → AreRows told config rows → row_of rows c ≡ Some start → AreListed rows start (map v items) → length items ≡ 0 → ⊥
+listed_some v told config rows c start [] h e t n = nothing_listed rows c start (supers_before told config rows h) e t
+listed_some v told config rows c start (x ∷ items) h e t n = absurd cc

@@ -27,12 +27,11 @@ use Rattle.cl_model.proofs.Aims.{next_left, next_right}
 use Rattle.cl_model.proofs.Closed.{all_left, all_right}
 use Rattle.cl_config.specs.Views.{Configured}
 use Rattle.cl_delegation.specs.Worlds.{world_of}
-use Rattle.cl_hierarchy.specs.Imposed.{AreOf, Listed, OfPreparation, Sprung, needs_of}
+use Rattle.cl_hierarchy.specs.Imposed.{AreLineages, AreOf, Listed, OfPreparation, Sprung, needs_of}
 use Rattle.cl_hierarchy.specs.Lineages.{IsInOrder, IsLined, IsLineageOf, Lined, kin_of, rows_in}
 use Rattle.cl_hierarchy.specs.Rows.{Rowed}
 use Rattle.cl_hierarchy.specs.Trees.{kin_under, kins, kins_after}
 use Rattle.cl_hierarchy.proofs.Tours.{classes_both}
-use Rattle.cl_findings.specs.Bases.{AreLineages}
 use Rattle.cl_findings.specs.Findings.{HasImposed, LinkIsPlaced, NeedIsPlaced, Rests, loader_of, grounded_answer}
 use Rattle.cl_findings.specs.References.{AreLinked, link_basis}
 use Rattle.cl_findings.proofs.Plain.{linkage_apart}

@@ -26,14 +26,13 @@ use Rattle.cl_model.proofs.Trees.{lineage_is_derived}
 use Rattle.cl_config.specs.Views.{Configured}
 use Rattle.cl_delegation.specs.Worlds.{world_of}
 use Rattle.cl_hierarchy.specs.Drafts.{IsSpelt}
-use Rattle.cl_hierarchy.specs.Imposed.{AreOf, AreOfReference, Listed, OfPreparation, OfReference, Sprung, equal_need, needs_of}
+use Rattle.cl_hierarchy.specs.Imposed.{AreLineages, AreOf, AreOfReference, Listed, OfPreparation, OfReference, Sprung, equal_need, needs_of}
 use Rattle.std.proofs.lemmas.List.{length-map}
 use Rattle.cl_hierarchy.specs.Lineages.{IsLineageOf, Lined, kin_of}
 use Rattle.cl_hierarchy.specs.Rows.{Rowed}
 use Rattle.cl_members.specs.Asking.{IsFoundAs, IsLocated, LocatedMember}
 use Rattle.cl_members.specs.declared.fault.LookupFault.{LookupFault}
 use Rattle.cl_members.specs.declared.fault.LookupFault.TheVariants as faults
-use Rattle.cl_findings.specs.Bases.{AreLineages}
 use Rattle.cl_findings.specs.Findings.{Based, NeedIsPlaced, Resolves, Rests, VerdictRests, loader_of, grounded_answer}
 use Rattle.cl_findings.specs.References.{AreAsked, EndsAtClass, EndsAtOnce, GoesTo, IsAtClass, IsAtOnce, IsLookupError, IsOfFound, asked_basis, class_basis, origin_config, entry_basis, fault_verdict, resolved_index, member_basis, sprung_needs}
 use Rattle.cl_findings.proofs.Files.{kept_lineage}

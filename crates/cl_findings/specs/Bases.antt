@@ -4,9 +4,7 @@ use Rattle.cl_model.specs.declared.request.Request as request
 use Rattle.cl_model.specs.States.{Need, Entry}
 use Rattle.cl_model.specs.Content.{Content}
 use Rattle.cl_hierarchy.specs.Drafts.{IsSpelt}
-use Rattle.cl_hierarchy.specs.Imposed.{Sprung, OfReference, OfPreparation}
 use Rattle.cl_hierarchy.specs.Imposed as imposed
-use Rattle.cl_hierarchy.specs.Lineages.{IsLined}
 use Rattle.cl_hierarchy.specs.Paths.{Pathed, at_loader, at_name}
 use Rattle.cl_findings.specs.Findings.{Based}
 use Rattle.cl_findings.specs.Loads.{load_basis, next_need, next_needs}
@@ -55,13 +53,3 @@ basis_of r (bases.Linked l place e met) =
 abbrev pub IsSpeltIn : {A : Type 0} → Option Content → Target A → Type 0
 IsSpeltIn told targets.Own = Unit {0}
 IsSpeltIn told (targets.Reference d) = IsSpelt told d.value.class d.value.file
-
--- the lineages that a list of equalities was made from are such (5.3.5)
-abbrev pub AreLineages : Option Content → Sprung → Type 0
-AreLineages told (OfReference d c index) = IsLined told d × IsLined told c
-AreLineages told (OfPreparation at) = IsLined told at
-
--- a list is the definitions' of what it was made from (5.4.2, 5.4.3)
-pub record IsListed (told : Option Content) (e : imposed.Listed) : Type 0 where
-  pub lineages : AreLineages told e.origin
-  pub are : imposed.AreOf e.origin (imposed.needs_of e.needs)

@@ -14,5 +14,4 @@ mod within;
 
 pub use finding::Finding;
 pub use load::{NextRecord, Obstacle, Target};
-pub use refusal::bring_lineages;
 pub use tables::Tables;

@@ -4,30 +4,14 @@ ghost use Rattle.std.specs.Prelude.{◌≡◌, Some, slice_get};
 ghost use Rattle.cl_model.specs.declared.verdict.Verdict.TheVariants as verdicts;
 ghost use Rattle.cl_model.specs.Views.{need_of};
 ghost use Rattle.cl_hierarchy.specs.Imposed.{needs_of};
-ghost use Rattle.cl_findings.specs.Bases.{IsListed};
 ghost use Rattle.cl_findings.specs.Findings.{grounded_answer};
 ghost use Rattle.cl_findings.specs.References.{AreAsked, AreLinked, asked_basis, link_basis};
 
 use crate::basis::Basis;
 use crate::finding::Finding;
-use cl_hierarchy::{Equalities, Lineage, Origin};
+use cl_hierarchy::{Equalities, Lineage};
 use cl_model::{Need, Request, Told, Verdict};
 use std::sync::Arc;
-
-/// Brings what a list of equalities keeps, and what the lineages keep that it was made from.
-pub fn bring_lineages<T: Told>(equalities: &Equalities<T>)
-    ensures { IsListed T.told equalities.now }
-{
-    match equalities.origin() {
-        Origin::Reference { d, c, .. } => {
-            let _ = d.class();
-            let _ = c.class();
-        }
-        Origin::Preparation { lineage } => {
-            let _ = lineage.class();
-        }
-    }
-}
 
 impl<T: Told> Finding<T> {
     /// The refusal of the equality at this index of those of an entry's member, all before which are imposed: LinkageError of
@@ -43,7 +27,8 @@ impl<T: Told> Finding<T> {
         ensures { result ≡ grounded_answer request (verdicts.Linkage need)
             (asked_basis request equalities.value index (Some (need_of need))) }
     {
-        bring_lineages(&equalities);
+        // brings what the list keeps
+        let _ = equalities.needs();
         let basis = Basis::Asked {
             equalities,
             met: index,
@@ -67,8 +52,8 @@ impl<T: Told> Finding<T> {
         ensures { result ≡ grounded_answer request (verdicts.Linkage need)
             (link_basis request lineage place equalities.value index (Some (need_of need))) }
     {
-        bring_lineages(&equalities);
-        // brings what is kept of the lineage
+        // brings what the list and the lineage keep
+        let _ = equalities.needs();
         let _ = lineage.class();
         let basis = Basis::Linked {
             lineage,

@@ -1,14 +1,15 @@
 -- Lists of loading constraints, with what they were made from (JVMS SE 8, 5.3.4, 5.4.2, 5.4.3).
-use Rattle.std.specs.Prelude.{◌≡◌, ℕ, List, map, Some}
+use Rattle.std.specs.Prelude.{◌≡◌, ℕ, List, map, Option, Some}
 use Rattle.cl_model.specs.declared.need.Equality.{Equality}
 use Rattle.cl_model.specs.declared.need.Need.TheVariants as needs
+use Rattle.cl_model.specs.Content.{Content}
 use Rattle.cl_model.specs.Lineages.{Kin}
 use Rattle.cl_model.specs.Plans.{CitesClass, resolve_in}
 use Rattle.cl_model.specs.Preparation.{constraints_of}
 use Rattle.cl_model.specs.States.{Need, Verdict}
 use Rattle.cl_model.specs.Views.{need_of}
 use Rattle.cl_model.specs.Works.{Made}
-use Rattle.cl_hierarchy.specs.Lineages.{Lined, kin_of}
+use Rattle.cl_hierarchy.specs.Lineages.{IsLined, Lined, kin_of}
 use Rattle.cl_hierarchy.specs.declared.equalities.Origin.{Origin}
 use Rattle.cl_hierarchy.specs.declared.equalities.Origin.TheVariants as origins
 
@@ -48,3 +49,13 @@ pub record AreOfReference (d c : Kin) (index : ℕ) (needs : List Need) : Type 0
 abbrev pub AreOf : Sprung → List Need → Type 0
 AreOf (OfReference d c index) needs = AreOfReference (kin_of d) (kin_of c) index needs
 AreOf (OfPreparation l) needs = needs ≡ constraints_of (kin_of l)
+
+-- the lineages that a list was made from are such (5.3.5)
+abbrev pub AreLineages : Option Content → Sprung → Type 0
+AreLineages told (OfReference d c index) = IsLined told d × IsLined told c
+AreLineages told (OfPreparation l) = IsLined told l
+
+-- a list is the definitions' of what it was made from (5.4.2, 5.4.3)
+pub record IsListed (told : Option Content) (e : Listed) : Type 0 where
+  pub lineages : AreLineages told e.origin
+  pub are : AreOf e.origin (needs_of e.needs)

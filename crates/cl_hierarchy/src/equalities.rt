@@ -2,7 +2,7 @@
 
 ghost use Rattle.std.specs.Prelude.{◌≡◌};
 ghost use Rattle.cl_model.specs.Preparation.{constraints_of, equal_between};
-ghost use Rattle.cl_hierarchy.specs.Imposed.{AreOf, AreOfReference, OfPreparation, OfReference, equal_need, needs_of, sprung};
+ghost use Rattle.cl_hierarchy.specs.Imposed.{AreOfReference, IsListed, OfPreparation, OfReference, equal_need, needs_of, sprung};
 ghost use Rattle.cl_hierarchy.specs.Lineages.{kin_of};
 
 use crate::lineage::Lineage;
@@ -68,13 +68,16 @@ impl<T: Told> Drop for Equalities<T> {
 }
 
 impl<T: Told> Model for Equalities<T> {
-    ghost use Rattle.cl_hierarchy.specs.Imposed.{AreOf, Listed, needs_of, sprung};
+    ghost use Rattle.cl_hierarchy.specs.Imposed.{IsListed, Listed, sprung};
 
     ghost Value = { Listed };
 
     ghost view = { λ e. record { needs = e.needs.items; origin = sprung e.origin } };
 
-    ghost invariant = { λ e. AreOf (sprung e.origin) (needs_of e.needs.items) };
+    ghost invariant = { λ e. IsListed T.told (record {
+      needs = e.needs.items;
+      origin = sprung e.origin;
+    }) };
 }
 
 impl<T: Told> Equalities<T> {
@@ -91,6 +94,9 @@ impl<T: Told> Equalities<T> {
           origin = OfReference d c index;
         } }
     {
+        // brings what the lineages keep
+        let _ = d.class();
+        let _ = c.class();
         let origin = Origin::Reference { d, c, index };
         Equalities { needs, origin }
     }
@@ -100,6 +106,8 @@ impl<T: Told> Equalities<T> {
         requires { needs_of needs.items ≡ constraints_of (kin_of lineage) }
         ensures { result ≡ record { needs = needs.items; origin = OfPreparation lineage } }
     {
+        // brings what the lineage keeps
+        let _ = lineage.class();
         let origin = Origin::Preparation { lineage };
         Equalities { needs, origin }
     }
@@ -107,7 +115,7 @@ impl<T: Told> Equalities<T> {
     /// The equalities, in order.
     pub fn needs(&self) -> &[Equality]
         ensures needs { result.now ≡ self.now.needs }
-        ensures kept { AreOf self.now.origin (needs_of self.now.needs) }
+        ensures kept { IsListed T.told self.now }
     {
         self.needs.as_slice()
     }
@@ -115,7 +123,7 @@ impl<T: Told> Equalities<T> {
     /// What they were made from.
     pub fn origin(&self) -> &Origin<T>
         ensures origin { sprung result.now ≡ self.now.origin }
-        ensures kept { AreOf self.now.origin (needs_of self.now.needs) }
+        ensures kept { IsListed T.told self.now }
     {
         &self.origin
     }

@@ -19,11 +19,10 @@ use Rattle.cl_model.proofs.Aims.{next_right}
 use Rattle.cl_config.specs.Views.{Configured}
 use Rattle.cl_constraints.proofs.Standing.{unrefused}
 use Rattle.cl_delegation.specs.Worlds.{world_of, setting_of}
-use Rattle.cl_hierarchy.specs.Imposed.{AreOf, Sprung, OfPreparation, OfReference, equal_need, needs_of}
+use Rattle.cl_hierarchy.specs.Imposed.{AreLineages, AreOf, OfPreparation, OfReference, Sprung, equal_need, needs_of}
 use Rattle.cl_hierarchy.specs.Lineages.{IsLined, Lined, kin_of}
 use Rattle.cl_findings.proofs.References.{through_made}
 use Rattle.cl_registry.specs.Allowed.{ImposedIsAllowed, MarkedIsAllowed, AllowedIsMarked}
-use Rattle.cl_findings.specs.Bases.{AreLineages}
 use Rattle.cl_registry.specs.Imposing.{ArePreparedAbove, OriginStands}
 use Rattle.cl_registry.specs.Tables.{Shown, IsKept, state_of}
 use Rattle.cl_registry.proofs.Allowed.{closed_of}

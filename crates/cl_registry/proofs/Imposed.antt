@@ -20,12 +20,11 @@ use Rattle.cl_config.specs.Views.{Configured}
 use Rattle.cl_constraints.specs.Books.{IsBookOf, SaysRefused}
 use Rattle.cl_constraints.proofs.Standing.{unrefused}
 use Rattle.cl_delegation.specs.Worlds.{setting_of}
-use Rattle.cl_hierarchy.specs.Imposed.{AreOf, Listed, Sprung, OfPreparation, OfReference, equal_need, needs_of}
+use Rattle.cl_hierarchy.specs.Imposed.{AreLineages, AreOf, IsListed, Listed, OfPreparation, OfReference, Sprung, equal_need, needs_of}
 use Rattle.cl_hierarchy.specs.Lineages.{IsWithinConfig, Lined, kin_of, rows_in, row_of}
 use Rattle.cl_hierarchy.specs.Rows.{Rowed}
 use Rattle.cl_registry.specs.declared.registry.RegistryFault.{RegistryFault}
 use Rattle.cl_registry.specs.declared.registry.RegistryFault.TheVariants.{Memory, Stray, Violates, AlreadyPosted, NotYet}
-use Rattle.cl_findings.specs.Bases.{AreLineages, IsListed}
 use Rattle.cl_registry.specs.Imposing.{IsNextOf, MayConstrainAs, MayImpose, MayPrepareAs, OriginStands, with_constrain, with_prepare}
 use Rattle.cl_registry.specs.Kept.{Fields, IsRegistry}
 use Rattle.cl_registry.specs.Refusals.{AddRefusedFor, BlamesNeed, ImposeRefusedFor}

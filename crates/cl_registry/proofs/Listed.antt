@@ -22,11 +22,10 @@ use Rattle.cl_model.proofs.Progress.{IsEntry, derive_records, load_records, met_
 use Rattle.cl_model.proofs.Through.{resolves_through}
 use Rattle.cl_model.proofs.Trees.{derive_gives, lineage_is_derived}
 use Rattle.cl_delegation.specs.Worlds.{world_of}
-use Rattle.cl_hierarchy.specs.Imposed.{AreOf, OfPreparation, OfReference, Sprung, needs_of}
+use Rattle.cl_hierarchy.specs.Imposed.{AreLineages, AreOf, OfPreparation, OfReference, Sprung, needs_of}
 use Rattle.cl_hierarchy.specs.Lineages.{kin_of}
 use Rattle.cl_findings.proofs.References.{opened}
 use Rattle.cl_registry.specs.Tables.{Shown, state_of}
-use Rattle.cl_findings.specs.Bases.{AreLineages}
 use Rattle.cl_registry.specs.Imposing.{AreOfConfig, IsListOf, OriginStands}
 use Rattle.cl_registry.specs.Allowed.{AllowedIsImposed}
 use Rattle.cl_registry.proofs.Constrained.{lineage_at}

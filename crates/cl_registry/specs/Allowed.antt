@@ -10,11 +10,10 @@ use Rattle.cl_model.specs.Machine.{MayConstrain, MayDefine, MayInitiate, MayPost
 use Rattle.cl_delegation.specs.Searches.{Located, LeadsTo}
 use Rattle.cl_delegation.specs.Worlds.{world_of}
 use Rattle.cl_hierarchy.specs.Drafts.{IsDraft, Drafted}
-use Rattle.cl_hierarchy.specs.Imposed.{Listed, OfPreparation, equal_need, needs_of}
+use Rattle.cl_hierarchy.specs.Imposed.{IsListed, Listed, OfPreparation, equal_need, needs_of}
 use Rattle.cl_hierarchy.specs.Lineages.{Lined}
 use Rattle.cl_findings.specs.Findings.{Answered, IsLookedUp, Rests, Stands}
 use Rattle.cl_registry.specs.declared.registry.RegistryFault.TheVariants.{Stray}
-use Rattle.cl_findings.specs.Bases.{IsListed}
 use Rattle.cl_registry.specs.Imposing.{AreOfConfig, IsListOf, IsReady, MayImpose}
 use Rattle.cl_registry.specs.Posting.{AnswerFits}
 use Rattle.cl_registry.specs.Refusals.{DefineRefusedFor}

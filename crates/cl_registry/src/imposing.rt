@@ -22,7 +22,6 @@ use crate::registry::{Registry, RegistryFault};
 use crate::rounds::to_come;
 use crate::tables::has;
 use cl_constraints::{BookFault, ConstraintBook, GroupedBook, Refusal};
-use cl_findings::bring_lineages;
 use cl_hierarchy::{ClassRow, Equalities, Lineage, Origin, class_accessible};
 use cl_model::{Class, Equality, Event, Need, Told};
 use cl_names::{Name, Seed};
@@ -146,7 +145,6 @@ impl<T: Told> Registry<T> {
         requires may { MayImpose self.old list.now place }
         ensures says { ImposeSays T.told self.old self.new list.now place result }
     {
-        bring_lineages(list);
         let equalities = list.needs();
         let equality = &equalities[place];
         if is_met(&self.book, self.met.as_slice(), place, equality) {

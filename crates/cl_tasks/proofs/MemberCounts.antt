@@ -17,10 +17,9 @@ use Rattle.cl_model.proofs.Through.{reference_goes}
 use Rattle.cl_model.proofs.Trees.{lineage_is_derived}
 use Rattle.cl_config.specs.Views.{Configured}
 use Rattle.cl_delegation.specs.Worlds.{world_of}
-use Rattle.cl_findings.specs.Bases.{AreLineages}
 use Rattle.cl_findings.specs.Findings.{loader_of}
 use Rattle.cl_findings.specs.References.{GoesTo}
-use Rattle.cl_hierarchy.specs.Imposed.{AreOf, AreOfReference, OfReference, Sprung, needs_of}
+use Rattle.cl_hierarchy.specs.Imposed.{AreLineages, AreOf, AreOfReference, OfReference, Sprung, needs_of}
 use Rattle.cl_hierarchy.specs.Lineages.{IsLineageOf, Lined, kin_of}
 use Rattle.cl_findings.proofs.References.{through_made}
 use Rattle.cl_registry.specs.Tables.{Shown, state_of}

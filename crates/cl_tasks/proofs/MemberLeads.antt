@@ -22,12 +22,11 @@ use Rattle.cl_model.specs.Views.{need_of, request_of, verdict_of}
 use Rattle.cl_model.proofs.Service.{need_next, resolve_wants}
 use Rattle.cl_model.proofs.Closed.{met_both}
 use Rattle.cl_config.specs.Views.{Configured}
-use Rattle.cl_hierarchy.specs.Imposed.{Listed, Sprung, equal_need, needs_of}
+use Rattle.cl_hierarchy.specs.Imposed.{IsListed, Listed, Sprung, equal_need, needs_of}
 use Rattle.cl_hierarchy.specs.Lineages.{Lined}
 use Rattle.cl_hierarchy.specs.Rows.{Rowed}
 use Rattle.cl_members.specs.Asking.{IsDeniedIn, IsLocated}
 use Rattle.cl_members.specs.declared.fault.LookupFault.{LookupFault}
-use Rattle.cl_findings.specs.Bases.{IsListed}
 use Rattle.cl_findings.specs.Findings.{Answered, Based, Rests, grounded_answer, loader_of}
 use Rattle.cl_findings.specs.References.{AreAsked, IsOfFound, asked_basis, class_basis, origin_config, fault_verdict, member_basis, reference_needs, sprung_needs}
 use Rattle.cl_findings.proofs.References.{asked_rests}

@@ -23,10 +23,9 @@ use Rattle.cl_model.specs.Views.{need_of, request_of}
 use Rattle.cl_model.proofs.Bind.{some_same}
 use Rattle.cl_model.proofs.Gone.{link_refusal_comes}
 use Rattle.cl_config.specs.Views.{Configured}
-use Rattle.cl_hierarchy.specs.Imposed.{AreOf, Listed, OfPreparation, Sprung, equal_need, needs_of}
+use Rattle.cl_hierarchy.specs.Imposed.{AreLineages, AreOf, IsListed, Listed, OfPreparation, Sprung, equal_need, needs_of}
 use Rattle.cl_hierarchy.specs.Lineages.{IsInOrder, IsLined, IsLineageOf, Lined, kin_of, rows_in, row_of}
 use Rattle.cl_hierarchy.specs.Rows.{Rowed}
-use Rattle.cl_findings.specs.Bases.{AreLineages, IsListed}
 use Rattle.cl_findings.specs.Findings.{Answered, BasisStands, IsWithin, grounded_answer, loader_of}
 use Rattle.cl_findings.specs.References.{link_basis}
 use Rattle.cl_findings.proofs.References.{next_at, whole_taken}

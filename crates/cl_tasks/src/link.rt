@@ -2,7 +2,7 @@
 //! then that it is prepared; those that are prepared already, as many as stand first, are passed (JVMS SE 8, 5.4, 5.4.2).
 
 ghost use Rattle.std.specs.Prelude.{◌≡◌, ◌≤◌, Some, IfOk, length, take, true};
-ghost use Rattle.cl_hierarchy.specs.Imposed.{OfPreparation, needs_of};
+ghost use Rattle.cl_hierarchy.specs.Imposed.{IsListed, OfPreparation, needs_of};
 ghost use Rattle.cl_model.specs.States.{AllMet, State};
 ghost use Rattle.cl_model.specs.Views.{need_of};
 ghost use Rattle.cl_model.specs.declared.answer.Answer.TheVariants as answers;
@@ -19,7 +19,7 @@ use crate::leads::{out_of_memory, post};
 use crate::stage::{Chain, Goal, Link, Next, Stage};
 use crate::turn::Turn;
 use cl_config::Config;
-use cl_findings::{Finding, bring_lineages};
+use cl_findings::Finding;
 use cl_hierarchy::{Equalities, Lineage};
 use cl_model::{Class, Need, Told};
 use cl_preparation::constraints_of;
@@ -235,7 +235,6 @@ pub(crate) fn take_traced<T: Told>(
         Ok(list) => {
             // brings that a `usize` counts them, and what the list keeps
             let _ = count_needs(&list);
-            bring_lineages(&list);
             impose(alloc, config, chain, list, 0)
         }
     }
@@ -251,7 +250,8 @@ fn list_of<T: Told>(alloc: Global, lineage: &Lineage<T>) -> Result<Arc<Equalitie
 
 /// How many equalities a list has.
 pub(crate) fn count_needs<T: Told>(list: &Equalities<T>) -> usize
-    ensures { result ≡ length list.now.needs }
+    ensures count { result ≡ length list.now.needs }
+    ensures kept { IsListed T.told list.now }
 {
     list.needs().len()
 }
@@ -313,9 +313,8 @@ fn impose_at<T: Told>(
     ensures plain { IsPlain result.turn }
     ensures past { IsPast result.stage }
 {
-    // brings what the lineage and the list keep
+    // brings what the lineage keeps
     let _ = chain.whole.class();
-    bring_lineages(&list);
     let Ok(shared) = Arc::try_clone(&list) else {
         return give_up(chain);
     };
@@ -378,7 +377,7 @@ pub(crate) fn refuse_link<T: Told>(
 {
     // brings what the lineage and the list keep
     let _ = chain.whole.class();
-    bring_lineages(&list);
+    let _ = list.needs();
     let Chain {
         goal,
         whole,

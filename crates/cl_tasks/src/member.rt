@@ -24,7 +24,7 @@ use crate::stage::{Entry, Member, Next, Resolution, Stage};
 use crate::turn::Turn;
 use cl_classfile::Reference;
 use cl_config::Config;
-use cl_findings::{Finding, bring_lineages};
+use cl_findings::Finding;
 use cl_hierarchy::{ClassRow, Equalities, Lineage, class_accessible};
 use cl_members::{Found, LookupFault, equalities, find_field, find_interface_method, find_method};
 use cl_model::{Class, ErrorKind, Need, Told, Verdict};
@@ -194,7 +194,6 @@ fn find<T: Told>(
             Ok(equalities) => {
                 // brings that a `usize` counts them, and what the list keeps
                 let _ = count_needs(&equalities);
-                bring_lineages(&equalities);
                 impose(
                     alloc,
                     config,
@@ -293,8 +292,6 @@ pub(crate) fn impose<T: Told>(
     ensures plain { IsPlain result.turn }
     ensures past { IsPast result.stage }
 {
-    // brings what the list keeps
-    bring_lineages(&member.equalities);
     if place >= count_needs(&member.equalities) {
         return settle_member(alloc, config, member);
     }

@@ -10,7 +10,7 @@ refused_link-finding-requires-clause-need g c = slice_get-map equal_need c.args.
 pub returns-clause-leads : goal.returns-clause-leads
 returns-clause-leads g c =
     let kept = c.class.ensures.kept in
-    let listed = rw c.deref.ensures at c.bring_lineages.ensures in
+    let listed = rw c.deref.ensures at c.needs.ensures.kept in
     let known : IsKnown g.T.Told.told c.args.chain c.args.list.value = record { place = c.requires.list; order = kept.order; whole = kept.lineage; listed = listed } in
     let is = slice_get-map equal_need c.args.list.value.needs c.args.place ∙ c.requires.need in
     rw c.post.ensures

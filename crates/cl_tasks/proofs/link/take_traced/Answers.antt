@@ -20,10 +20,10 @@ pub returns-in-Ok-clause-leads : goal.returns-in-Ok-clause-leads
 returns-in-Ok-clause-leads g c =
     let k = c.args.chain in
     let conf = c.args.config.now.value in
-    let counted = rw c.deref.ensures at c.count_needs.ensures in
+    let counted = rw c.deref.ensures at c.count_needs.ensures.count in
     let few = needs_few (length c.in-Ok.list.value.needs) c.count_needs.result c.count_needs.type_inv counted in
     let kept = c.class.ensures.kept in
-    let listed = rw c.deref-in-Ok.ensures at c.bring_lineages.ensures in
+    let listed = rw c.deref.ensures at c.count_needs.ensures.kept in
     let place = at_place conf k c.args.lineage.now c.in-Ok.list.value c.requires.chain c.requires.lineage c.in-Ok.ensures in
     let known : IsKnown g.T.Told.told k c.in-Ok.list.value = record { place = place; order = kept.order; whole = kept.lineage; listed = listed } in
     listed_leads g.T.Told.told conf k c.in-Ok.list.value c.requires.chain known c.args.lineage.now c.in-Ok.ensures few c.impose.ensures.leads

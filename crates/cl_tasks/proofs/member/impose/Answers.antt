@@ -1,5 +1,5 @@
 use Rattle.std.proofs.Common.{◌≡◌, ◌-◌, ℕ, length, subst, arith}
-use Rattle.cl_findings.specs.Bases.{IsListed}
+use Rattle.cl_hierarchy.specs.Imposed.{IsListed}
 use Rattle.cl_tasks.specs.Resolving.{ImposedTold}
 use Rattle.cl_tasks.specs.Rooms.{imposing_room}
 use Rattle.cl_tasks.proofs.Lead.{leads_by}
@@ -8,7 +8,7 @@ use Rattle.cl_tasks.proofs.member.impose.Goals as goal
 
 pub returns-then-place-count_needs-clause-leads : goal.returns-then-place-count_needs-clause-leads
 returns-then-place-count_needs-clause-leads g c =
-    let le = rw (c.count_needs.ensures, c.deref-2.ensures) at c.if-place-count_needs.true in
+    let le = rw (c.count_needs.ensures.count, c.deref.ensures) at c.if-place-count_needs.true in
     let within = c.requires.within in
     let all : c.args.place ≡ length c.args.member.equalities.value.needs = omega (arith, le, within) in
     leads_by (imposing_room c.args.member c.args.place) (ImposedTold c.args.member c.args.place) c.settle_member.ensures.leads
@@ -17,6 +17,6 @@ returns-then-place-count_needs-clause-leads g c =
 
 pub returns-in-Ok-clause-leads : goal.returns-in-Ok-clause-leads
 returns-in-Ok-clause-leads g c =
-    let known : IsListed g.T.Told.told c.args.member.equalities.value = rw c.deref.ensures at c.bring_lineages.ensures in
-    let lt = rw (c.count_needs.ensures, c.deref-2.ensures) at c.if-place-count_needs.false in
+    let known : IsListed g.T.Told.told c.args.member.equalities.value = rw c.deref.ensures at c.count_needs.ensures.kept in
+    let lt = rw (c.count_needs.ensures.count, c.deref.ensures) at c.if-place-count_needs.false in
     impose_leads g.T.Told.told c.args.config.now.value c.args.member c.requires.member known c.args.place c.in-Ok.shared c.in-Ok.ensures lt

@@ -3,6 +3,6 @@ use Rattle.cl_findings.proofs.finding.Finding.refused_member.Goals as goal
 
 pub with_verdict-requires : goal.with_verdict-requires
 with_verdict-requires g c =
-    let of = rw c.deref.ensures at c.bring_lineages.ensures.are in
-    let lin = rw c.deref.ensures at c.bring_lineages.ensures.lineages in
+    let of = rw c.deref.ensures at c.needs.ensures.kept.are in
+    let lin = rw c.deref.ensures at c.needs.ensures.kept.lineages in
     asked_rests_kept g.T.Told.told c.args.request c.args.equalities.value c.args.index c.args.need c.requires.reference lin of c.requires.need

@@ -41,11 +41,11 @@ constrain-requires-clause-unmet g c =
 pub constrain-requires-clause-may : goal.constrain-requires-clause-may
 constrain-requires-clause-may g c =
     let x : Shown = shown_of c.self.inside in
-    constrains_as g.T.Told.told c.args.self.now c.args.list.now c.args.place c.index-equalities-place.result (subst (IsKept g.T.Told.told) c.self.view_is c.self.invariant.kept) c.bring_lineages.ensures c.requires.may (read_at c.needs-equalities.result.now c.args.list.now.needs c.args.place c.index-equalities-place.result c.needs-equalities.ensures.needs c.requires.may.within c.index-equalities-place.is) (subst (λ (y : Shown). Met (state_of y) (equal_need c.index-equalities-place.result) → ⊥) c.self.view_is (c.if-is_met.ensures (state_of x) (standing_with (state_of x) _ _ c.as_slice.ensures.value c.self.invariant.book c.self.invariant.met)))
+    constrains_as g.T.Told.told c.args.self.now c.args.list.now c.args.place c.index-equalities-place.result (subst (IsKept g.T.Told.told) c.self.view_is c.self.invariant.kept) c.needs-equalities.ensures.kept c.requires.may (read_at c.needs-equalities.result.now c.args.list.now.needs c.args.place c.index-equalities-place.result c.needs-equalities.ensures.needs c.requires.may.within c.index-equalities-place.is) (subst (λ (y : Shown). Met (state_of y) (equal_need c.index-equalities-place.result) → ⊥) c.self.view_is (c.if-is_met.ensures (state_of x) (standing_with (state_of x) _ _ c.as_slice.ensures.value c.self.invariant.book c.self.invariant.met)))
 
 pub constrain-requires-clause-within : goal.constrain-requires-clause-within
 constrain-requires-clause-within g c =
-    names_equality g.T.Told.told c.args.self.now c.args.list.now c.args.place c.index-equalities-place.result c.bring_lineages.ensures c.requires.may (read_at c.needs-equalities.result.now c.args.list.now.needs c.args.place c.index-equalities-place.result c.needs-equalities.ensures.needs c.requires.may.within c.index-equalities-place.is)
+    names_equality g.T.Told.told c.args.self.now c.args.list.now c.args.place c.index-equalities-place.result c.needs-equalities.ensures.kept c.requires.may (read_at c.needs-equalities.result.now c.args.list.now.needs c.args.place c.index-equalities-place.result c.needs-equalities.ensures.needs c.requires.may.within c.index-equalities-place.is)
 
 pub returns-in_default : goal.returns-in_default
 returns-in_default g c =

@@ -18,7 +18,7 @@ returns-then-look_prepared-clause-marked g c =
 
 pub prepare-requires-clause-may : goal.prepare-requires-clause-may
 prepare-requires-clause-may g c =
-    marks_as g.T.Told.told c.args.self.now c.args.list.now c.in-Preparation.lineage c.class-2.result.now (sym (ap (λ o. sprung o) c.in-Preparation.is) ∙ c.origin.ensures.origin) c.class-2.ensures.class c.if-not-is_ready.ensures.kept c.class-2.ensures.kept c.origin.ensures.kept
+    marks_as g.T.Told.told c.args.self.now c.args.list.now c.in-Preparation.lineage c.class-2.result.now (sym (ap (λ o. sprung o) c.in-Preparation.is) ∙ c.origin.ensures.origin) c.class-2.ensures.class c.if-not-is_ready.ensures.kept c.class-2.ensures.kept c.origin.ensures.kept.are
     (subst (λ (es : List Equality). IsReady c.args.self.now c.in-Preparation.lineage (needs_of es)) c.needs.ensures.needs c.if-not-is_ready.ensures.ready)
     (subst (λ (k : Class). Contains (state_of c.args.self.now).prepared k → ⊥) (c.class.ensures.class ∙ sym c.class-2.ensures.class) c.if-look_prepared.ensures.prepared)
 

@@ -1,8 +1,9 @@
 pub mod Below
 pub mod Each
+pub mod Flats
 pub mod Keys
+pub mod Named
 pub mod Pairs
-pub mod Places
 pub mod Requests
 pub mod Stops
 pub mod Tops

@@ -16,6 +16,7 @@ use Rattle.std.specs.Prelude.{
   [],
   ◌∷◌,
   length,
+  map,
   codes,
   Option,
   Some,
@@ -23,7 +24,6 @@ use Rattle.std.specs.Prelude.{
   Result,
   Ok,
   Err,
-  IfSome,
   All,
 }
 use Rattle.std.specs.Option.{ok_or}
@@ -41,7 +41,7 @@ use Rattle.cl_config.specs.Steps.{◌>>=◌}
 use Rattle.cl_config.specs.Fields.{is_one_of, has_only, list_from}
 use Rattle.cl_config.specs.Entries.{Entry, EntryImport, entries_of}
 use Rattle.cl_model.specs.Homes.{Import}
-use Rattle.cl_config.specs.Views.{Configured, Loader, first_named}
+use Rattle.cl_config.specs.Views.{Configured, Loader, loader_named}
 use Rattle.cl_config.specs.declared.limits.TheConstants.{MOST_LOADERS}
 
 -- ---- the top of the document
@@ -79,42 +79,42 @@ top_of ms = do
   ds ← array_at ms
   loader_tables (has_only (is_one_of top_keys) ms) ds
 
--- ---- whom a loader asks: each loader in order, its parent and then its imports
-
--- the first loader of this name
-abbrev pub place_of_name : List Entry → List ℕ → Option ℕ
-place_of_name = first_named (λ e. e.name)
+-- ---- whom a loader asks: each loader in order, its parents and then its imports
 
 -- a place, where it is that of an earlier loader than i
 abbrev pub earlier : ℕ → Option ℕ → Result ℕ ConfigFault
 earlier i None = Err (UnknownLoader i)
 earlier i (Some p) = if nat_lt p i then Ok p else Err (LaterLoader i)
 
--- the parent of loader i
-abbrev pub parent_of : List Entry → ℕ → Option (List ℕ) → Result (Option ℕ) ConfigFault
-parent_of entries i None = Ok None
-parent_of entries i (Some name) = earlier i (place_of_name entries name) >>= λ p. Ok (Some p)
+-- the loader of this name among all, where it is an earlier one than i
+abbrev pub earlier_named : List (List ℕ) → ℕ → List ℕ → Result ℕ ConfigFault
+earlier_named names i name = earlier i (loader_named names name)
+
+-- the parents of loader i
+abbrev pub parents_of : List (List ℕ) → ℕ → List (List ℕ) → Result (List ℕ) ConfigFault
+parents_of names i ps = list_from (λ before. earlier_named names i) [] ps
 
 -- an import of loader i
-unfoldable pub import_of : List Entry → ℕ → EntryImport → Result Import ConfigFault
-import_of entries i e = do
-  target ← earlier i (place_of_name entries e.from)
+unfoldable pub import_of : List (List ℕ) → ℕ → EntryImport → Result Import ConfigFault
+import_of names i e = do
+  target ← earlier_named names i e.from
   Ok (record { prefix = e.prefix; target = target })
 
 -- the imports of loader i
-abbrev pub imports_of : List Entry → ℕ → List EntryImport → Result (List Import) ConfigFault
-imports_of entries i es = list_from (λ before. import_of entries i) [] es
+abbrev pub imports_of : List (List ℕ) → ℕ → List EntryImport → Result (List Import) ConfigFault
+imports_of names i es = list_from (λ before. import_of names i) [] es
 
 -- loader i
-unfoldable pub loader_of : List Entry → ℕ → Entry → Result Loader ConfigFault
-loader_of entries i e = do
-  parent ← parent_of entries i e.parent
-  imports ← imports_of entries i e.imports
-  Ok (record { name = e.name; dir = e.dir; parent = parent; order = e.order; imports = imports })
+unfoldable pub loader_of : List (List ℕ) → ℕ → Entry → Result Loader ConfigFault
+loader_of names i e = do
+  parents ← parents_of names i e.parents
+  imports ← imports_of names i e.imports
+  Ok (record { name = e.name; dir = e.dir; parents = parents; order = e.order; imports = imports })
 
 -- each loader, in order
 abbrev pub loaders_of : List Entry → Result (List Loader) ConfigFault
-loaders_of entries = list_from (λ before. loader_of entries (length before)) [] entries
+loaders_of entries =
+    list_from (λ before. loader_of (map (λ e. e.name) entries) (length before)) [] entries
 
 -- ---- the whole text
 
@@ -132,9 +132,9 @@ config_of text = ok_or (parse_document text) NotToml >>= config_in
 
 -- ---- what is so of every configuration
 
--- a parent and each import lead to a loader before this place (5.3.2)
+-- each parent and each import leads to a loader before this place (5.3.2)
 pub record LeadsBelow (i : ℕ) (l : Loader) : Type 0 where
-  pub parent : IfSome l.parent (λ p. p < i)
+  pub parents : All (λ p. p < i) l.parents
   pub imports : All (λ m. m.target < i) l.imports
 
 -- of loaders from this place on, each leads to earlier ones alone (5.3.2)

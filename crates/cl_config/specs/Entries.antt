@@ -4,17 +4,18 @@ use Rattle.std.specs.Prelude.{
   ℕ,
   Bool,
   not,
+  is_some,
   ◌&&◌,
   ◌||◌,
   ◌==◌,
   nat_le,
   nat_lt,
-  nat_eq,
   if◌then◌else◌,
   List,
   [],
   ◌∷◌,
   length,
+  map,
   codes,
   Option,
   Some,
@@ -24,10 +25,9 @@ use Rattle.std.specs.Prelude.{
   Ok,
   Err,
 }
-use Rattle.std.specs.List.{list_any, list_all}
+use Rattle.std.specs.List.{list_all}
 use Rattle.std.specs.Option.{ok_or}
-use Rattle.std.specs.Cmp.Lexicographic.{pointwise}
-use Rattle.toml.specs.Data.{Data, as_array, Items, get_member}
+use Rattle.toml.specs.Data.{Data, as_array, as_str, Items, get_member}
 use Rattle.cl_config.specs.declared.fault.ConfigFault.{ConfigFault}
 use Rattle.cl_config.specs.declared.fault.ConfigFault.TheVariants.{BadLoader, TooMany}
 use Rattle.cl_config.specs.declared.order.Order.{Order}
@@ -41,7 +41,8 @@ use Rattle.cl_config.specs.Fields.{
   order_of,
   each_from,
 }
-use Rattle.cl_config.specs.declared.limits.TheConstants.{MOST_IMPORTS, MOST_LOADER_NAME_BYTES}
+use Rattle.cl_config.specs.Views.{loader_named}
+use Rattle.cl_config.specs.declared.limits.TheConstants.{MOST_IMPORTS, MOST_LOADER_NAME_BYTES, MOST_PARENTS}
 
 -- an import: what the names begin with, and the name of the loader that has them (5.3.2)
 pub record EntryImport : Type 0 where
@@ -52,7 +53,7 @@ pub record EntryImport : Type 0 where
 pub record Entry : Type 0 where
   pub name : List ℕ
   pub dir : List ℕ
-  pub parent : Option (List ℕ)
+  pub parents : List (List ℕ)
   pub order : Order
   pub imports : List EntryImport
 
@@ -62,7 +63,8 @@ import_keys = codes "prefix" ∷ codes "from" ∷ []
 
 -- the keys of a loader
 abbrev pub loader_keys : List (List ℕ)
-loader_keys = codes "name" ∷ codes "dir" ∷ codes "parent" ∷ codes "order" ∷ codes "imports" ∷ []
+loader_keys = codes "name" ∷ codes "dir" ∷ codes "parent" ∷ codes "parents" ∷ codes "order"
+    ∷ codes "imports" ∷ []
 
 -- an import, of the loader whose fault this is
 unfoldable pub import_at : ConfigFault → Data → Result EntryImport ConfigFault
@@ -78,6 +80,20 @@ imports_at wrong None = Ok []
 imports_at wrong (Some d) =
     ok_or (as_array d) wrong >>= λ ds. each_from (λ before. import_at wrong) [] ds
 
+-- the name of a parent, none of those before it
+abbrev pub parent_at : ConfigFault → List (List ℕ) → Data → Result (List ℕ) ConfigFault
+parent_at wrong before d =
+    ok_or (as_str d) wrong >>= λ name.
+    if is_some (loader_named before name) then Err wrong else Ok name
+
+-- the parents: the one, or those of an array, none twice; not under both keys (5.3.2)
+abbrev pub parents_at : ConfigFault → Option (List ℕ) → Option Data
+    → Result (List (List ℕ)) ConfigFault
+parents_at wrong None None = Ok []
+parents_at wrong (Some name) None = Ok (name ∷ [])
+parents_at wrong None (Some d) = ok_or (as_array d) wrong >>= λ ds. each_from (parent_at wrong) [] ds
+parents_at wrong (Some name) (Some d) = Err wrong
+
 -- a byte of a loader's name
 abbrev pub is_name_byte : ℕ → Bool
 is_name_byte b =
@@ -85,29 +101,34 @@ is_name_byte b =
     || (nat_le 0x30 b && nat_le b 0x39) || (b == 0x5f) || (b == 0x2d)
 
 -- a name that no earlier loader has
-abbrev pub is_new_name : List Entry → List ℕ → Bool
-is_new_name before name =
+abbrev pub is_new_name : List (List ℕ) → List ℕ → Bool
+is_new_name names name =
     nat_le 1 (length name) && nat_le (length name) MOST_LOADER_NAME_BYTES && list_all is_name_byte name
-    && not (list_any (λ e. pointwise nat_eq e.name name) before)
+    && not (is_some (loader_named names name))
 
--- a loader, where it has not too many imports
+-- a loader, where it has not too many parents or imports
 abbrev pub unless_many : Entry → Result Entry ConfigFault
-unless_many entry = if nat_lt MOST_IMPORTS (length entry.imports) then Err TooMany else Ok entry
+unless_many entry =
+    if nat_lt MOST_PARENTS (length entry.parents) || nat_lt MOST_IMPORTS (length entry.imports)
+    then Err TooMany
+    else Ok entry
 
--- what a table says of a loader, behind those before it
-unfoldable pub entry_of : ConfigFault → List Entry → Data → Result Entry ConfigFault
-entry_of wrong before d = do
+-- what a table says of a loader, behind those that have these names
+unfoldable pub entry_of : ConfigFault → List (List ℕ) → Data → Result Entry ConfigFault
+entry_of wrong names d = do
   ms ← table_of wrong (is_one_of loader_keys) d
   name ← text_of wrong (get_member (codes "name") ms)
   dir ← optional_text wrong (get_member (codes "dir") ms)
   parent ← optional_text wrong (get_member (codes "parent") ms)
+  parents ← parents_at wrong parent (get_member (codes "parents") ms)
   order ← order_of wrong (get_member (codes "order") ms)
   imports ← imports_at wrong (get_member (codes "imports") ms)
-  if is_new_name before name
+  if is_new_name names name
       then unless_many (record
-      { name = name; dir = unwrap_or dir name; parent = parent; order = order; imports = imports })
+      { name = name; dir = unwrap_or dir name; parents = parents; order = order; imports = imports })
       else Err wrong
 
 -- the loaders, each behind those before it
 abbrev pub entries_of : Items → Result (List Entry) ConfigFault
-entries_of ds = each_from (λ before. entry_of (BadLoader (length before)) before) [] ds
+entries_of ds =
+    each_from (λ before. entry_of (BadLoader (length before)) (map (λ e. e.name) before)) [] ds

@@ -3,7 +3,10 @@ pub mod Configs
 pub mod Entries
 pub mod Examples
 pub mod Fields
+pub mod Flat
+pub mod Kept
 pub mod Loaders
+pub mod Names
 pub mod ScriptLaws
 pub mod Scripts
 pub mod Steps

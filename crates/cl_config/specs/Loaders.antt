@@ -1,6 +1,6 @@
 -- The loaders and the schedule of a configuration and a script, as the linkage machine knows them
 -- (JVMS SE 8, 5.3, 5.3.2).
-use Rattle.std.specs.Prelude.{ℕ, List, [], ◌∷◌, map, option_to_list}
+use Rattle.std.specs.Prelude.{ℕ, List, [], ◌∷◌, map}
 use Rattle.cl_model.specs.Homes as homes
 use Rattle.cl_model.specs.Machine.{Scheduled}
 use Rattle.cl_model.specs.Views.{request_of}
@@ -9,16 +9,16 @@ use Rattle.cl_config.specs.declared.order.Order.{Order}
 use Rattle.cl_config.specs.declared.order.Order.TheVariants.{ParentFirst, ChildFirst}
 use Rattle.cl_config.specs.Views.{Configured, Loader, Scripted}
 
--- whether the parent is asked before the own content (5.3.2)
+-- whether the parents are asked before the own content (5.3.2)
 abbrev pub world_order : Order → homes.Order
 world_order ParentFirst = homes.ParentFirst
 world_order ChildFirst = homes.ChildFirst
 
--- a loader, above which its parent stands, where it has one (5.3, 5.3.2)
+-- a loader, above which its parents stand (5.3, 5.3.2)
 abbrev pub world_loader : Loader → homes.WorldLoader
 world_loader l =
     record {
-      parents = option_to_list l.parent;
+      parents = l.parents;
       order = world_order l.order;
       imports = l.imports;
     }

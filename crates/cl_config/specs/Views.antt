@@ -10,7 +10,7 @@ use Rattle.cl_config.specs.declared.order.Order.{Order}
 pub record Loader : Type 0 where
   pub name : List ℕ
   pub dir : List ℕ
-  pub parent : Option ℕ
+  pub parents : List ℕ
   pub order : Order
   pub imports : List Import
 
@@ -22,13 +22,9 @@ pub record Configured : Type 0 where
 abbrev pub names_of : Configured → List (List ℕ)
 names_of c = map (λ l. l.name) c.loaders
 
--- the first of these that has this name, counted from 0 (5.3)
-abbrev pub first_named : {A : Type 0} → (A → List ℕ) → List A → List ℕ → Option ℕ
-first_named name_of xs word = position (λ x. pointwise nat_eq (name_of x) word) xs
-
 -- the first loader of this name, among the names of all in order (5.3)
 abbrev pub loader_named : List (List ℕ) → List ℕ → Option ℕ
-loader_named = first_named (λ name. name)
+loader_named names word = position (λ name. pointwise nat_eq name word) names
 
 -- the requests in order, the round of each, counted from 0, and how many rounds there are; a round
 -- may be empty

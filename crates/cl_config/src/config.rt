@@ -6,16 +6,17 @@ ghost use Rattle.toml.specs.Data.{as_table};
 ghost use Rattle.toml.specs.View.{view, table_view, items_view};
 ghost use Rattle.cl_config.specs.Configs.{top_of, array_at, loader_tables, config_in, config_of, IsConfig, LeadsBelow};
 ghost use Rattle.cl_config.specs.Steps.{Finds, Agrees};
-ghost use Rattle.cl_config.specs.Views.{first_named, loader_named, names_of};
+ghost use Rattle.cl_config.specs.Views.{loader_named, names_of};
 ghost use Rattle.cl_names.specs.Truth.{Decides};
 
 use crate::entry::entries_in;
 use crate::fault::{ConfigError, ConfigFault};
 use crate::fields::{has_only, value_at};
+use crate::flat::flat_of;
 use crate::limits::MOST_LOADERS;
 use crate::loader::{Import, Loader, loaders_of};
+use crate::names::Names;
 use crate::order::Order;
-use crate::same::are_same;
 use cl_model::{Directories, LoaderId};
 use cl_names::Seed;
 use std::alloc::{AllocError, Global};
@@ -25,9 +26,10 @@ use toml::{Table, Value};
 /// The loaders, in order: 1 to `MOST_LOADERS`, each of which leads to earlier ones alone (JVMS SE 8, 5.3, 5.3.2).
 #[derive(Debug)]
 pub struct Config {
-    /// The loaders' names, which are lent together.
-    names: Vec<String>,
+    names: Names,
     loaders: Vec<Loader>,
+    /// All that is said of the loaders, in one text, so that two configurations are compared at one go.
+    flat: Vec<u16>,
     seed: Seed,
 }
 
@@ -36,22 +38,21 @@ impl Drop for Config {
         let Config {
             names: _,
             loaders: _,
+            flat: _,
             seed: _,
         } = self;
     }
 }
 
 impl Model for Config {
-    ghost use Rattle.std.specs.Prelude.{◌≡◌, map, string_bytes};
-    ghost use Rattle.cl_config.specs.Views.{Configured, names_of};
-    ghost use Rattle.cl_config.specs.Configs.{IsConfig};
+    ghost use Rattle.cl_config.specs.Views.{Configured};
+    ghost use Rattle.cl_config.specs.Kept.{IsAtHand};
 
     ghost Value = { Configured };
 
     ghost view = { λ c. record { loaders = c.loaders.items } };
 
-    ghost invariant = { λ c. IsConfig (record { loaders = c.loaders.items }) × (map string_bytes
-        c.names.items ≡ names_of (record { loaders = c.loaders.items })) };
+    ghost invariant = { λ c. IsAtHand (record { loaders = c.loaders.items }) c.names c.flat.items };
 }
 
 impl Config {
@@ -75,11 +76,13 @@ impl Config {
         let Config {
             names,
             loaders,
+            flat,
             seed: _,
         } = self;
         Config {
             names,
             loaders,
+            flat,
             seed,
         }
     }
@@ -94,7 +97,7 @@ impl Config {
     pub fn is_same(&self, other: &Config) -> bool
         ensures { Decides result (self.now ≡ other.now) }
     {
-        are_same(self.loaders.as_slice(), other.loaders.as_slice())
+        self.flat == other.flat
     }
 
     /// The loader of this name.
@@ -102,7 +105,7 @@ impl Config {
         ensures found { result ≡ loader_named (names_of self.now) word.now }
         ensures within { IfSome result (λ l. l < length self.now.loaders) }
     {
-        let place = place_of(self.loaders.as_slice(), word)?;
+        let place = self.names.find(word)?;
         Some(LoaderId(place as u16))
     }
 
@@ -130,13 +133,13 @@ impl Config {
         self.at(loader).dir()
     }
 
-    /// A loader's parent, if it has one: an earlier loader.
-    pub fn parent(&self, loader: LoaderId) -> Option<LoaderId>
+    /// A loader's parents, in order, each an earlier loader.
+    pub fn parents(&self, loader: LoaderId) -> &[LoaderId]
         requires { loader < length self.now.loaders }
-        ensures parent { IfSome (slice_get self.now.loaders loader) (λ l. result ≡ l.parent) }
-        ensures below { IfSome result (λ parent. parent < loader) }
+        ensures parents { IfSome (slice_get self.now.loaders loader) (λ l. result.now ≡ l.parents) }
+        ensures below { All (λ p. p < loader) result.now }
     {
-        self.at(loader).parent()
+        self.at(loader).parents()
     }
 
     /// Where a loader looks first.
@@ -187,12 +190,13 @@ fn config_in(alloc: Global, table: &Table) -> Result<Config, ConfigError>
     ensures { Agrees (λ c. c) result (config_in (table_view table.now)) }
 {
     let values = top_in(table)?;
-    let entries = entries_in(alloc, values)?;
-    let loaders = loaders_of(alloc, entries.as_slice())?;
-    let names = names_of(alloc, loaders.as_slice())?;
+    let (names, entries) = entries_in(alloc, values)?;
+    let loaders = loaders_of(alloc, &names, entries.as_slice())?;
+    let flat = flat_of(alloc, loaders.as_slice())?;
     Ok(Config {
         names,
         loaders,
+        flat,
         seed: Seed::common(),
     })
 }
@@ -246,18 +250,6 @@ fn are_tables(values: &[Value]) -> bool
     values.iter().all(|value| value.is_table())
 }
 
-/// The loaders' names, in order.
-fn names_of(alloc: Global, loaders: &[Loader]) -> Result<Vec<String>, AllocError>
-    ensures { IfOk result (λ v. map string_bytes v.items
-        ≡ names_of (record { loaders = loaders.now })) }
-{
-    let mut names = Vec::with_capacity(alloc, loaders.len())?;
-    for loader in loaders {
-        names.push(String::from_str(alloc, loader.name())?)?;
-    }
-    Ok(names)
-}
-
 impl Directories for Config {
     ghost texts = { λ c. map (λ l. l.dir) c.loaders };
 
@@ -276,12 +268,4 @@ fn dirs_of(alloc: Global, loaders: &[Loader]) -> Result<Vec<String>, AllocError>
         dirs.push(String::from_str(alloc, loader.dir())?)?;
     }
     Ok(dirs)
-}
-
-/// The place of the first loader of this name.
-fn place_of(loaders: &[Loader], word: &str) -> Option<usize>
-    ensures found { result ≡ first_named (λ l. l.name) loaders.now word.now }
-    ensures within { IfSome result (λ place. place < length loaders.now) }
-{
-    loaders.iter().position(|loader| loader.name() == word)
 }

@@ -19,7 +19,7 @@ pub enum ConfigFault {
     UnknownLoader(u32),
     /// A parent or import of this loader names no earlier one.
     LaterLoader(u32),
-    /// There are over `MOST_LOADERS` loaders, or over `MOST_IMPORTS` imports of one.
+    /// There are over `MOST_LOADERS` loaders, or over `MOST_PARENTS` parents or `MOST_IMPORTS` imports of one.
     TooMany,
 }
 

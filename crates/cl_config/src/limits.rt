@@ -1,7 +1,10 @@
 //! The limits of a configuration and of a script.
 
 /// The most loaders of a configuration.
-pub const MOST_LOADERS: usize = 64;
+pub const MOST_LOADERS: usize = 1_024;
+
+/// The most parents of a loader.
+pub const MOST_PARENTS: usize = 64;
 
 /// The most imports of a loader.
 pub const MOST_IMPORTS: usize = 64;

@@ -1,13 +1,15 @@
 //! Loaders, each parent and import by its number.
 
-ghost use Rattle.std.specs.Prelude.{◌≡◌, ◌<◌, ◌≤◌, ◌^◌, [], length, Ok, IfOk};
-ghost use Rattle.cl_config.specs.Configs.{place_of_name, earlier, parent_of, import_of, imports_of, loader_of, loaders_of, AllLeadBelow};
+ghost use Rattle.std.specs.Prelude.{◌≡◌, ◌<◌, ◌≤◌, ◌^◌, [], length, map, Ok, IfOk};
+ghost use Rattle.cl_config.specs.Configs.{earlier_named, parents_of, import_of, imports_of, loader_of, loaders_of, AllLeadBelow};
+ghost use Rattle.cl_config.specs.Views.{names_of};
 ghost use Rattle.cl_config.specs.Steps.{Finds, Agrees};
 
 use crate::entry::{Entry, EntryImport};
 use crate::fault::{ConfigError, ConfigFault};
 use crate::fields::Text;
 use crate::limits::MOST_LOADERS;
+use crate::names::Names;
 use crate::order::Order;
 use cl_model::LoaderId;
 use cl_names::Name;
@@ -75,13 +77,33 @@ impl Model for Imports {
     ghost view = { λ m. m.items.items };
 }
 
+/// The parents of a loader, in order.
+#[derive(Debug)]
+pub struct Parents {
+    items: Vec<LoaderId>,
+}
+
+impl Drop for Parents {
+    fn drop(self) {
+        let Parents { items: _ } = self;
+    }
+}
+
+impl Model for Parents {
+    ghost use Rattle.std.specs.Prelude.{ℕ, List};
+
+    ghost Value = { List ℕ };
+
+    ghost view = { λ p. p.items.items };
+}
+
 /// A loader: its name, the directory of its own content, whom it asks and when, and what it takes from where (JVMS SE 8,
 /// 5.3, 5.3.2).
 #[derive(Debug)]
 pub struct Loader {
     name: Text,
     dir: Text,
-    parent: Option<LoaderId>,
+    parents: Parents,
     order: Order,
     imports: Imports,
 }
@@ -91,7 +113,7 @@ impl Drop for Loader {
         let Loader {
             name: _,
             dir: _,
-            parent: _,
+            parents: _,
             order: _,
             imports: _,
         } = self;
@@ -106,7 +128,7 @@ impl Model for Loader {
     ghost view = { λ l. record {
       name = l.name;
       dir = l.dir;
-      parent = l.parent;
+      parents = l.parents;
       order = l.order;
       imports = l.imports;
     } };
@@ -127,11 +149,11 @@ impl Loader {
         self.dir.as_str()
     }
 
-    /// Its parent, if it has one.
-    pub fn parent(&self) -> Option<LoaderId>
-        ensures { result ≡ self.now.parent }
+    /// Its parents, in order.
+    pub fn parents(&self) -> &[LoaderId]
+        ensures { result.now ≡ self.now.parents }
     {
-        self.parent
+        self.parents.items.as_slice()
     }
 
     /// Where it looks first.
@@ -149,52 +171,47 @@ impl Loader {
     }
 }
 
-/// The place of the first loader of this name.
-fn place_of_name(entries: &[Entry], name: &str) -> Option<usize>
-    ensures { result ≡ place_of_name entries.now name.now }
-{
-    entries.iter().position(|entry| entry.name() == name)
-}
-
 /// The loader of this name, where it stands before loader `i`.
-fn earlier(entries: &[Entry], i: usize, name: &str) -> Result<LoaderId, ConfigFault>
+fn earlier(names: &Names, i: usize, name: &str) -> Result<LoaderId, ConfigFault>
     requires { i < MOST_LOADERS }
-    ensures { Finds (λ p. p) result (earlier i (place_of_name entries.now name.now)) }
+    ensures { Finds (λ p. p) result (earlier_named names.now i name.now) }
 {
-    match place_of_name(entries, name) {
+    match names.find(name) {
         None => Err(ConfigFault::UnknownLoader(i as u32)),
         Some(place) if place < i => Ok(LoaderId(place as u16)),
         Some(_) => Err(ConfigFault::LaterLoader(i as u32)),
     }
 }
 
-/// The parent of loader `i`.
-fn parent_of(
-    entries: &[Entry],
+/// The parents of loader `i`.
+fn parents_of(
+    alloc: Global,
+    names: &Names,
     i: usize,
-    parent: &Option<Text>,
-) -> Result<Option<LoaderId>, ConfigFault>
+    parents: &[Text],
+) -> Result<Parents, ConfigError>
     requires { i < MOST_LOADERS }
-    ensures { Finds (λ p. p) result (parent_of entries.now i parent.now) }
+    ensures { Agrees (λ x. x) result (parents_of names.now i parents.now) }
 {
-    match parent {
-        None => Ok(None),
-        Some(name) => Ok(Some(earlier(entries, i, name.as_str())?)),
+    let mut items = Vec::with_capacity(alloc, parents.len())?;
+    for parent in parents {
+        items.push(earlier(names, i, parent.as_str())?)?;
     }
+    Ok(Parents { items })
 }
 
 /// An import of loader `i`.
 #[tactic(auto, unfolding(crate::specs::Configs::import_of))]
 fn import_of(
     alloc: Global,
-    entries: &[Entry],
+    names: &Names,
     i: usize,
     import: &EntryImport,
 ) -> Result<Import, ConfigError>
     requires { i < MOST_LOADERS }
-    ensures { Agrees (λ x. x) result (import_of entries.now i import.now) }
+    ensures { Agrees (λ x. x) result (import_of names.now i import.now) }
 {
-    let target = earlier(entries, i, import.from())?;
+    let target = earlier(names, i, import.from())?;
     let prefix = import.prefix().try_clone(alloc)?;
     Ok(Import { prefix, target })
 }
@@ -202,53 +219,54 @@ fn import_of(
 /// The imports of loader `i`.
 fn imports_of(
     alloc: Global,
-    entries: &[Entry],
+    names: &Names,
     i: usize,
     imports: &[EntryImport],
 ) -> Result<Imports, ConfigError>
     requires { i < MOST_LOADERS }
-    ensures { Agrees (λ x. x) result (imports_of entries.now i imports.now) }
+    ensures { Agrees (λ x. x) result (imports_of names.now i imports.now) }
 {
     let mut items = Vec::with_capacity(alloc, imports.len())?;
     for import in imports {
-        items.push(import_of(alloc, entries, i, import)?)?;
+        items.push(import_of(alloc, names, i, import)?)?;
     }
     Ok(Imports { items })
 }
 
 /// Loader `i`.
 #[tactic(auto, unfolding(crate::specs::Configs::loader_of))]
-fn loader_of(
-    alloc: Global,
-    entries: &[Entry],
-    i: usize,
-    entry: &Entry,
-) -> Result<Loader, ConfigError>
+fn loader_of(alloc: Global, names: &Names, i: usize, entry: &Entry) -> Result<Loader, ConfigError>
     requires { i < MOST_LOADERS }
-    ensures { Agrees (λ x. x) result (loader_of entries.now i entry.now) }
+    ensures { Agrees (λ x. x) result (loader_of names.now i entry.now) }
 {
-    let parent = parent_of(entries, i, entry.parent())?;
-    let imports = imports_of(alloc, entries, i, entry.imports())?;
+    let parents = parents_of(alloc, names, i, entry.parents())?;
+    let imports = imports_of(alloc, names, i, entry.imports())?;
     Ok(Loader {
         name: Text::new(alloc, entry.name())?,
         dir: Text::new(alloc, entry.dir())?,
-        parent,
+        parents,
         order: entry.order(),
         imports,
     })
 }
 
 /// Each loader, in order.
-pub(crate) fn loaders_of(alloc: Global, entries: &[Entry]) -> Result<Vec<Loader>, ConfigError>
-    requires { length entries.now ≤ MOST_LOADERS }
+pub(crate) fn loaders_of(
+    alloc: Global,
+    names: &Names,
+    entries: &[Entry],
+) -> Result<Vec<Loader>, ConfigError>
+    requires few { length entries.now ≤ MOST_LOADERS }
+    requires names { names.now ≡ map (λ e. e.name) entries.now }
     ensures read { Agrees (λ v. v.items) result (loaders_of entries.now) }
     ensures count { IfOk result (λ v. length v.items ≡ length entries.now) }
     ensures below { IfOk result (λ v. AllLeadBelow 0 v.items) }
+    ensures names { IfOk result (λ v. names_of (record { loaders = v.items }) ≡ names.now) }
 {
     let mut loaders = Vec::new(alloc);
     for entry in entries {
         let before = loaders.as_slice();
-        let loader = loader_of(alloc, entries, before.len(), entry)?;
+        let loader = loader_of(alloc, names, before.len(), entry)?;
         loaders.push(loader)?;
     }
     Ok(loaders)

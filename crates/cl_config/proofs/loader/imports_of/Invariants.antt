@@ -3,4 +3,4 @@ use Rattle.cl_config.proofs.Each.{IsSoFar}
 use Rattle.cl_config.proofs.loader.imports_of.Given as goal
 
 abbrev pub invariant-loop-import : goal.invariant-loop-import
-invariant-loop-import l = IsSoFar (λ before. import_of l.entries l.i) l.items.items l.import-index l.imports (imports_of l.entries l.i l.imports)
+invariant-loop-import l = IsSoFar (λ before. import_of l.names l.i) l.items.items l.import-index l.imports (imports_of l.names l.i l.imports)

@@ -3,12 +3,11 @@ use Rattle.std.proofs.Common.{◌<◌, ◌≡◌, ℕ, true, false, List, [], �
 use Rattle.std.specs.Prelude.{find, slice_get}
 use Rattle.std.specs.Option.{unwrap_or}
 use Rattle.cl_model.specs.Content.{Content, content_at}
-use Rattle.cl_model.proofs.Probes.{home_is_on_route}
+use Rattle.cl_model.proofs.Probes.{home_is_probed}
 use Rattle.cl_source.specs.Told.{IsTold}
 use Rattle.cl_source.specs.Views.{Found}
 use Rattle.cl_delegation.specs.Worlds.{world_of}
 use Rattle.cl_delegation.specs.Searches.{Searched, route_of, next_on, after_probe, IsProbeOf, AllLack, IsFound, IsEnd, FollowsRoute, LeadsTo}
-use Rattle.cl_config.specs.Configs.{IsConfig}
 use Rattle.cl_delegation.proofs.Once.{route_within}
 
 -- ---- one probe more
@@ -70,14 +69,14 @@ pub leads_nowhere : (told : Option Content) (s : Searched) → FollowsRoute told
 leads_nowhere None s f none last = tt
 leads_nowhere (Some content) s f none last =
     let past : slice_get (route_of s) (length s.absent) ≡ None = subst (λ (o : Option Found). next_on (route_of s) (length s.absent) o ≡ None) none last in
-    home_is_on_route (world_of s.config content) s.loader s.name ∙ unfound content s.name (route_of s) s.absent f.absent past
+    home_is_probed (world_of s.config content) s.loader s.name ∙ unfound content s.name (route_of s) s.absent f.absent past
 
 pub leads_home : (told : Option Content) (s : Searched) (p : Found) → FollowsRoute told s → s.found ≡ Some p → LeadsTo told s.config s.loader s.name (Some p.loader)
 leads_home None s p f found = tt
 leads_home (Some content) s p f found =
     let end : IsFound (Some content) s.name (slice_get (route_of s) (length s.absent)) p = subst (λ (o : Option Found). IsEnd (Some content) s.name (slice_get (route_of s) (length s.absent)) o) found f.found in
     let here : content_at content p.loader s.name ≡ p.bytes = ap (content_at content p.loader) (sym end.probe.name) ∙ end.probe.told in
-    home_is_on_route (world_of s.config content) s.loader s.name ∙ found_at content s.name (route_of s) s.absent p.loader f.absent end.next (ap is_some here ∙ some_bytes p.bytes end.bytes)
+    home_is_probed (world_of s.config content) s.loader s.name ∙ found_at content s.name (route_of s) s.absent p.loader f.absent end.next (ap is_some here ∙ some_bytes p.bytes end.bytes)
 
 -- ---- what a home keeps
 
@@ -85,8 +84,8 @@ unwrapped : (o : Option (List ℕ)) → IsSome o → o ≡ Some (unwrap_or o [])
 unwrapped None h = absurd cc
 unwrapped (Some x) h = refl
 
-pub home_kept : (told : Option Content) (s : Searched) (p : Found) → IsConfig s.config → FollowsRoute told s → s.found ≡ Some p
+pub home_kept : (told : Option Content) (s : Searched) (p : Found) → FollowsRoute told s → s.found ≡ Some p
     → (p.name ≡ s.name) × (p.bytes ≡ Some (unwrap_or p.bytes [])) × LeadsTo told s.config s.loader s.name (Some p.loader) × (p.loader < length s.config.loaders)
-home_kept told s p config f found =
+home_kept told s p f found =
     let end : IsFound told s.name (slice_get (route_of s) (length s.absent)) p = subst (λ (o : Option Found). IsEnd told s.name (slice_get (route_of s) (length s.absent)) o) found f.found in
-    (end.probe.name, unwrapped p.bytes end.bytes, leads_home told s p f found, route_within s.config s.loader s.name (length s.absent) p.loader config f.loader end.next)
+    (end.probe.name, unwrapped p.bytes end.bytes, leads_home told s p f found, route_within s (length s.absent) p.loader end.next)

@@ -1,6 +1,6 @@
 -- One step of the route that a configuration gives.
-use Rattle.std.proofs.Common.{◌≡◌, ℕ, zero, suc, ◌<◌, ◌==◌, nat_eq, Bool, true, false, cond, List, [], ◌∷◌, ◌++◌, map, length, Option, Some, None, option_map, refl, sym, ap, subst, ◌∙◌, arith, append-nil}
-use Rattle.std.specs.Prelude.{find, flat_map, option_to_list, slice_get, All, IfSome, unwrap_or}
+use Rattle.std.proofs.Common.{◌≡◌, ℕ, zero, suc, ◌<◌, ◌==◌, nat_eq, Bool, true, false, cond, not, List, [], ◌∷◌, ◌++◌, map, length, Option, Some, None, option_map, refl, sym, ap, subst, ◌∙◌, arith, append-nil}
+use Rattle.std.specs.Prelude.{find, flat_map, slice_get, All, IfSome, unwrap_or}
 use Rattle.std.specs.List.{AllByRecursion}
 use Rattle.std.proofs.lemmas.List.Elements.{recursion_from_All}
 use Rattle.std.specs.List.{starts_with}
@@ -14,6 +14,7 @@ use Rattle.cl_config.specs.declared.order.Order.TheVariants.{ParentFirst, ChildF
 use Rattle.cl_config.specs.Views.{Configured, Loader}
 use Rattle.cl_config.specs.Loaders.{world_order, world_loader, loaders_in}
 use Rattle.cl_model.specs.Probes.{in_turn, route_at, route_below, route_from}
+use Rattle.cl_delegation.specs.Walks.{is_child_first, own}
 
 here : (n : ℕ) → (n == n) ≡ true
 here n = grind (arith, nat_tests)
@@ -61,40 +62,17 @@ by_import c name n l m is found lt =
     let e : decisive (world_loader l).imports name ≡ Some m.target = ap (option_map (λ (m : Import). m.target)) found in
     at_loader (loaders_in c) name n (world_loader l) (placed world_loader c.loaders n l is) ∙ decided (route_below (loaders_in c) name n) _ (decisive (world_loader l).imports name) m.target e ∙ settled (loaders_in c) name n m.target lt
 
+all_settled : (ls : List homes.WorldLoader) (name : Name) (n : ℕ) (ps : List ℕ) → AllByRecursion (λ p. p < n) ps → flat_map (route_below ls name n) ps ≡ flat_map (route_from ls name) ps
+all_settled ls name n [] h = refl
+all_settled ls name n (p ∷ ps) h = ap (λ (way : List ℕ). way ++ flat_map (route_below ls name n) ps) (settled ls name n p h.0) ∙ ap (λ (way : List ℕ). route_from ls name p ++ way) (all_settled ls name n ps h.1)
+
 -- no import decides
-undecided : (c : Configured) (name : Name) (n : ℕ) (l : Loader) → slice_get c.loaders n ≡ Some l → find (λ m. starts_with nat_eq name m.prefix) l.imports ≡ None
-    → route_from (loaders_in c) name n ≡ in_turn (world_order l.order) (flat_map (route_below (loaders_in c) name n) (option_to_list l.parent)) (n ∷ [])
-undecided c name n l is none =
+undecided : (c : Configured) (name : Name) (n : ℕ) (l : Loader) → slice_get c.loaders n ≡ Some l → find (λ m. starts_with nat_eq name m.prefix) l.imports ≡ None → AllByRecursion (λ p. p < n) l.parents
+    → route_from (loaders_in c) name n ≡ in_turn (world_order l.order) (flat_map (route_from (loaders_in c) name) l.parents) (n ∷ [])
+undecided c name n l is none below =
     let e : decisive (world_loader l).imports name ≡ None = ap (option_map (λ (m : Import). m.target)) none in
     at_loader (loaders_in c) name n (world_loader l) (placed world_loader c.loaders n l is) ∙ not_decided (route_below (loaders_in c) name n) _ (decisive (world_loader l).imports name) e
-
-alone_turn : (routes : ℕ → List ℕ) (n : ℕ) (o : Order) (p : Option ℕ) → p ≡ None → in_turn (world_order o) (flat_map routes (option_to_list p)) (n ∷ []) ≡ n ∷ []
-alone_turn routes n ParentFirst None e = refl
-alone_turn routes n ChildFirst None e = refl
-alone_turn routes n o (Some q) e = absurd cc
-
-parent_turn : (routes : ℕ → List ℕ) (n q : ℕ) (o : Order) (p : Option ℕ) → p ≡ Some q → o ≡ ParentFirst → in_turn (world_order o) (flat_map routes (option_to_list p)) (n ∷ []) ≡ routes q ++ n ∷ []
-parent_turn routes n q o None e f = absurd cc
-parent_turn routes n q ChildFirst (Some r) e f = absurd cc
-parent_turn routes n q ParentFirst (Some r) e f = let same : r ≡ q = cc in rw (append-nil (routes r), same) refl
-
-child_turn : (routes : ℕ → List ℕ) (n q : ℕ) (o : Order) (p : Option ℕ) → p ≡ Some q → o ≡ ChildFirst → in_turn (world_order o) (flat_map routes (option_to_list p)) (n ∷ []) ≡ n ∷ routes q
-child_turn routes n q o None e f = absurd cc
-child_turn routes n q ParentFirst (Some r) e f = absurd cc
-child_turn routes n q ChildFirst (Some r) e f = let same : r ≡ q = cc in rw (append-nil (routes r), same) refl
-
-pub alone : (c : Configured) (name : Name) (n : ℕ) (l : Loader) → slice_get c.loaders n ≡ Some l → find (λ m. starts_with nat_eq name m.prefix) l.imports ≡ None → l.parent ≡ None → route_from (loaders_in c) name n ≡ n ∷ []
-alone c name n l is none no_parent = undecided c name n l is none ∙ alone_turn (route_below (loaders_in c) name n) n l.order l.parent no_parent
-
-pub parent_first : (c : Configured) (name : Name) (n q : ℕ) (l : Loader) → slice_get c.loaders n ≡ Some l → find (λ m. starts_with nat_eq name m.prefix) l.imports ≡ None → l.parent ≡ Some q → l.order ≡ ParentFirst → q < n
-    → route_from (loaders_in c) name n ≡ route_from (loaders_in c) name q ++ n ∷ []
-parent_first c name n q l is none parent order lt =
-    undecided c name n l is none ∙ parent_turn (route_below (loaders_in c) name n) n q l.order l.parent parent order ∙ ap (λ ms. ms ++ n ∷ []) (settled (loaders_in c) name n q lt)
-
-pub child_first : (c : Configured) (name : Name) (n q : ℕ) (l : Loader) → slice_get c.loaders n ≡ Some l → find (λ m. starts_with nat_eq name m.prefix) l.imports ≡ None → l.parent ≡ Some q → l.order ≡ ChildFirst → q < n
-    → route_from (loaders_in c) name n ≡ n ∷ route_from (loaders_in c) name q
-child_first c name n q l is none parent order lt =
-    undecided c name n l is none ∙ child_turn (route_below (loaders_in c) name n) n q l.order l.parent parent order ∙ ap (λ ms. n ∷ ms) (settled (loaders_in c) name n q lt)
+    ∙ ap (λ (way : List ℕ). in_turn (world_order l.order) way (n ∷ [])) (all_settled (loaders_in c) name n l.parents below)
 
 -- ---- what is found among things of which P holds
 
@@ -130,22 +108,21 @@ said_import c name n ms m lt imports found below =
     let l = loader_in c.loaders n lt in
     by_import c name n l.0 m l.1 (finds name ms l.0.imports (Some m) (says (λ (l : Loader). l.imports) ms (slice_get c.loaders n) l.0 l.1 imports) found) below
 
-pub said_alone : (c : Configured) (name : Name) (n : ℕ) (ms : List Import) → n < length c.loaders → IfSome (slice_get c.loaders n) (λ l. ms ≡ l.imports) → find (λ m. starts_with nat_eq name m.prefix) ms ≡ None
-    → IfSome (slice_get c.loaders n) (λ l. None ≡ l.parent) → route_from (loaders_in c) name n ≡ n ∷ []
-said_alone c name n ms lt imports none parent =
+-- no import decides: the parents' searches, and the own content before them or behind
+pub said_parents : (c : Configured) (name : Name) (n : ℕ) (ms : List Import) (ps : List ℕ) (child : Bool) → n < length c.loaders → IfSome (slice_get c.loaders n) (λ l. ms ≡ l.imports) → find (λ m. starts_with nat_eq name m.prefix) ms ≡ None
+    → IfSome (slice_get c.loaders n) (λ l. ps ≡ l.parents) → All (λ p. p < n) ps → IfSome (slice_get c.loaders n) (λ l. child ≡ is_child_first l.order)
+    → route_from (loaders_in c) name n ≡ (own child n ++ flat_map (route_from (loaders_in c) name) ps) ++ own (not child) n
+said_parents c name n ms ps child lt imports none parents below order =
     let l = loader_in c.loaders n lt in
-    alone c name n l.0 l.1 (finds name ms l.0.imports None (says (λ (l : Loader). l.imports) ms (slice_get c.loaders n) l.0 l.1 imports) none) (sym (says (λ (l : Loader). l.parent) None (slice_get c.loaders n) l.0 l.1 parent))
-
-pub said_parent : (c : Configured) (name : Name) (n q : ℕ) (ms : List Import) → n < length c.loaders → IfSome (slice_get c.loaders n) (λ l. ms ≡ l.imports) → find (λ m. starts_with nat_eq name m.prefix) ms ≡ None
-    → IfSome (slice_get c.loaders n) (λ l. Some q ≡ l.parent) → IfSome (slice_get c.loaders n) (λ l. ParentFirst ≡ l.order) → q < n → route_from (loaders_in c) name n ≡ route_from (loaders_in c) name q ++ n ∷ []
-said_parent c name n q ms lt imports none parent order below =
-    let l = loader_in c.loaders n lt in
-    let undecided = finds name ms l.0.imports None (says (λ (l : Loader). l.imports) ms (slice_get c.loaders n) l.0 l.1 imports) none in
-    parent_first c name n q l.0 l.1 undecided (sym (says (λ (l : Loader). l.parent) (Some q) (slice_get c.loaders n) l.0 l.1 parent)) (sym (says (λ (l : Loader). l.order) ParentFirst (slice_get c.loaders n) l.0 l.1 order)) below
-
-pub said_child : (c : Configured) (name : Name) (n q : ℕ) (ms : List Import) → n < length c.loaders → IfSome (slice_get c.loaders n) (λ l. ms ≡ l.imports) → find (λ m. starts_with nat_eq name m.prefix) ms ≡ None
-    → IfSome (slice_get c.loaders n) (λ l. Some q ≡ l.parent) → IfSome (slice_get c.loaders n) (λ l. ChildFirst ≡ l.order) → q < n → route_from (loaders_in c) name n ≡ n ∷ route_from (loaders_in c) name q
-said_child c name n q ms lt imports none parent order below =
-    let l = loader_in c.loaders n lt in
-    let undecided = finds name ms l.0.imports None (says (λ (l : Loader). l.imports) ms (slice_get c.loaders n) l.0 l.1 imports) none in
-    child_first c name n q l.0 l.1 undecided (sym (says (λ (l : Loader). l.parent) (Some q) (slice_get c.loaders n) l.0 l.1 parent)) (sym (says (λ (l : Loader). l.order) ChildFirst (slice_get c.loaders n) l.0 l.1 order)) below
+    let undecides = finds name ms l.0.imports None (says (λ (l : Loader). l.imports) ms (slice_get c.loaders n) l.0 l.1 imports) none in
+    let same : ps ≡ l.0.parents = says (λ (l : Loader). l.parents) ps (slice_get c.loaders n) l.0 l.1 parents in
+    let earlier : AllByRecursion (λ p. p < n) l.0.parents = subst (λ (qs : List ℕ). AllByRecursion (λ p. p < n) qs) same (recursion_from_All (λ (p : ℕ). p < n) ps below) in
+    undecided c name n l.0 l.1 undecides earlier
+    ∙ ap (λ (qs : List ℕ). in_turn (world_order l.0.order) (flat_map (route_from (loaders_in c) name) qs) (n ∷ [])) (sym same)
+    ∙ turned l.0.order child (flat_map (route_from (loaders_in c) name) ps) (says (λ (l : Loader). is_child_first l.order) child (slice_get c.loaders n) l.0 l.1 order)
+  where
+    turned : (o : Order) (b : Bool) (above : List ℕ) → b ≡ is_child_first o → in_turn (world_order o) above (n ∷ []) ≡ (own b n ++ above) ++ own (not b) n
+    turned ParentFirst true above e = absurd cc
+    turned ParentFirst false above e = refl
+    turned ChildFirst true above e = sym (append-nil (n ∷ above))
+    turned ChildFirst false above e = absurd cc

@@ -1,13 +1,12 @@
--- A route asks no loader twice (JVMS SE 8, 5.3.2).
-use Rattle.cl_config.specs.Views.{Configured}
-use Rattle.cl_config.specs.Configs.{IsConfig}
-use Rattle.cl_config.specs.Loaders.{loaders_in}
-use Rattle.std.specs.Prelude.{◌<◌, ℕ, length}
-use Rattle.cl_classfile.specs.Files.{Name}
-use Rattle.cl_model.specs.Probes.{EachOnce, route}
+-- No search probes a loader twice, or more loaders than there are (JVMS SE 8, 5.3.2).
+use Rattle.std.specs.Prelude.{◌≤◌, length}
+use Rattle.cl_model.specs.Probes.{EachOnce}
+use Rattle.cl_delegation.specs.Searches.{Searched, route_of}
 
--- a search through the loaders of a configuration asks none twice
+-- no loader is asked twice
 abbrev pub AsksOnce : Type 0
-AsksOnce =
-    (c : Configured) (loader : ℕ) (name : Name) → IsConfig c → loader < length c.loaders
-    → EachOnce (route (loaders_in c) loader name)
+AsksOnce = (s : Searched) → EachOnce (route_of s)
+
+-- no more loaders are asked than there are
+abbrev pub AsksFew : Type 0
+AsksFew = (s : Searched) → length (route_of s) ≤ length s.config.loaders

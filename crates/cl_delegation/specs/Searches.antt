@@ -16,7 +16,7 @@ use Rattle.std.specs.Prelude.{
 }
 use Rattle.cl_model.specs.Content.{Content}
 use Rattle.cl_model.specs.Homes.{home}
-use Rattle.cl_model.specs.Probes.{route}
+use Rattle.cl_model.specs.Probes.{first_places, route}
 use Rattle.cl_config.specs.Views.{Configured}
 use Rattle.cl_config.specs.Loaders.{loaders_in}
 use Rattle.cl_source.specs.Told.{IsTold}
@@ -37,9 +37,9 @@ abbrev pub begun_search : Configured → ℕ → List ℕ → Searched
 begun_search c loader name =
     record { config = c; loader = loader; name = name; absent = []; found = None }
 
--- the loaders that the search asks, in order, while each lacks the name (5.3.2)
+-- the loaders that the search asks, in order and each once, while each lacks the name (5.3.2)
 abbrev pub route_of : Searched → List ℕ
-route_of s = route (loaders_in s.config) s.loader s.name
+route_of s = first_places [] (route (loaders_in s.config) s.loader s.name)
 
 -- the next of a route, behind so many probes; none once bytes were found (5.3.2)
 abbrev pub next_on : List ℕ → ℕ → Option Found → Option ℕ

@@ -1,18 +1,31 @@
 //! Whose own content is asked for a name.
 
-ghost use Rattle.std.specs.Prelude.{◌≡◌, ◌<◌, ◌++◌, All, IfOk, IfSome, OnOk, length, find, nat_eq};
+ghost use Rattle.std.specs.Prelude.{◌≡◌, ◌<◌, [], ℕ, List, All, IfOk, IfSome, OnOk, length, find, nat_eq, slice_get};
+ghost use Rattle.cl_config.specs.Views.{Configured};
 ghost use Rattle.std.specs.List.{starts_with};
 ghost use Rattle.std.specs.Option.{option_map};
 ghost use Rattle.cl_model.specs.Homes.{is_java};
 ghost use Rattle.cl_config.specs.Loaders.{loaders_in};
-ghost use Rattle.cl_model.specs.Probes.{route, route_from};
+ghost use Rattle.cl_model.specs.Probes.{first_places, route, route_from};
+ghost use Rattle.cl_delegation.specs.Walks.{AllIn, AreAsked, IsWalk, added, is_child_first, own};
 
 use cl_config::{Config, Import, Order};
 use cl_model::LoaderId;
 use cl_names::Name;
 use std::alloc::{AllocError, Global};
 
-/// The loaders whose own content is asked for a name that this loader is asked for, in order, while each lacks it.
+/// What was asked so far.
+#[derive(Drop)]
+struct Walk {
+    route: Vec<LoaderId>,
+    /// Of each loader, whether it is on the route.
+    asked: Vec<bool>,
+    /// Of each loader, whether its whole search is.
+    done: Vec<bool>,
+}
+
+/// The loaders whose own content is asked for a name that this loader is asked for, in order and each once, while each
+/// lacks it.
 pub(crate) fn find_route(
     alloc: Global,
     config: &Config,
@@ -20,14 +33,25 @@ pub(crate) fn find_route(
     name: &Name,
 ) -> Result<Vec<LoaderId>, AllocError>
     requires { loader < length config.now.loaders }
-    ensures { IfOk result (λ v. v.items ≡ route (loaders_in config.now) loader name.now) }
+    ensures { IfOk result (λ v. v.items ≡ first_places []
+        (route (loaders_in config.now) loader name.now)) }
 {
     let mut route = Vec::new(alloc);
     if is_java(name) {
         route.push(LoaderId(0))?;
-    } else {
-        add_route(config, loader, name, &mut route)?;
+        return Ok(route);
     }
+    let mut walk = Walk {
+        route,
+        asked: vec![in alloc; false; config.count()]?,
+        done: vec![in alloc; false; config.count()]?,
+    };
+    visit(config, loader, name, &mut walk)?;
+    let Walk {
+        route,
+        asked: _,
+        done: _,
+    } = walk;
     Ok(route)
 }
 
@@ -38,33 +62,71 @@ fn is_java(name: &Name) -> bool
     name.bytes().starts_with(b"java/")
 }
 
-/// Adds the loaders that are asked for a name that is none of the platform's.
-fn add_route(
-    config: &Config,
-    loader: LoaderId,
-    name: &Name,
-    route: &mut Vec<LoaderId>,
-) -> Result<(), AllocError>
+/// Whether a loader looks at its own content first.
+fn is_child_first(config: &Config, loader: LoaderId) -> bool
     requires { loader < length config.now.loaders }
-    ensures { OnOk result (route.new.items ≡ route.old.items ++ route_from (loaders_in config.now)
-        name.now loader) }
+    ensures { IfSome (slice_get config.now.loaders loader) (λ l. result ≡ is_child_first l.order) }
 {
+    matches!(config.order(loader), Order::ChildFirst)
+}
+
+/// Asks a loader where it is wanted, unless it was asked.
+fn ask(walk: &mut Walk, loader: LoaderId, wanted: bool) -> Result<(), AllocError>
+    requires within { loader < length walk.old.asked.items }
+    requires asked { AreAsked walk.old.route.items walk.old.asked.items }
+    ensures route { OnOk result (walk.new.route.items ≡ added walk.old.route.items
+        (own wanted loader)) }
+    ensures asked { OnOk result (AreAsked walk.new.route.items walk.new.asked.items) }
+    ensures wide { length walk.new.asked.items ≡ length walk.old.asked.items }
+    ensures done { walk.new.done.items ≡ walk.old.done.items }
+{
+    let place = usize::from(loader.0);
+    if wanted && !walk.asked[place] {
+        walk.route.push(loader)?;
+        walk.asked[place] = true;
+    }
+    Ok(())
+}
+
+/// Marks a loader whose whole search was asked.
+fn close(walk: &mut Walk, loader: LoaderId)
+    requires within { loader < length walk.old.done.items }
+    ensures route { walk.new.route.items ≡ walk.old.route.items }
+    ensures walk { (c : Configured) (name : List ℕ) → IsWalk c name walk.old.route.items
+        walk.old.asked.items walk.old.done.items → AllIn walk.old.route.items
+        (route_from (loaders_in c) name loader) → IsWalk c name walk.new.route.items
+        walk.new.asked.items walk.new.done.items }
+{
+    walk.done[usize::from(loader.0)] = true;
+}
+
+/// Asks all that a loader leads to, in order, and passes over those that were asked.
+fn visit(config: &Config, loader: LoaderId, name: &Name, walk: &mut Walk) -> Result<(), AllocError>
+    requires within { loader < length config.now.loaders }
+    requires walk { IsWalk config.now name.now walk.old.route.items walk.old.asked.items
+        walk.old.done.items }
+    ensures walk { OnOk result (IsWalk config.now name.now walk.new.route.items
+        walk.new.asked.items walk.new.done.items) }
+    ensures route { OnOk result (walk.new.route.items ≡ added walk.old.route.items
+        (route_from (loaders_in config.now) name.now loader)) }
+{
+    if walk.done[usize::from(loader.0)] {
+        return Ok(());
+    }
     let imports = config.imports(loader);
-    match decisive(imports, name) {
-        Some(import) => return add_route(config, import.target(), name, route),
-        None => {}
+    if let Some(import) = decisive(imports, name) {
+        visit(config, import.target(), name, walk)?;
+        close(walk, loader);
+        return Ok(());
     }
-    match (config.parent(loader), config.order(loader)) {
-        (None, _) => route.push(loader)?,
-        (Some(parent), Order::ParentFirst) => {
-            add_route(config, parent, name, route)?;
-            route.push(loader)?;
-        }
-        (Some(parent), Order::ChildFirst) => {
-            route.push(loader)?;
-            add_route(config, parent, name, route)?;
-        }
+    let parents = config.parents(loader);
+    let child_first = is_child_first(config, loader);
+    ask(walk, loader, child_first)?;
+    for parent in parents {
+        visit(config, *parent, name, walk)?;
     }
+    ask(walk, loader, !child_first)?;
+    close(walk, loader);
     Ok(())
 }
 

@@ -162,8 +162,6 @@ impl<T: Told> Search<T> {
           bytes = Some h.bytes;
         })) (λ u. self.found ≡ None) }
     {
-        // brings that each loader leads to earlier ones alone
-        let _ = self.config.count();
         let Search {
             config,
             loader,

@@ -18,8 +18,7 @@ mod script;
 pub use config::Config;
 pub use fault::{ConfigError, ConfigFault};
 pub use limits::{
-    MOST_IMPORTS, MOST_LOADER_NAME_BYTES, MOST_LOADERS, MOST_PARENTS, MOST_REQUESTS,
-    MOST_THENS,
+    MOST_IMPORTS, MOST_LOADER_NAME_BYTES, MOST_LOADERS, MOST_PARENTS, MOST_REQUESTS, MOST_THENS,
 };
 pub use loader::{Import, Loader};
 pub use order::Order;

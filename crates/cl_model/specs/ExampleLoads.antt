@@ -78,3 +78,13 @@ two_parents = with_loaders (four ++ record {
 } ∷ [])
     ((boot, root) ∷ (app, plain "p/T") ∷ (plug, plain "p/T") ∷ (plug, plain "p/V")
     ∷ (app, plain "javax/T") ∷ [])
+
+-- two loaders over the first one, and one over loaders of these, in this order (5.3.2)
+abbrev pub diamond : Order → List ℕ → World
+diamond order parents =
+    with_loaders
+    (record { parents = []; order = ParentFirst; imports = [] }
+    ∷ record { parents = boot ∷ []; order = ParentFirst; imports = [] }
+    ∷ record { parents = boot ∷ []; order = ParentFirst; imports = [] }
+    ∷ record { parents = parents; order = order; imports = [] } ∷ [])
+    []

@@ -5,7 +5,9 @@ ghost use Rattle.cl_model.specs.Classes.{IllegalAccess, IncompatibleClassChange}
 ghost use Rattle.cl_model.specs.States.{IsField, IsMethod, Linkage, Wrong};
 ghost use Rattle.cl_model.specs.Machine.{MayConstrain, MayDefine, MayPrepare};
 ghost use Rattle.cl_model.specs.Examples.{app, boot, kid, plug, the_root, in_app, in_plug, an_int, taking_none, load_of, root_for, same_t, Costs, LinkNeeds, ResolveNeeds, ResolvesTo};
-ghost use Rattle.cl_model.specs.ExampleLoads.{bad};
+ghost use Rattle.cl_model.specs.ExampleLoads.{bad, diamond};
+ghost use Rattle.cl_model.specs.Homes.{ChildFirst, ParentFirst};
+ghost use Rattle.cl_model.specs.Probes.{probes};
 ghost use Rattle.cl_model.specs.ExampleReferences.{nearest, three_users, from_b};
 ghost use Rattle.cl_model.specs.ExampleOverriding.{through_kid};
 ghost use Rattle.cl_model.specs.ExampleRuns.{AnswerIs, both_users_defined, interface_unprepared, of_use, over, root_in_app, root_in_plug};
@@ -48,4 +50,14 @@ pub fn classes_too_early()
     ensures define { MayDefine (over through_kid) root_in_app (in_app "p/R") → ⊥ }
     ensures prepare { MayPrepare (over through_kid) interface_unprepared (in_app "p/R") → ⊥ }
     ensures constrain { MayConstrain (over nearest) root_in_plug (codes "p/T") boot plug → ⊥ }
+{}
+
+/// Parents are asked in order, each with all above it, and no loader again.
+pub fn parents_in_order()
+    ensures first { probes (diamond ParentFirst (1 ∷ 2 ∷ [])) 3 (codes "p/X")
+        ≡ 0 ∷ 1 ∷ 2 ∷ 3 ∷ [] }
+    ensures turned { probes (diamond ParentFirst (2 ∷ 1 ∷ [])) 3 (codes "p/X")
+        ≡ 0 ∷ 2 ∷ 1 ∷ 3 ∷ [] }
+    ensures child_first { probes (diamond ChildFirst (1 ∷ 2 ∷ [])) 3 (codes "p/X")
+        ≡ 3 ∷ 0 ∷ 1 ∷ 2 ∷ [] }
 {}

@@ -1,5 +1,5 @@
 -- Which equalities may be imposed, and which classes prepared, by the tables of a registry (JVMS SE 8, 5.3.4, 5.4.2, 5.4.3).
-use Rattle.std.specs.Prelude.{◌≡◌, ◌⊎◌, ◌<◌, ℕ, true, List, ◌∷◌, [], ◌++◌, Option, None, Some, length, take, slice_get, Contains, IfSome}
+use Rattle.std.specs.Prelude.{◌≡◌, ◌⊎◌, ◌<◌, ◌≤◌, ℕ, true, List, ◌∷◌, [], ◌++◌, Option, None, Some, length, take, slice_get, Contains, IfSome}
 use Rattle.std.specs.List.{AllByRecursion}
 use Rattle.cl_classfile.specs.Files.{file_of}
 use Rattle.cl_model.specs.declared.class.Class.{Class}
@@ -38,6 +38,17 @@ pub record IsPreparedAbove (x : Shown) (c : Class) (a : Above) : Type 0 where
 -- each of these is
 abbrev pub ArePreparedAbove : Shown → Class → List Above → Type 0
 ArePreparedAbove x c others = AllByRecursion (IsPreparedAbove x c) others
+
+-- the first so many of the classes above that of a lineage are prepared (5.4.2)
+abbrev pub AreFirstPrepared : Shown → Lined → ℕ → Type 0
+AreFirstPrepared x l n =
+    AllByRecursion (λ r. Contains (state_of x).prepared r.class) (take n l.above)
+
+-- and no more: the next one, where there is one, is not (5.4.2)
+pub record ArePreparedUpTo (x : Shown) (l : Lined) (n : ℕ) : Type 0 where
+  pub within : n ≤ length l.above
+  pub first : AreFirstPrepared x l n
+  pub next : IfSome (slice_get l.above n) (λ r. Contains (state_of x).prepared r.class → ⊥)
 
 -- what a list was made from stands in the tables (5.4.2, 5.4.3)
 abbrev pub OriginStands : Shown → Sprung → Type 0

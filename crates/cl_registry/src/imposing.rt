@@ -11,7 +11,7 @@ ghost use Rattle.cl_model.specs.declared.event.Event.TheVariants as events;
 ghost use Rattle.cl_model.specs.declared.need.Need.TheVariants as needs;
 ghost use Rattle.cl_model.specs.States.{IsRecorded, Met, Refused};
 ghost use Rattle.cl_model.specs.Texts.{EqualityNames};
-ghost use Rattle.cl_registry.specs.Imposing.{ArePreparedAbove, IsPreparedAbove, IsPreparedBy, IsReached, IsReady, IsStanding, IsUnmetIn, Marks, MayConstrainAs, MayImpose, MayMark, MayPrepareAs, OriginStands, with_constrain, with_prepare};
+ghost use Rattle.cl_registry.specs.Imposing.{ArePreparedAbove, ArePreparedUpTo, IsPreparedAbove, IsPreparedBy, IsReached, IsReady, IsStanding, IsUnmetIn, Marks, MayConstrainAs, MayImpose, MayMark, MayPrepareAs, OriginStands, with_constrain, with_prepare};
 ghost use Rattle.cl_registry.specs.Parts.{AddsEvent, HasRoom};
 ghost use Rattle.cl_registry.specs.declared.registry.RegistryFault.TheVariants.{Memory};
 ghost use Rattle.cl_registry.specs.Refusals.{AddRefusedFor, BlamesIn, ImposeSays, MarkRefusedFor, refusal_fault};
@@ -168,6 +168,20 @@ impl<T: Told> Registry<T> {
         ensures kept { IsKept T.told self.now }
     {
         self.prepared.contains(class)
+    }
+
+    /// How many of the classes above that of a lineage are prepared, from the first on (JVMS SE 8, 5.4.2).
+    pub fn count_prepared(&self, lineage: &Lineage<T>) -> usize
+        ensures counted { ArePreparedUpTo self.now lineage.now result }
+        ensures kept { IsKept T.told self.now }
+    {
+        let rows = lineage.above();
+        for at in 0..rows.len() {
+            if !self.look_prepared(rows[at].class()) {
+                return at;
+            }
+        }
+        rows.len()
     }
 
     /// Marks the class as prepared whose preparation asks for a list, once all its equalities are met and its direct

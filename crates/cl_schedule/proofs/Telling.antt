@@ -1,8 +1,10 @@
 -- What a reply told stays so, wherever the registry goes on to (JVMS SE 8, 5.3 to 5.4.3).
-use Rattle.std.proofs.Common.{◌≡◌, ◌∙◌, ℕ, true, List, Option, Some, None, refl, sym, subst}
-use Rattle.std.specs.Prelude.{option_map, slice_get, IfSome}
+use Rattle.std.proofs.Common.{◌≡◌, ◌∙◌, ℕ, true, List, [], ◌∷◌, Option, Some, None, refl, sym, subst}
+use Rattle.std.specs.Prelude.{option_map, slice_get, take, Contains, IfSome}
+use Rattle.std.specs.List.{AllByRecursion}
 use Rattle.cl_hierarchy.specs.Imposed.{Sprung, OfReference, OfPreparation, equal_need}
 use Rattle.cl_hierarchy.specs.Lineages.{rows_in}
+use Rattle.cl_hierarchy.specs.Rows.{Rowed}
 use Rattle.cl_model.specs.declared.class.Class.{Class}
 use Rattle.cl_model.specs.declared.need.Equality.{Equality}
 use Rattle.cl_model.specs.declared.request.Request.{Request}
@@ -17,7 +19,7 @@ use Rattle.cl_registry.specs.References.{Cited, IsSettledIn, cited_by}
 use Rattle.cl_registry.specs.Tables.{Shown, records_of, state_of}
 use Rattle.cl_tasks.specs.Follows.{IsSettledOf, Tells, ReplyTells}
 use Rattle.cl_tasks.specs.Tasks.{Tasked}
-use Rattle.cl_tasks.specs.Waits.{Waits, Looking, Defining, Initiating, Tracing, LookingReference, Settling, Imposing, LookingPrepared, Marking}
+use Rattle.cl_tasks.specs.Waits.{Waits, Looking, Defining, Initiating, Tracing, LookingReference, Settling, Imposing, LookingPrepared, CountingPrepared, Marking}
 use Rattle.cl_tasks.specs.declared.turn.Reply.{Reply}
 use Rattle.cl_tasks.specs.declared.turn.Reply.TheVariants as reply
 use Rattle.cl_schedule.specs.Seats.{GoesOn, IsAfter, IsCitedFor}
@@ -55,6 +57,10 @@ marked_later : (old new : Shown) (o : Sprung) → GoesOn old new → IsPreparedB
 marked_later old new (OfReference d c index) h so = so
 marked_later old new (OfPreparation l) h so = prepared_later old new l.own.class h so
 
+first_prepared_later : (old new : Shown) (rows : List Rowed) → GoesOn old new → AllByRecursion (λ (r : Rowed). Contains (state_of old).prepared r.class) rows → AllByRecursion (λ (r : Rowed). Contains (state_of new).prepared r.class) rows
+first_prepared_later old new [] h so = tt
+first_prepared_later old new (r ∷ rows) h so = (prepared_later old new r.class h so.0, first_prepared_later old new rows h so.1)
+
 -- ---- each reply to each call
 
 told_later : {A : Type 0} (told : Option Content) (old new : Shown) (w : Waits) (given : Reply A) → IsAfter told old new → IsCitedFor old w given → ReplyTells old w given → ReplyTells new w given
@@ -66,6 +72,7 @@ told_later told old new (LookingReference c i) (reply.LookedReference (Some s)) 
 told_later told old new (Settling r) (reply.Settled s) h cited so = settled_of_later old new r s.value h.goes cited so
 told_later told old new (Imposing e k) reply.Imposed h cited so = imposed_later old new (slice_get e.needs k) h.goes so
 told_later told old new (LookingPrepared c) (reply.LookedPrepared true) h cited so = prepared_later old new c h.goes so
+told_later told old new (CountingPrepared l) (reply.CountedPrepared n) h cited so = first_prepared_later old new (take n l.above) h.goes so
 told_later told old new (Marking e) reply.Marked h cited so = marked_later old new e.origin h.goes so
 told_later told old new waits (reply.Refused need) h cited so = refused_goes told old new (need_of need) h.goes h.kept so
 told_later told old new waits other h cited so = tt

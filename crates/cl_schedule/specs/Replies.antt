@@ -11,9 +11,10 @@ use Rattle.cl_hierarchy.specs.Drafts.{Drafted}
 use Rattle.cl_hierarchy.specs.Imposed.{Listed, Sprung, OfReference, OfPreparation, equal_need}
 use Rattle.cl_registry.specs.declared.registry.RegistryFault.{RegistryFault}
 use Rattle.cl_registry.specs.declared.registry.RegistryFault.TheVariants as faults
+use Rattle.cl_registry.specs.Imposing.{ArePreparedUpTo}
 use Rattle.cl_registry.specs.Settling.{IsToSettle}
 use Rattle.cl_registry.specs.Tables.{Shown, IsKept, records_of, state_of, LacksRecord}
-use Rattle.cl_tasks.specs.Waits.{Waits, Looking, LookingReference, LookingPrepared}
+use Rattle.cl_tasks.specs.Waits.{Waits, Looking, LookingReference, LookingPrepared, CountingPrepared}
 use Rattle.cl_tasks.specs.Turns.{IsReplyTo, call_of}
 use Rattle.cl_tasks.specs.Follows.{ReplyTells}
 use Rattle.cl_tasks.specs.declared.turn.Reply.{Reply}
@@ -50,6 +51,8 @@ Shows x (LookingReference c i) (reply.LookedReference None) = settled_to
 Shows x (LookingReference c i) reply.Memory = IsSome (settled_to (state_of x).settled c i)
 Shows x (LookingPrepared c) (reply.LookedPrepared false) = Contains (state_of x).prepared c → ⊥
 Shows x (LookingPrepared c) reply.Memory = ⊥
+Shows x (CountingPrepared l) (reply.CountedPrepared n) = ArePreparedUpTo x l n
+Shows x (CountingPrepared l) reply.Memory = ⊥
 Shows x waits other = Unit {0}
 
 -- a call was answered: the reply is one to it, and tells what the tables hold (5.3 to 5.4.3)

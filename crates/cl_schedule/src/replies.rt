@@ -6,13 +6,13 @@ ghost use Rattle.cl_registry.specs.Settling.{FindingSettles};
 ghost use Rattle.cl_registry.specs.Tables.{Shown, IsKept, MayEnter, MayJoin, state_of};
 ghost use Rattle.cl_tasks.specs.Follows.{Backed};
 ghost use Rattle.cl_tasks.specs.Turns.{call_of};
-ghost use Rattle.cl_tasks.specs.Waits.{Looking, Reading, Defining, Initiating, Tracing, LookingReference, Settling, Imposing, LookingPrepared, Marking};
+ghost use Rattle.cl_tasks.specs.Waits.{Looking, Reading, Defining, Initiating, Tracing, LookingReference, Settling, Imposing, LookingPrepared, CountingPrepared, Marking};
 ghost use Rattle.cl_schedule.specs.Counting.{Grows, told_faults};
 ghost use Rattle.cl_schedule.specs.Replies.{CallSays, IsCall, DefinesByStep, Did, ImposesBy, InitiatesBy, IsOfTables, IsReplied, IsStepOf, PreparesBy, RepliesWhere, SettlesBy, reply_of};
 
 use cl_delegation::Home;
 use cl_findings::Finding;
-use cl_hierarchy::{Draft, Equalities};
+use cl_hierarchy::{Draft, Equalities, Lineage};
 use cl_model::{Class, LoaderId, Told};
 use cl_names::Name;
 use cl_registry::{Registry, RegistryFault};
@@ -55,6 +55,14 @@ fn look_prepared<T: Told>(registry: &Registry<T>, class: &Class) -> Reply<T>
     ensures kept { IsKept T.told registry.now }
 {
     Reply::LookedPrepared(registry.look_prepared(class))
+}
+
+/// The reply to the question how many of the classes above another are prepared (JVMS SE 8, 5.4.2).
+fn count_prepared<T: Told>(registry: &Registry<T>, lineage: &Lineage<T>) -> Reply<T>
+    ensures replied { IsReplied registry.now (CountingPrepared lineage.now) result }
+    ensures kept { IsKept T.told registry.now }
+{
+    Reply::CountedPrepared(registry.count_prepared(lineage))
 }
 
 /// The reply that a refusal is; none, where the value was a stray.
@@ -215,6 +223,7 @@ pub fn ask_registry<T: Told>(
         Turn::Settle(finding) => settle(alloc, registry, finding),
         Turn::Impose(list, place) => impose(alloc, registry, list, place),
         Turn::LookPrepared(class) => Some(look_prepared(registry, &class)),
+        Turn::CountPrepared(lineage) => Some(count_prepared(registry, &lineage)),
         Turn::Mark(list) => mark(alloc, registry, list),
         Turn::Read(_, _) | Turn::Post(_) => unreachable!(),
     }

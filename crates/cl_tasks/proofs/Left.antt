@@ -57,7 +57,7 @@ resolution_left c (resolutions.Settling e) = are_left (resolving_at c (resolutio
 link_left : {A : Type 0} (c : Configured) (l : Link A) → AreLeft (linking_at c l).calls
 link_left c (links.LookingPrepared g) = are_left (linking_at c (links.LookingPrepared g)).calls (omega arith)
 link_left c (links.TracingWhole g) = are_left (linking_at c (links.TracingWhole g)).calls (omega arith)
-link_left c (links.Asking k) = are_left (linking_at c (links.Asking k)).calls (omega arith)
+link_left c (links.Counting g l) = are_left (linking_at c (links.Counting g l)).calls (omega arith)
 link_left c (links.Tracing k) = are_left (linking_at c (links.Tracing k)).calls (omega arith)
 link_left c (links.Imposing k e i) = are_left (linking_at c (links.Imposing k e i)).calls (omega arith)
 link_left c (links.Marking k e) = are_left (linking_at c (links.Marking k e)).calls (omega arith)

@@ -52,6 +52,12 @@ pub none : {A : Type 0} (P : A → Type 0) (xs : List A) → AllByRecursion P (t
 none P [] = tt
 none P (x ∷ xs) = tt
 
+-- of the classes of a lineage, where these are first
+pub taken_above : (P : Class → Type 0) (rows : List Rowed) (own : Rowed) (n : ℕ) → n ≤ length rows → AllByRecursion (λ (r : Rowed). P r.class) (take n rows) → AllByRecursion P (take n (map (λ (r : Rowed). r.class) (rows ++ own ∷ [])))
+taken_above P rows own zero le h = none P (map (λ (r : Rowed). r.class) (rows ++ own ∷ []))
+taken_above P [] own (suc n) le h = absurd (omega (arith, le))
+taken_above P (r ∷ rows) own (suc n) le h = (h.0, taken_above P rows own n (omega (arith, le)) h.1)
+
 taken_next : {A : Type 0} (P : A → Type 0) (xs : List A) (k : ℕ) (a : A) → AllByRecursion P (take k xs) → slice_get xs k ≡ Some a → P a → AllByRecursion P (take (suc k) xs)
 taken_next P [] k a h e p = absurd cc
 taken_next P (x ∷ xs) zero a h e p = (subst P (sym (some_same x a e)) p, none P xs)

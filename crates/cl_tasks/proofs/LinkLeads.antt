@@ -28,10 +28,11 @@ use Rattle.cl_registry.proofs.Linked.{prepared_comes}
 use Rattle.cl_registry.proofs.Named.{recorded_is_named}
 use Rattle.cl_tasks.specs.Calls.{Calls, calls_in, equalities_in, link_calls, own_homes, past_loads}
 use Rattle.cl_tasks.specs.Follows.{CallsWithin, ServedIn}
-use Rattle.cl_tasks.specs.Linking.{ChainTold, DoneTold, GoalTold, LineageTold, MarkedTold, PreparedTold, WholeTold}
+use Rattle.cl_tasks.specs.Linking.{ChainTold, CountedTold, DoneTold, GoalTold, LineageTold, MarkedTold, PreparedTold, WholeTold}
 use Rattle.cl_tasks.specs.Measures.{chain_left, each_left, linking_left, most, prepared_left, whole_left}
-use Rattle.cl_tasks.specs.Rooms.{asking_room, chain_room, last_room, listed_room, prepared_room}
-use Rattle.cl_tasks.specs.Stages.{IsChain, IsGoal, behind, chain_calls, class_in, classes_in}
+use Rattle.cl_tasks.specs.Rooms.{chain_room, last_room, listed_room, prepared_room, whole_room}
+use Rattle.cl_tasks.specs.Stages.{IsChain, IsGoal, behind, chain_calls, class_in, classes_in, goal_facts}
+use Rattle.cl_tasks.specs.Tasks.{HasLineage}
 use Rattle.cl_tasks.specs.Steps.{LeadsBy}
 use Rattle.cl_tasks.specs.declared.stage.Chain.{Chain}
 use Rattle.cl_tasks.specs.declared.stage.Goal.{Goal}
@@ -41,7 +42,7 @@ use Rattle.cl_tasks.specs.declared.stage.Stage.TheVariants as stages
 use Rattle.cl_tasks.specs.declared.turn.Turn.TheVariants as turn
 use Rattle.cl_tasks.specs.Waits as waits
 use Rattle.cl_tasks.proofs.Lead.{HasPost, leads_by, leads_post}
-use Rattle.cl_tasks.proofs.LinkFacts.{chain_goal, chain_of, chain_prepared, chain_whole, class_last, class_there, none, own_recorded, taken_more, traced_recorded, whole_length}
+use Rattle.cl_tasks.proofs.LinkFacts.{chain_goal, chain_of, chain_prepared, chain_whole, class_last, class_there, own_recorded, so_both, taken_above, taken_more, traced_recorded, whole_length}
 use Rattle.cl_tasks.proofs.LinkPlan.{chain_within}
 use Rattle.cl_tasks.proofs.MemberFacts.{traced_as}
 use Rattle.cl_tasks.specs.Turns.{IsOf}
@@ -146,23 +147,6 @@ linked_leads told c g k goal is =
 pub one_more : (a : ℕ) → a < a + 1
 one_more a = omega arith
 
-next_more : (a : ℕ) → a + 1 < a + 2
-next_more a = omega arith
-
-pub ask_leads : {A : Type 0} (told : Option Content) (c : Configured) (k : Chain A) (d : Class) → IsChain c k → d ≡ class_in k.whole k.place
-    → LeadsBy told c k.goal.q k.goal.request (asking_room k) (ChainTold k) (record { stage = stages.Link (links.Asking k); turn = turn.LookPrepared d })
-ask_leads told c k d chain is = record {
-  kept = chain;
-  number = refl;
-  asks = ap (λ (e : Class). waits.LookingPrepared e) (sym is);
-  serves = refl;
-  left = next_more (chain_left (behind k));
-  calls = stay told c (ChainTold k) k.goal.request (past_loads 0 0 (chain_calls k.whole k.place + 2));
-  keeps = λ x h. record { frames = tt; facts = h };
-  backed = λ x config names fine h. tt;
-  follows = λ s x served h. tt;
-}
-
 pub trace_leads : {A : Type 0} (told : Option Content) (c : Configured) (k : Chain A) (d : Class) → IsChain c k → d ≡ class_in k.whole k.place
     → LeadsBy told c k.goal.q k.goal.request (chain_room k) (ChainTold k) (record { stage = stages.Link (links.Tracing k); turn = turn.Lineage d })
 trace_leads told c k d chain is = record {
@@ -203,11 +187,14 @@ whole_leads told c k l chain le same next =
     no_call : (a : ℕ) → 0 + a ≤ a + 1
     no_call a = omega arith
 
-abbrev pub first_of : {A : Type 0} → Goal A → Lined → Chain A
-first_of g whole = record { goal = g; whole = whole; place = 0 }
+abbrev pub chain_from : {A : Type 0} → Goal A → Lined → ℕ → Chain A
+chain_from g whole n = record { goal = g; whole = whole; place = n }
 
-pub whole_told : {A : Type 0} (x : Shown) (g : Goal A) (whole : Lined) → WholeTold g whole x → ChainTold (first_of g whole) x
-whole_told x g whole h = chain_of x (first_of g whole) h.before (traced_as x g.class.value.class whole h.now) (none (Contains (state_of x).prepared) (classes_in whole))
+pub counted_told : {A : Type 0} (x : Shown) (g : Goal A) (whole : Lined) (n : ℕ) → n ≤ length whole.above → CountedTold g whole n x → ChainTold (chain_from g whole n) x
+counted_told x g whole n le h = chain_of x (chain_from g whole n) h.before h.whole_is (taken_above (Contains (state_of x).prepared) whole.above whole.own n le h.now)
+
+pub counted_chain : {A : Type 0} (c : Configured) (g : Goal A) (whole : Lined) (n : ℕ) → IsGoal c g → IsOf c g.class.value.class whole → n ≤ length whole.above → IsChain c (chain_from g whole n)
+counted_chain c g whole n goal of le = let many = whole_length whole in record { goal = goal; whole = of; within = omega (arith, many, le) }
 
 abbrev pub next_of : {A : Type 0} → Chain A → Chain A
 next_of k = record k { place = k.place + 1 }
@@ -222,9 +209,6 @@ last_told c x k chain le h = record {
   before = chain_goal x k h.before;
   now = subst (λ (d : Class). Contains (state_of x).prepared d) (last_place c k chain le ∙ chain.whole.class) h.now;
 }
-
-pub first_chain : {A : Type 0} (c : Configured) (g : Goal A) (whole : Lined) → IsGoal c g → IsOf c g.class.value.class whole → IsChain c (first_of g whole)
-first_chain c g whole goal of = let many = whole_length whole in record { goal = goal; whole = of; within = omega (arith, many) }
 
 pub next_chain : {A : Type 0} (c : Configured) (k : Chain A) → IsChain c k → k.place < length k.whole.above → IsChain c (next_of k)
 next_chain c k chain lt = let many = whole_length k.whole in record { goal = chain.goal; whole = chain.whole; within = omega (arith, many, lt) }
@@ -263,14 +247,17 @@ chain_each_calls l place order lt =
 pub chain_some_calls : (l : Lined) (place : ℕ) → IsInOrder l → place < length (rows_in l) → 1 ≤ chain_calls l place
 chain_some_calls l place order lt = let two = chain_each_calls l place order lt in omega (arith, two)
 
--- a class that was prepared before has one look less
-pub passed_calls : {A : Type 0} (told : Option Content) (c : Configured) (k : Chain A) → IsChain c k → IsInOrder k.whole
-    → CallsWithin told c (MarkedTold k) k.goal.request 0 (past_loads 0 0 (chain_calls k.whole (k.place + 1) + 2)) (past_loads 0 0 (chain_calls k.whole k.place + 1))
-passed_calls told c k chain order =
-    fewer_calls told c (MarkedTold k) k.goal.request 0 (chain_calls k.whole (k.place + 1) + 2) (chain_calls k.whole k.place + 1)
-    (within (chain_calls k.whole (k.place + 1)) (chain_calls k.whole k.place) (chain_each_calls k.whole k.place order chain.within))
+-- those behind the classes that are prepared are no more than all
+pub counted_calls : {A : Type 0} (told : Option Content) (c : Configured) (g : Goal A) (l : Lined) (n : ℕ) → CallsWithin told c (CountedTold g l n) g.request 0 (past_loads 0 0 (chain_calls l n + 1)) (past_loads 0 0 (chain_calls l 0 + 1))
+counted_calls told c g l n =
+    fewer_calls told c (CountedTold g l n) g.request 0 (chain_calls l n + 1) (chain_calls l 0 + 1) (within (chain_calls l n) (chain_calls l 0) (falls (lineage (kin_of l)) n))
   where
-    within : (a b : ℕ) → a + 2 ≤ b → 0 + (a + 2) ≤ b + 1
+    falls : (ks : List Kin) (n : ℕ) → link_calls (drop n ks) ≤ link_calls (drop 0 ks)
+    falls ks zero = omega arith
+    falls [] (suc n) = omega arith
+    falls (k ∷ ks) (suc n) = let fewer = falls ks n in omega (arith, fewer)
+
+    within : (a b : ℕ) → a ≤ b → 0 + (a + 1) ≤ b + 1
     within a b le = omega (arith, le)
 
 pub one_call : (a : ℕ) → 0 + 1 ≤ a + 1
@@ -321,7 +308,7 @@ one_turn a m = omega arith
 pub one_prepared : 1 ≤ prepared_left
 one_prepared = one_turn (chain_left most) 2
 
-pub rows_few : (l : Lined) (n : ℕ) → n < 2 ^ 64 → n ≡ length l.above → length (rows_in l) - 0 ≤ most
+pub rows_few : (l : Lined) (n : ℕ) → n < 2 ^ 64 → n ≡ length l.above → length (rows_in l) ≤ most
 unfolding most
 rows_few l n lt is =
     let many = whole_length l in
@@ -334,17 +321,25 @@ next_turns n p =
     let e = ap (λ (k : ℕ). chain_left k) is in
     omega (arith, e)
 
--- as many are left as there is room for
-pub asked_turns : {A : Type 0} (k : Chain A) → (chain_room k).turns ≤ (chain_room k).turns
-asked_turns k = all (chain_left (behind k))
-  where
-    all : (a : ℕ) → a + 1 ≤ a + 1
-    all a = omega arith
+-- and behind those that are prepared no more than for all
+pub counted_turns : (rows n : ℕ) → chain_left (rows - n) + 1 ≤ chain_left rows + 1
+counted_turns rows n =
+    let few : rows - n ≤ rows = omega arith in
+    let l = chain_grows (rows - n) rows each_left few in
+    omega (arith, l)
 
--- a class that was prepared before leaves room for the look at the next
-pub passed_turns : (n p : ℕ) → p < n → chain_left (n - (p + 1)) + 2 ≤ chain_left (n - p) + 1
-passed_turns n p lt =
-    let is : n - p ≡ (n - (p + 1)) + 1 = omega (arith, lt) in
-    let e = each_more (n - (p + 1)) each_left in
-    let f = ap (λ (k : ℕ). k * each_left) is in
-    omega (arith, e, f)
+-- ---- how many of the classes above are prepared
+
+pub count_leads : {A : Type 0} (told : Option Content) (c : Configured) (g : Goal A) (l same : Lined) → IsGoal c g → IsOf c g.class.value.class l → IsLineageOf told l → same ≡ l → length (rows_in l) ≤ most
+    → LeadsBy told c g.q g.request whole_room (WholeTold g l) (record { stage = stages.Link (links.Counting g l); turn = turn.CountPrepared same })
+count_leads told c g l same goal of lin is few = record {
+  kept = (goal, of);
+  number = refl;
+  asks = ap (λ (k : Lined). waits.CountingPrepared k) (sym is);
+  serves = refl;
+  left = let turns = whole_turns (length (rows_in l)) few in omega (arith, turns);
+  calls = whole_calls told c g l goal of lin;
+  keeps = λ x h. record { frames = tt; facts = so_both x (goal_facts g) (HasLineage l ∷ []) h.before (traced_as x g.class.value.class l h.now, tt) };
+  backed = λ x config names fine h. tt;
+  follows = λ s x served h. tt;
+}

@@ -9,12 +9,12 @@ use Rattle.cl_model.specs.declared.need.Need as rust
 use Rattle.cl_model.specs.declared.request.Request.{Request}
 use Rattle.cl_model.specs.declared.verdict.Verdict.TheVariants as verdicts
 use Rattle.cl_model.specs.Content.{Content}
-use Rattle.cl_model.specs.States.{Met, Need}
+use Rattle.cl_model.specs.States.{Met}
 use Rattle.cl_model.specs.Views.{need_of}
 use Rattle.cl_model.proofs.Bind.{some_same}
 use Rattle.cl_config.specs.Views.{Configured}
 use Rattle.cl_hierarchy.specs.Imposed.{Listed, Sprung, equal_need}
-use Rattle.cl_hierarchy.specs.Lineages.{IsInOrder, Lined}
+use Rattle.cl_hierarchy.specs.Lineages.{IsInOrder, Lined, rows_in}
 use Rattle.cl_hierarchy.specs.Rows.{Rowed}
 use Rattle.cl_registry.specs.Imposing.{IsPreparedBy}
 use Rattle.cl_registry.specs.Tables.{Shown, state_of}
@@ -22,12 +22,12 @@ use Rattle.cl_registry.proofs.Schedules.{some_at}
 use Rattle.cl_tasks.specs.Deriving.{IsPast}
 use Rattle.cl_tasks.specs.Calls.{equalities_in, own_homes, past_loads}
 use Rattle.cl_tasks.specs.Follows.{CallsWithin, EndsAsRefused, Posts, Tells}
-use Rattle.cl_tasks.specs.Linking.{AskedTold, LineageTold, ListTold, MarkedTold, PreparedTold, RefusedTold, WholeTold}
+use Rattle.cl_tasks.specs.Linking.{CountedTold, LineageTold, ListTold, MarkedTold, PreparedTold, RefusedTold, WholeTold}
 use Rattle.cl_tasks.specs.Measures.{chain_left, linking_left, prepared_left, whole_left}
-use Rattle.cl_tasks.specs.Rooms.{chain_room, last_room, linking_room, listed_room, marked_room, prepared_room, whole_room}
-use Rattle.cl_tasks.specs.Stages.{IsAtPlace, IsChain, behind, chain_calls, chain_facts, class_in, linking_at, list_calls, task_at}
+use Rattle.cl_tasks.specs.Rooms.{counted_room, last_room, linking_room, listed_room, marked_room, prepared_room, whole_room}
+use Rattle.cl_tasks.specs.Stages.{IsAtPlace, IsChain, behind, chain_calls, class_in, goal_facts, linking_at, list_calls, task_at}
 use Rattle.cl_tasks.specs.Steps.{IsPlain, LeadsBy, Steps, task_room}
-use Rattle.cl_tasks.specs.Tasks.{Stands}
+use Rattle.cl_tasks.specs.Tasks.{HasLineage}
 use Rattle.cl_tasks.specs.Turns.{AnswersOwn, PostsOr}
 use Rattle.cl_tasks.specs.Waits as waits
 use Rattle.cl_tasks.specs.declared.stage.Chain.{Chain}
@@ -37,7 +37,7 @@ use Rattle.cl_tasks.specs.declared.stage.Next.{Next}
 use Rattle.cl_tasks.specs.declared.turn.Reply.TheVariants as reply
 use Rattle.cl_tasks.proofs.Deriving.{past_derives}
 use Rattle.cl_tasks.proofs.Lead.{HasPost, plain_steps}
-use Rattle.cl_tasks.proofs.LinkFacts.{list_chain, list_imposed, list_of, list_traced, row_there, met_more}
+use Rattle.cl_tasks.proofs.LinkFacts.{list_chain, list_imposed, list_of, list_traced, row_there, met_more, so_first, so_second}
 use Rattle.cl_tasks.proofs.LinkLeads.{chain_some_calls, fewer_calls, post_calls, post_room}
 use Rattle.std.proofs.lemmas.Option.{none-some}
 
@@ -71,28 +71,23 @@ prepared_steps told c g p n l own plain past =
     plain_steps (linking_at c (links.LookingPrepared g)) (reply.LookedPrepared p) n refl refl refl l (same_turns prepared_left) (one_made told c _ g.request 2 1 3)
     (λ x h. prepared_told c g p x h) tt tt (λ h. tt) (past_derives _ [] n.stage past) (prepared_own c g p n own) plain
 
--- ---- whether the class at a place is
+-- ---- how many of the classes above are prepared
 
-asked_told : {A : Type 0} (c : Configured) (k : Chain A) (p : Bool) (x : Shown) → Tells {A = A} x (linking_at c (links.Asking k)) (reply.LookedPrepared p) → AskedTold k p x
-asked_told c k true x h = record { before = h.before.facts; now = λ e. h.now }
-asked_told c k false x h = record { before = h.before.facts; now = λ e. absurd cc }
+one_counted : (a : ℕ) → 1 + (a + 1) ≤ a + 2
+one_counted a = omega arith
 
-one_asked : (a : ℕ) → 1 + (a + 1) ≤ a + 2
-one_asked a = omega arith
+counted_so : {A : Type 0} (c : Configured) (g : Goal A) (l : Lined) (count : ℕ) (x : Shown) → Tells {A = A} x (linking_at c (links.Counting g l)) (reply.CountedPrepared count) → CountedTold g l count x
+counted_so c g l count x h = record {
+  before = so_first x (goal_facts g) (HasLineage l ∷ []) h.before.facts;
+  whole_is = (so_second x (goal_facts g) (HasLineage l ∷ []) h.before.facts).0;
+  now = h.now;
+}
 
--- a chain knows a lineage, too
-knows_more : {A : Type 0} (k : Chain A) (n : Need) → chain_facts k ≡ Stands n ∷ [] → ⊥
-knows_more k n e = cc
-
-asked_own : {A : Type 0} (c : Configured) (k : Chain A) (p : Bool) (n : Next A) → AnswersOwn (linking_at c (links.Asking k)) (task_at c n.stage) (reply.LookedPrepared p) n.turn
-asked_own c k true n = λ d e alone. absurd (knows_more k alone.0 alone.1)
-asked_own c k false n = tt
-
-pub asked_steps : {A : Type 0} (told : Option Content) (c : Configured) (k : Chain A) (p : Bool) (n : Next A) → LeadsBy told c k.goal.q k.goal.request (chain_room k) (AskedTold k p) n → IsPlain n.turn → IsPast n.stage
-    → Steps told (linking_at c (links.Asking k)) (reply.LookedPrepared p) n
-asked_steps told c k p n l plain past =
-    plain_steps (linking_at c (links.Asking k)) (reply.LookedPrepared p) n refl refl refl l (same_turns (chain_left (behind k) + 1)) (fewer_calls told c _ k.goal.request 1 (chain_calls k.whole k.place + 1) (chain_calls k.whole k.place + 2) (one_asked (chain_calls k.whole k.place)))
-    (λ x h. asked_told c k p x h) tt tt (λ h. tt) (past_derives _ [] n.stage past) (asked_own c k p n) plain
+pub counted_steps : {A : Type 0} (told : Option Content) (c : Configured) (g : Goal A) (whole : Lined) (count : ℕ) (n : Next A) → LeadsBy told c g.q g.request (counted_room whole) (CountedTold g whole count) n → IsPlain n.turn → IsPast n.stage
+    → Steps told (linking_at c (links.Counting g whole)) (reply.CountedPrepared count) n
+counted_steps told c g whole count n l plain past =
+    plain_steps (linking_at c (links.Counting g whole)) (reply.CountedPrepared count) n refl refl refl l (same_turns (chain_left (length (rows_in whole)) + 1)) (fewer_calls told c _ g.request 1 (chain_calls whole 0 + 1) (chain_calls whole 0 + 2) (one_counted (chain_calls whole 0)))
+    (λ x h. counted_so c g whole count x h) tt tt (λ h. tt) (past_derives _ [] n.stage past) tt plain
 
 -- ---- lineages
 
@@ -175,13 +170,14 @@ past_post turns more = post_room turns 1 2 1 (more + 2) (two_of more)
     two_of : (m : ℕ) → 1 + 1 ≤ m + 2
     two_of m = omega arith
 
--- and so before that of a class of it, or before it is known whether that is prepared
-pub asked_post : {A : Type 0} (c : Configured) (k : Chain A) → HasPost (task_room (linking_at c (links.Asking k)))
-asked_post c k = post_room (chain_left (behind k) + 1) 1 0 0 (chain_calls k.whole k.place + 2) (two_calls (chain_calls k.whole k.place))
+-- and so before it is known how many of the classes above are prepared
+pub counted_post : {A : Type 0} (c : Configured) (g : Goal A) (whole : Lined) → HasPost (task_room (linking_at c (links.Counting g whole)))
+counted_post c g whole = post_room (chain_left (length (rows_in whole)) + 1) 1 0 0 (chain_calls whole 0 + 2) (two_calls (chain_calls whole 0))
   where
     two_calls : (a : ℕ) → 1 + 1 ≤ a + 2
     two_calls a = omega arith
 
+-- and before the lineage of a class of it was had
 pub traced_post : {A : Type 0} (c : Configured) (k : Chain A) → IsChain c k → IsInOrder k.whole → HasPost (task_room (linking_at c (links.Tracing k)))
 traced_post c k chain order = post_room (chain_left (behind k)) 1 0 0 (chain_calls k.whole k.place + 1) (one_and_more (chain_calls k.whole k.place) (chain_some_calls k.whole k.place order chain.within))
   where

@@ -66,7 +66,7 @@ resolution_has c (resolutions.Settling e) = (e.request, refl)
 link_has : {A : Type 0} (c : Configured) (l : Link A) → HasRequest (linking_at c l)
 link_has c (links.LookingPrepared g) = (g.request, refl)
 link_has c (links.TracingWhole g) = (g.request, refl)
-link_has c (links.Asking k) = (k.goal.request, refl)
+link_has c (links.Counting g l) = (g.request, refl)
 link_has c (links.Tracing k) = (k.goal.request, refl)
 link_has c (links.Imposing k e i) = (k.goal.request, refl)
 link_has c (links.Marking k e) = (k.goal.request, refl)
@@ -98,7 +98,7 @@ resolution_config c (resolutions.Settling e) = refl
 link_config : {A : Type 0} (c : Configured) (l : Link A) → (linking_at c l).config ≡ c
 link_config c (links.LookingPrepared g) = refl
 link_config c (links.TracingWhole g) = refl
-link_config c (links.Asking k) = refl
+link_config c (links.Counting g l) = refl
 link_config c (links.Tracing k) = refl
 link_config c (links.Imposing k e i) = refl
 link_config c (links.Marking k e) = refl

@@ -25,7 +25,7 @@ use Rattle.cl_hierarchy.specs.Imposed.{OfReference, OfPreparation, Sprung}
 use Rattle.cl_findings.specs.Findings.{Answered, loader_of, name_of}
 use Rattle.cl_findings.specs.References.{resolved_index}
 use Rattle.cl_registry.specs.Tables.{Shown, state_of, NamesLoaders, MayEnter, MayJoin, LacksRecord}
-use Rattle.cl_registry.specs.Imposing.{IsNextOf, IsPreparedBy, MayImpose, MayMark}
+use Rattle.cl_registry.specs.Imposing.{AreFirstPrepared, IsNextOf, IsPreparedBy, MayImpose, MayMark}
 use Rattle.cl_registry.specs.Traced.{IsTraced}
 use Rattle.cl_registry.specs.References.{IsSettledIn}
 use Rattle.cl_registry.specs.Settling.{FindingSettles}
@@ -33,7 +33,7 @@ use Rattle.cl_registry.specs.Posting.{IsBacked}
 use Rattle.cl_tasks.specs.Calls.{Calls, calls_in}
 use Rattle.cl_tasks.specs.Tasks.{Tasked}
 use Rattle.cl_tasks.specs.Facts.{Holds, IsRecordedAs}
-use Rattle.cl_tasks.specs.Waits.{Waits, Beginning, Looking, Reading, Defining, Initiating, Tracing, LookingReference, Settling, Imposing, LookingPrepared, Marking}
+use Rattle.cl_tasks.specs.Waits.{Waits, Beginning, Looking, Reading, Defining, Initiating, Tracing, LookingReference, Settling, Imposing, LookingPrepared, CountingPrepared, Marking}
 use Rattle.cl_tasks.specs.declared.turn.Reply.{Reply}
 use Rattle.cl_tasks.specs.declared.turn.Reply.TheVariants as reply
 use Rattle.cl_tasks.specs.declared.turn.Turn.{Turn}
@@ -49,7 +49,7 @@ IsSettledOf x r s = (d : Class) → Records (state_of x) (loader_of r) (name_of 
     → IsSettledIn x d (resolved_index r) s
 
 -- what a call was answered holds: a class is recorded, a lineage is of the tables, a reference is settled, an equality is imposed,
--- a class is prepared, or what was to stand is refused (5.3 to 5.4.3)
+-- a class is prepared, or the first so many above one, or what was to stand is refused (5.3 to 5.4.3)
 abbrev pub ReplyTells : {A : Type 0} → Shown → Waits → Reply A → Type 0
 ReplyTells x (Looking l n) (reply.Looked (Some row)) = IsRecordedAs x l n row.value
 ReplyTells x (Defining d) (reply.Defined row) = IsRecordedAs x d.class.loader d.class.name row.value
@@ -59,6 +59,7 @@ ReplyTells x (LookingReference c i) (reply.LookedReference (Some s)) = IsSettled
 ReplyTells x (Settling r) (reply.Settled s) = IsSettledOf x r s.value
 ReplyTells x (Imposing e k) reply.Imposed = IsNextOf e k (Met (state_of x))
 ReplyTells x (LookingPrepared c) (reply.LookedPrepared true) = Contains (state_of x).prepared c
+ReplyTells x (CountingPrepared l) (reply.CountedPrepared n) = AreFirstPrepared x l n
 ReplyTells x (Marking e) reply.Marked = IsPreparedBy x e.origin
 ReplyTells x waits (reply.Refused n) = Refused (state_of x) (need_of n)
 ReplyTells x waits other = Unit {0}

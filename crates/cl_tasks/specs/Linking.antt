@@ -3,6 +3,7 @@ use Rattle.std.specs.Prelude.{◌≡◌, ◌++◌, ℕ, Bool, true, Contains}
 use Rattle.cl_model.specs.States.{Need, Refused}
 use Rattle.cl_hierarchy.specs.Imposed.{Listed}
 use Rattle.cl_hierarchy.specs.Lineages.{Lined}
+use Rattle.cl_registry.specs.Imposing.{AreFirstPrepared}
 use Rattle.cl_registry.specs.Tables.{Shown, state_of}
 use Rattle.cl_registry.specs.Traced.{IsTraced}
 use Rattle.cl_tasks.specs.Facts.{AreSo}
@@ -29,14 +30,16 @@ pub record WholeTold {A : Type 0} (g : Goal A) (whole : Lined) (x : Shown) : Typ
   pub before : GoalTold g x
   pub now : IsTraced x g.class.value.class whole
 
+-- and the first so many of the classes above are prepared (5.4.2)
+pub record CountedTold {A : Type 0} (g : Goal A) (whole : Lined) (count : ℕ) (x : Shown) : Type 0
+    where
+  pub before : GoalTold g x
+  pub whole_is : IsTraced x whole.own.class whole
+  pub now : AreFirstPrepared x whole count
+
 -- the classes of the lineage before the place are prepared (5.4)
 abbrev pub ChainTold : {A : Type 0} → Chain A → Shown → Type 0
 ChainTold k x = AreSo x (chain_facts k)
-
--- and that at the place was found to be prepared, if this says so (5.4.2)
-pub record AskedTold {A : Type 0} (k : Chain A) (prepared : Bool) (x : Shown) : Type 0 where
-  pub before : ChainTold k x
-  pub now : prepared ≡ true → Contains (state_of x).prepared (class_in k.whole k.place)
 
 -- and this is the lineage of the class at the place (5.3.5)
 pub record LineageTold {A : Type 0} (k : Chain A) (lineage : Lined) (x : Shown) : Type 0 where

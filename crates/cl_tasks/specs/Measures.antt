@@ -78,8 +78,7 @@ chain_left classes = classes * each_left
 abbrev pub linking_left : ℕ → ℕ → ℕ
 linking_left classes equalities = chain_left classes + (equalities + 1)
 
--- where the lineage of the class that is linked is still to be had, and whether it is prepared; a look at the first class that is not prepared comes
--- after it (5.4)
+-- where the lineage of the class that is linked is still to be had, and whether it is prepared; how many above it are is looked up after it (5.4)
 abbrev pub whole_left : ℕ
 whole_left = chain_left most + 2
 

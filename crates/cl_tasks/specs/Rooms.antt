@@ -2,6 +2,7 @@
 use Rattle.std.specs.Prelude.{◌==◌, ◌+◌, ◌-◌, ℕ, if◌then◌else◌, List, [], ◌∷◌, length, Option, Some, None}
 use Rattle.cl_model.specs.Works.{Ask}
 use Rattle.cl_hierarchy.specs.Imposed.{Listed}
+use Rattle.cl_hierarchy.specs.Lineages.{Lined, rows_in}
 use Rattle.cl_hierarchy.specs.Paths.{Pathed, frames_of, at_loader, at_name}
 use Rattle.cl_tasks.specs.Calls.{Calls, ask_of, away_calls, past_loads, reference_calls, while_loading}
 use Rattle.cl_tasks.specs.Measures.{Phase, Fresh, Looking, Reading, Homing, Defining, Initiating, left_at, named_left, reference_left, tracing_own_left, tracing_named_left, imposing_left, prepared_left, whole_left, chain_left, linking_left}
@@ -91,12 +92,12 @@ prepared_room = room_of prepared_left (past_loads 2 1 3)
 abbrev pub whole_room : Room
 whole_room = room_of whole_left (past_loads 2 1 2)
 
--- the classes of the lineage before a place are linked, and were all prepared before (5.4)
-abbrev pub asking_room : {A : Type 0} → Chain A → Room
-asking_room k = room_of (chain_left (behind k) + 2)
-    (past_loads 0 0 (chain_calls k.whole k.place + 2))
+-- and how many of the classes above are prepared (5.4)
+abbrev pub counted_room : Lined → Room
+counted_room whole = room_of (chain_left (length (rows_in whole)) + 1)
+    (past_loads 0 0 (chain_calls whole 0 + 1))
 
--- the same where that at the place is not, or is asked for its lineage otherwise (5.4)
+-- the classes of the lineage before a place are prepared (5.4)
 abbrev pub chain_room : {A : Type 0} → Chain A → Room
 chain_room k = room_of (chain_left (behind k) + 1)
     (past_loads 0 0 (chain_calls k.whole k.place + 1))

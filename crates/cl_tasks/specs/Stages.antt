@@ -231,9 +231,9 @@ linking_at c (links.LookingPrepared g) = settled_down c g.q g.request
     (waits.LookingPrepared g.class.value.class) (goal_facts g) prepared_left (past_loads 2 1 4)
 linking_at c (links.TracingWhole g) = settled_down c g.q g.request
     (waits.Tracing g.class.value.class) (goal_facts g) whole_left (past_loads 2 1 3)
-linking_at c (links.Asking k) = settled_down c k.goal.q k.goal.request
-    (waits.LookingPrepared (class_in k.whole k.place)) (chain_facts k) (chain_left (behind k) + 1)
-    (past_loads 0 0 (chain_calls k.whole k.place + 2))
+linking_at c (links.Counting g l) = settled_down c g.q g.request (waits.CountingPrepared l)
+    (goal_facts g ++ HasLineage l ∷ []) (chain_left (length (rows_in l)) + 1)
+    (past_loads 0 0 (chain_calls l 0 + 2))
 linking_at c (links.Tracing k) = settled_down c k.goal.q k.goal.request
     (waits.Tracing (class_in k.whole k.place)) (chain_facts k) (chain_left (behind k))
     (past_loads 0 0 (chain_calls k.whole k.place + 1))
@@ -382,7 +382,7 @@ IsAtPlace k e = AreLinked k.goal.request k.whole k.place e.origin
 abbrev pub IsLinking : {A : Type 0} → Configured → Link A → Type 0
 IsLinking c (links.LookingPrepared g) = IsGoal c g
 IsLinking c (links.TracingWhole g) = IsGoal c g
-IsLinking c (links.Asking k) = IsChain c k
+IsLinking c (links.Counting g l) = IsGoal c g × IsOf c g.class.value.class l
 IsLinking c (links.Tracing k) = IsChain c k
 IsLinking c (links.Imposing k e i) = IsChain c k × IsAtPlace k e.value × (i < length e.value.needs)
 IsLinking c (links.Marking k e) = IsChain c k × IsAtPlace k e.value

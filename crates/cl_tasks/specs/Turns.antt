@@ -1,5 +1,5 @@
 -- What a task asks, and what it may be told (JVMS SE 8, 5.3 to 5.4.3).
-use Rattle.std.specs.Prelude.{◌≡◌, ◌≢◌, ◌⊎◌, ℕ, suc, true, List, [], ◌∷◌, Option, Some, None, slice_get, option_map}
+use Rattle.std.specs.Prelude.{◌≡◌, ◌≢◌, ◌≤◌, ◌⊎◌, ℕ, suc, length, true, List, [], ◌∷◌, Option, Some, None, slice_get, option_map}
 use Rattle.cl_model.specs.declared.class.Class.{Class}
 use Rattle.cl_model.specs.declared.request.Request.{Request}
 use Rattle.cl_model.specs.declared.request.Request.TheVariants as requests
@@ -17,7 +17,7 @@ use Rattle.cl_hierarchy.specs.Imposed.{Listed, equal_need}
 use Rattle.cl_hierarchy.specs.Lineages.{Lined}
 use Rattle.cl_findings.specs.Findings.{IsSettledFor, loader_of, name_of}
 use Rattle.cl_tasks.specs.Tasks.{Tasked, Stands}
-use Rattle.cl_tasks.specs.Waits.{Waits, Beginning, Looking, Reading, Defining, Initiating, Tracing, LookingReference, Settling, Imposing, LookingPrepared, Marking, Ended}
+use Rattle.cl_tasks.specs.Waits.{Waits, Beginning, Looking, Reading, Defining, Initiating, Tracing, LookingReference, Settling, Imposing, LookingPrepared, CountingPrepared, Marking, Ended}
 use Rattle.cl_tasks.specs.declared.turn.Reply.{Reply}
 use Rattle.cl_tasks.specs.declared.turn.Reply.TheVariants as reply
 use Rattle.cl_tasks.specs.declared.turn.Turn.{Turn}
@@ -57,6 +57,7 @@ IsReplyTo config (LookingReference c i) (reply.LookedReference (Some s)) = (s.va
 IsReplyTo config (Settling r) (reply.Settled s) = IsSettledFor r s.value
 IsReplyTo config (Imposing e k) reply.Imposed = Unit {0}
 IsReplyTo config (LookingPrepared c) (reply.LookedPrepared b) = Unit {0}
+IsReplyTo config (CountingPrepared l) (reply.CountedPrepared n) = n ≤ length l.above
 IsReplyTo config (Marking e) reply.Marked = Unit {0}
 IsReplyTo config waits (reply.Refused n) = need_at waits ≡ Some (need_of n)
 IsReplyTo config waits reply.Memory = waits ≢ Ended
@@ -79,6 +80,7 @@ call_of (turn.LookReference c i) = LookingReference c i
 call_of (turn.Settle f) = Settling f.request
 call_of (turn.Impose e k) = Imposing e.value k
 call_of (turn.LookPrepared c) = LookingPrepared c
+call_of (turn.CountPrepared l) = CountingPrepared l
 call_of (turn.Mark e) = Marking e.value
 call_of (turn.Post f) = Ended
 

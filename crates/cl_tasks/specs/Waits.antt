@@ -5,10 +5,11 @@ use Rattle.cl_model.specs.declared.request.Request.{Request}
 use Rattle.cl_delegation.specs.Searches.{Located}
 use Rattle.cl_hierarchy.specs.Drafts.{Drafted}
 use Rattle.cl_hierarchy.specs.Imposed.{Listed}
+use Rattle.cl_hierarchy.specs.Lineages.{Lined}
 
 -- the call that was asked for last, with what it is about: nothing yet; a look, a read, a record of a class or of the loader that was asked, a lineage, a look
--- at a reference, that it be settled for a request, the equality at a place of a list, a look whether a class is prepared, and that it be;
--- or the answer was posted (5.3 to 5.4.3)
+-- at a reference, that it be settled for a request, the equality at a place of a list, a look whether a class is prepared, how many of those above one are,
+-- and that one be; or the answer was posted (5.3 to 5.4.3)
 pub data Waits : Type 0 where
   Beginning : Waits
   Looking : (loader : ℕ) → (name : List ℕ) → Waits
@@ -20,5 +21,6 @@ pub data Waits : Type 0 where
   Settling : (request : Request) → Waits
   Imposing : (equalities : Listed) → (k : ℕ) → Waits
   LookingPrepared : (class : Class) → Waits
+  CountingPrepared : (lineage : Lined) → Waits
   Marking : (equalities : Listed) → Waits
   Ended : Waits

@@ -11,12 +11,12 @@ ghost use Rattle.cl_tasks.specs.Stages.{linking_at, loading_at, next_loader, res
 ghost use Rattle.cl_tasks.specs.Turns.{Expects, IsReplyTo, equality_at};
 ghost use Rattle.cl_tasks.specs.Waits as waits;
 
-use crate::link::class_at;
+use crate::link::{class_at, count_above};
 use crate::stage::{Link, Load, Resolution, Stage};
 use crate::turn::Reply;
 use cl_config::Config;
 use cl_delegation::{Home, Search};
-use cl_hierarchy::{Draft, Equalities};
+use cl_hierarchy::{Draft, Equalities, Lineage};
 use cl_model::{Class, Equality, LoaderId, Need, Request, Settled, Told};
 use cl_names::Name;
 use std::sync::Arc;
@@ -191,6 +191,18 @@ fn is_to_look_prepared<T: Told>(reply: &Reply<T>) -> bool
     }
 }
 
+/// Whether it is one to the question how many of the classes above that of a lineage are prepared.
+fn is_to_count_prepared<T: Told>(lineage: &Lineage<T>, reply: &Reply<T>) -> bool
+    ensures { (c : Configured)
+        → Decides result (IsReplyTo c (waits.CountingPrepared lineage.now) reply.now) }
+{
+    match reply {
+        Reply::CountedPrepared(count) => *count <= count_above(lineage),
+        Reply::Memory => true,
+        _ => false,
+    }
+}
+
 /// Whether it is one to the preparation of a class.
 fn is_to_mark<T: Told>(list: &Equalities<T>, reply: &Reply<T>) -> bool
     ensures { (c : Configured) → Decides result (IsReplyTo c (waits.Marking list.now) reply.now) }
@@ -254,7 +266,7 @@ fn link_expects<T: Told>(config: &Config, link: &Link<T>, reply: &Reply<T>) -> b
     match link {
         Link::LookingPrepared(_) => is_to_look_prepared(reply),
         Link::TracingWhole(goal) => is_to_trace(config, goal.class.class(), reply),
-        Link::Asking(_) => is_to_look_prepared(reply),
+        Link::Counting(_, whole) => is_to_count_prepared(whole, reply),
         Link::Tracing(chain) => is_to_trace(config, class_at(&chain.whole, chain.place), reply),
         Link::Imposing(_, list, place) => is_to_impose(list, *place, reply),
         Link::Marking(_, list) => is_to_mark(list, reply),

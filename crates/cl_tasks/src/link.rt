@@ -1,5 +1,6 @@
 //! A request to link a class that is recorded: each class of its lineage in order, its loading constraints one by one, and
-//! then that it is prepared; those that are prepared already, as many as stand first, are passed (JVMS SE 8, 5.4, 5.4.2).
+//! then that it is prepared; those that are prepared already, as many as stand first, are passed by one look (JVMS SE 8,
+//! 5.4, 5.4.2).
 
 ghost use Rattle.std.specs.Prelude.{◌≡◌, ◌≤◌, Some, IfOk, length, take, true};
 ghost use Rattle.cl_hierarchy.specs.Imposed.{IsListed, OfPreparation, needs_of};
@@ -9,8 +10,8 @@ ghost use Rattle.cl_model.specs.declared.answer.Answer.TheVariants as answers;
 ghost use Rattle.cl_model.specs.declared.verdict.Verdict.TheVariants as verdicts;
 ghost use Rattle.cl_tasks.specs.Deriving.{IsPast};
 ghost use Rattle.cl_tasks.specs.Follows.{EndsAsRefused, Posts};
-ghost use Rattle.cl_tasks.specs.Linking.{AskedTold, ChainTold, DoneTold, LineageTold, ListTold, MarkedTold, PreparedTold, RefusedTold, WholeTold};
-ghost use Rattle.cl_tasks.specs.Rooms.{asking_room, chain_room, last_room, linking_room, listed_room, marked_room, prepared_room, whole_room};
+ghost use Rattle.cl_tasks.specs.Linking.{ChainTold, CountedTold, DoneTold, LineageTold, ListTold, MarkedTold, PreparedTold, RefusedTold, WholeTold};
+ghost use Rattle.cl_tasks.specs.Rooms.{chain_room, counted_room, last_room, linking_room, listed_room, marked_room, prepared_room, whole_room};
 ghost use Rattle.cl_tasks.specs.Stages.{IsAtPlace, IsChain, IsGoal, class_in};
 ghost use Rattle.cl_tasks.specs.Steps.{IsPlain, LeadsBy, memory_ends};
 ghost use Rattle.cl_tasks.specs.Turns.{PostsOr, equality_at, IsOf};
@@ -76,9 +77,8 @@ pub(crate) fn give_up<T: Told>(chain: Chain<T>) -> Next<T>
     out_of_memory(goal.q, goal.request)
 }
 
-/// The lineage of the class that is linked came: whether its first class is prepared comes next.
+/// The lineage of the class that is linked came: how many of the classes above are prepared comes next.
 pub(crate) fn take_whole<T: Told>(
-    alloc: Global,
     config: &Arc<Config>,
     goal: Goal<T>,
     whole: Lineage<T>,
@@ -91,21 +91,19 @@ pub(crate) fn take_whole<T: Told>(
     ensures past { IsPast result.stage }
 {
     // brings that a `usize` counts them, and what the lineage keeps
-    let _ = count_rows(&whole);
+    let _ = count_above(&whole);
     let _ = whole.class();
-    ask(
-        alloc,
-        config,
-        Chain {
-            goal,
-            whole,
-            place: 0,
+    match whole.try_clone() {
+        Err(_) => out_of_memory(goal.q, goal.request),
+        Ok(same) => Next {
+            stage: Stage::Link(Link::Counting(goal, whole)),
+            turn: Turn::CountPrepared(same),
         },
-    )
+    }
 }
 
 /// How many classes stand above the class of a lineage.
-fn count_rows<T: Told>(whole: &Lineage<T>) -> usize
+pub(crate) fn count_above<T: Told>(whole: &Lineage<T>) -> usize
     ensures { result ≡ length whole.now.above }
 {
     whole.above().len()
@@ -121,71 +119,29 @@ pub(crate) fn class_at<T: Told>(whole: &Lineage<T>, place: usize) -> &Class
     }
 }
 
-/// Asks whether the class at the place of a chain is prepared; of the last, the request's own, it was asked at first.
-fn ask<T: Told>(alloc: Global, config: &Arc<Config>, chain: Chain<T>) -> Next<T>
-    requires chain { IsChain config.now.value chain }
-    ensures leads { LeadsBy T.told config.now.value chain.goal.q chain.goal.request
-        (asking_room chain) (ChainTold chain) result }
-    ensures plain { IsPlain result.turn }
-    ensures past { IsPast result.stage }
-{
-    if chain.place >= count_rows(&chain.whole) {
-        return trace(alloc, config, chain);
-    }
-    let Ok(class) = class_at(&chain.whole, chain.place).try_clone(alloc) else {
-        return give_up(chain);
-    };
-    Next {
-        stage: Stage::Link(Link::Asking(chain)),
-        turn: Turn::LookPrepared(class),
-    }
-}
-
-/// Whether the class at the place of a chain is prepared was looked up.
-pub(crate) fn take_asked<T: Told>(
+/// So many of the classes above the request's are prepared: the next one is to be.
+pub(crate) fn take_counted<T: Told>(
     alloc: Global,
     config: &Arc<Config>,
-    chain: Chain<T>,
-    prepared: bool,
+    goal: Goal<T>,
+    whole: Lineage<T>,
+    count: usize,
 ) -> Next<T>
-    requires chain { IsChain config.now.value chain }
-    ensures leads { LeadsBy T.told config.now.value chain.goal.q chain.goal.request
-        (chain_room chain) (AskedTold chain prepared) result }
+    requires goal { IsGoal config.now.value goal }
+    requires whole { IsOf config.now.value goal.class.value.class whole }
+    requires within { count ≤ length whole.above }
+    ensures leads { LeadsBy T.told config.now.value goal.q goal.request (counted_room whole)
+        (CountedTold goal whole count) result }
     ensures plain { IsPlain result.turn }
     ensures past { IsPast result.stage }
 {
-    if !prepared {
-        return trace(alloc, config, chain);
-    }
-    pass(alloc, config, chain)
-}
-
-/// The class at the place of a chain is prepared, and was so before: whether the next one is comes next, or the request's
-/// class was the last.
-fn pass<T: Told>(alloc: Global, config: &Arc<Config>, chain: Chain<T>) -> Next<T>
-    requires chain { IsChain config.now.value chain }
-    ensures leads { LeadsBy T.told config.now.value chain.goal.q chain.goal.request
-        (chain_room chain) (MarkedTold chain) result }
-    ensures plain { IsPlain result.turn }
-    ensures past { IsPast result.stage }
-{
-    // brings what the lineage keeps
-    let _ = chain.whole.class();
-    let Chain {
-        goal,
-        whole,
-        place: at,
-    } = chain;
-    if at >= count_rows(&whole) {
-        return post_linked(alloc, config, goal);
-    }
-    ask(
+    trace(
         alloc,
         config,
         Chain {
             goal,
             whole,
-            place: at + 1,
+            place: count,
         },
     )
 }
@@ -199,7 +155,7 @@ fn trace<T: Told>(alloc: Global, config: &Arc<Config>, chain: Chain<T>) -> Next<
     ensures plain { IsPlain result.turn }
     ensures past { IsPast result.stage }
 {
-    if chain.place >= count_rows(&chain.whole) {
+    if chain.place >= count_above(&chain.whole) {
         return match chain.whole.try_clone() {
             Err(_) => give_up(chain),
             Ok(whole) => take_traced(alloc, config, chain, &whole),
@@ -340,7 +296,7 @@ pub(crate) fn take_marked<T: Told>(alloc: Global, config: &Arc<Config>, chain: C
     ensures past { IsPast result.stage }
 {
     let Chain { goal, whole, place } = chain;
-    if place >= count_rows(&whole) {
+    if place >= count_above(&whole) {
         return post_linked(alloc, config, goal);
     }
     trace(

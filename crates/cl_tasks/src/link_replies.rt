@@ -3,17 +3,17 @@
 ghost use Rattle.std.specs.Prelude.{◌<◌, length};
 ghost use Rattle.cl_tasks.specs.Stages.{IsAtPlace, IsChain, IsGoal, linking_at};
 ghost use Rattle.cl_tasks.specs.Steps.{Steps};
-ghost use Rattle.cl_tasks.specs.Turns.{Expects};
+ghost use Rattle.cl_tasks.specs.Turns.{Expects, IsOf};
 
 use crate::leads::out_of_memory;
 use crate::link::{
-    count_needs, give_up, impose, refuse_link, take_asked, take_marked, take_prepared, take_traced,
+    count_needs, give_up, impose, refuse_link, take_counted, take_marked, take_prepared, take_traced,
     take_whole,
 };
 use crate::stage::{Chain, Goal, Link, Next};
 use crate::turn::Reply;
 use cl_config::Config;
-use cl_hierarchy::Equalities;
+use cl_hierarchy::{Equalities, Lineage};
 use cl_model::Told;
 use std::alloc::Global;
 use std::sync::Arc;
@@ -48,7 +48,7 @@ pub(crate) fn after_whole_lineage<T: Told>(
     ensures { Steps T.told (linking_at config.now.value (Link.TracingWhole goal)) reply result }
 {
     match reply {
-        Reply::Lineage(whole) => take_whole(alloc, config, goal, whole),
+        Reply::Lineage(whole) => take_whole(config, goal, whole),
         Reply::Memory => out_of_memory(goal.q, goal.request),
         _ => unreachable!(),
     }
@@ -74,20 +74,22 @@ pub(crate) fn after_lineage<T: Told>(
     }
 }
 
-/// Whether the class at the place of a chain is prepared was looked up.
-pub(crate) fn after_place_look<T: Told>(
+/// How many of the classes above the request's are prepared was asked.
+pub(crate) fn after_prepared_count<T: Told>(
     alloc: Global,
     config: &Arc<Config>,
-    chain: Chain<T>,
+    goal: Goal<T>,
+    whole: Lineage<T>,
     reply: Reply<T>,
 ) -> Next<T>
-    requires chain { IsChain config.now.value chain }
-    requires expects { Expects (linking_at config.now.value (Link.Asking chain)) reply }
-    ensures { Steps T.told (linking_at config.now.value (Link.Asking chain)) reply result }
+    requires goal { IsGoal config.now.value goal }
+    requires whole { IsOf config.now.value goal.class.value.class whole }
+    requires expects { Expects (linking_at config.now.value (Link.Counting goal whole)) reply }
+    ensures { Steps T.told (linking_at config.now.value (Link.Counting goal whole)) reply result }
 {
     match reply {
-        Reply::LookedPrepared(prepared) => take_asked(alloc, config, chain, prepared),
-        Reply::Memory => give_up(chain),
+        Reply::CountedPrepared(count) => take_counted(alloc, config, goal, whole, count),
+        Reply::Memory => out_of_memory(goal.q, goal.request),
         _ => unreachable!(),
     }
 }

@@ -98,8 +98,8 @@ pub struct Chain<T: Told> {
 pub enum Link<T: Told> {
     LookingPrepared(Goal<T>),
     TracingWhole(Goal<T>),
-    /// Whether the class at the place is prepared is asked; no class of the lineage was found not to be yet.
-    Asking(Chain<T>),
+    /// How many of the classes above are prepared, from the first on, is asked.
+    Counting(Goal<T>, Lineage<T>),
     Tracing(Chain<T>),
     /// The equality at this place is being imposed.
     Imposing(Chain<T>, Arc<Equalities<T>>, usize),

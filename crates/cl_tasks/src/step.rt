@@ -7,7 +7,7 @@ ghost use Rattle.cl_tasks.specs.Steps.{Steps};
 ghost use Rattle.cl_tasks.specs.Turns.{Expects};
 
 use crate::link_replies::{
-    after_impose as after_link_impose, after_lineage, after_mark, after_place_look,
+    after_impose as after_link_impose, after_lineage, after_mark, after_prepared_count,
     after_prepared_look, after_whole_lineage,
 };
 use crate::load_replies::{
@@ -68,7 +68,7 @@ fn number_of_link<T: Told>(link: &Link<T>) -> u32
     match link {
         Link::LookingPrepared(goal) => goal.q,
         Link::TracingWhole(goal) => goal.q,
-        Link::Asking(chain) => chain.goal.q,
+        Link::Counting(goal, _) => goal.q,
         Link::Tracing(chain) => chain.goal.q,
         Link::Imposing(chain, _, _) => chain.goal.q,
         Link::Marking(chain, _) => chain.goal.q,
@@ -132,7 +132,7 @@ pub(crate) fn step_of_link<T: Told>(
     match link {
         Link::LookingPrepared(goal) => after_prepared_look(alloc, config, goal, reply),
         Link::TracingWhole(goal) => after_whole_lineage(alloc, config, goal, reply),
-        Link::Asking(chain) => after_place_look(alloc, config, chain, reply),
+        Link::Counting(goal, whole) => after_prepared_count(alloc, config, goal, whole, reply),
         Link::Tracing(chain) => after_lineage(alloc, config, chain, reply),
         Link::Imposing(chain, list, place) => {
             after_link_impose(alloc, config, chain, list, place, reply)

@@ -20,6 +20,7 @@ pub enum Reply<T: Told> {
     Settled(Arc<Settled>),
     Imposed,
     LookedPrepared(bool),
+    CountedPrepared(usize),
     Marked,
     /// What was to stand would have violated a loading constraint (JVMS SE 8, 5.3.4).
     Refused(Need),
@@ -49,6 +50,8 @@ pub enum Turn<T: Told> {
     Impose(Arc<Equalities<T>>, usize),
     /// To look whether a class is prepared (JVMS SE 8, 5.4.2).
     LookPrepared(Class),
+    /// To count how many classes above another are prepared, from the first on (JVMS SE 8, 5.4.2).
+    CountPrepared(Lineage<T>),
     /// To mark the class prepared whose preparation asked for a list (JVMS SE 8, 5.4.2).
     Mark(Arc<Equalities<T>>),
     /// To post the answer. It is the last.

@@ -9,10 +9,10 @@ use Rattle.cl_tasks.proofs.Lead.{leads_by}
 use Rattle.cl_tasks.proofs.LinkLeads.{last_told, marked_told, next_turns, one_call, one_turn, post_calls, stay}
 use Rattle.cl_tasks.proofs.link.take_marked.Goals as goal
 
-pub returns-then-place-count_rows-clause-leads : goal.returns-then-place-count_rows-clause-leads
-returns-then-place-count_rows-clause-leads g c =
+pub returns-then-place-count_above-clause-leads : goal.returns-then-place-count_above-clause-leads
+returns-then-place-count_above-clause-leads g c =
     let k = c.args.chain in
-    let le = rw c.count_rows.ensures at c.if-place-count_rows.true in
+    let le = rw c.count_above.ensures at c.if-place-count_above.true in
     leads_by (marked_room k) (MarkedTold k) c.post_linked.ensures.leads (one_turn (chain_left (behind k - 1)) 0)
     (post_calls g.T.Told.told c.args.config.now.value (MarkedTold k) k.goal.request 0 0 0 (chain_calls k.whole (k.place + 1) + 1) (one_call (chain_calls k.whole (k.place + 1))))
     (λ x h. last_told c.args.config.now.value x k c.requires.chain le h)

@@ -12,11 +12,13 @@ after_whole_lineage-requires g c = record { goal = rw c.in-TracingWhole.is at c.
 pub returns-in-TracingWhole : goal.returns-in-TracingWhole
 returns-in-TracingWhole g c = rw c.in-TracingWhole.is c.after_whole_lineage.ensures
 
-pub after_place_look-requires : goal.after_place_look-requires
-after_place_look-requires g c = record { chain = rw c.in-Asking.is at c.requires.kept; expects = rw c.in-Asking.is at c.requires.expects }
+pub after_prepared_count-requires : goal.after_prepared_count-requires
+after_prepared_count-requires g c =
+    let kept = rw c.in-Counting.is at c.requires.kept in
+    record { goal = kept.0; whole = kept.1; expects = rw c.in-Counting.is at c.requires.expects }
 
-pub returns-in-Asking : goal.returns-in-Asking
-returns-in-Asking g c = rw c.in-Asking.is c.after_place_look.ensures
+pub returns-in-Counting : goal.returns-in-Counting
+returns-in-Counting g c = rw c.in-Counting.is c.after_prepared_count.ensures
 
 pub after_lineage-requires : goal.after_lineage-requires
 after_lineage-requires g c = record { chain = rw c.in-Tracing.is at c.requires.kept; expects = rw c.in-Tracing.is at c.requires.expects }

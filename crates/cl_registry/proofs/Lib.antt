@@ -22,6 +22,7 @@ pub mod Named
 pub mod Placed
 pub mod Posted
 pub mod Posts
+pub mod Preparing
 pub mod Referenced
 pub mod Running
 pub mod Schedules

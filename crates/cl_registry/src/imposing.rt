@@ -175,6 +175,8 @@ impl<T: Told> Registry<T> {
         ensures counted { ArePreparedUpTo self.now lineage.now result }
         ensures kept { IsKept T.told self.now }
     {
+        // brings what the registry keeps
+        let _ = &self.config;
         let rows = lineage.above();
         for at in 0..rows.len() {
             if !self.look_prepared(rows[at].class()) {

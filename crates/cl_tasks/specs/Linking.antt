@@ -32,10 +32,10 @@ pub record WholeTold {A : Type 0} (g : Goal A) (whole : Lined) (x : Shown) : Typ
 
 -- and the first so many of the classes above are prepared (5.4.2)
 pub record CountedTold {A : Type 0} (g : Goal A) (whole : Lined) (count : ℕ) (x : Shown) : Type 0
-    where
-  pub before : GoalTold g x
-  pub whole_is : IsTraced x whole.own.class whole
-  pub now : AreFirstPrepared x whole count
+  where
+    pub before : GoalTold g x
+    pub whole_is : IsTraced x whole.own.class whole
+    pub now : AreFirstPrepared x whole count
 
 -- the classes of the lineage before the place are prepared (5.4)
 abbrev pub ChainTold : {A : Type 0} → Chain A → Shown → Type 0

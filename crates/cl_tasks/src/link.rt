@@ -78,11 +78,7 @@ pub(crate) fn give_up<T: Told>(chain: Chain<T>) -> Next<T>
 }
 
 /// The lineage of the class that is linked came: how many of the classes above are prepared comes next.
-pub(crate) fn take_whole<T: Told>(
-    config: &Arc<Config>,
-    goal: Goal<T>,
-    whole: Lineage<T>,
-) -> Next<T>
+pub(crate) fn take_whole<T: Told>(config: &Arc<Config>, goal: Goal<T>, whole: Lineage<T>) -> Next<T>
     requires goal { IsGoal config.now.value goal }
     requires whole { IsOf config.now.value goal.class.value.class whole }
     ensures leads { LeadsBy T.told config.now.value goal.q goal.request whole_room

@@ -7,8 +7,8 @@ ghost use Rattle.cl_tasks.specs.Turns.{Expects, IsOf};
 
 use crate::leads::out_of_memory;
 use crate::link::{
-    count_needs, give_up, impose, refuse_link, take_counted, take_marked, take_prepared, take_traced,
-    take_whole,
+    count_needs, give_up, impose, refuse_link, take_counted, take_marked, take_prepared,
+    take_traced, take_whole,
 };
 use crate::stage::{Chain, Goal, Link, Next};
 use crate::turn::Reply;

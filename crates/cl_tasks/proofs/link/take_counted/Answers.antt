@@ -7,7 +7,7 @@ use Rattle.cl_tasks.proofs.LinkLeads.{counted_calls, counted_chain, counted_told
 use Rattle.cl_tasks.proofs.link.take_counted.Goals as goal
 
 pub trace-requires : goal.trace-requires
-trace-requires g c = counted_chain c.args.config.now.value c.args.goal c.args.whole c.args.count c.requires.goal c.requires.whole c.requires.within
+trace-requires g c = record { chain = counted_chain c.args.config.now.value c.args.goal c.args.whole c.args.count c.requires.goal c.requires.whole c.requires.within }
 
 pub returns-clause-leads : goal.returns-clause-leads
 returns-clause-leads g c =

@@ -32,19 +32,19 @@ use Rattle.cl_model.proofs.Closed.{all_left}
 use Rattle.cl_config.specs.Views.{Configured, Scripted}
 use Rattle.cl_delegation.specs.Worlds.{setting_of, world_of}
 use Rattle.cl_findings.specs.Findings.{Answered, AnswerRests, Based, BasisStands, Concludes, HasImposed, IsLink, IsLookedUp, IsRefusal, SaidRests, VerdictRests}
-use Rattle.cl_findings.specs.Laws.{VerdictStands}
+use Rattle.cl_findings.specs.Laws.{ArePreparedBefore, VerdictStands}
 
 -- ---- what a verdict that stands concludes
 
 -- what is known of a verdict that stands: it is none that is looked up, and its basis concludes it
-record Concluded (g : Setting) (s : State) (r : request.Request) (v : verdict.Verdict) (b : Based) : Type 0 where
+record Concluded (g : Setting) (s : State) (r : request.Request) (v : verdict.Verdict) (o : Option Based) (b : Based) : Type 0 where
   pub apart : IsLookedUp r v → ⊥
-  pub concludes : Concludes g.world s (request_of r) b.refused b.prepared (verdict_of v)
-  pub prepared : AllByRecursion (Contains s.prepared) b.prepared
+  pub concludes : Concludes g.world s (request_of r) b.refused b.before (verdict_of v)
+  pub before : ArePreparedBefore s o → AllByRecursion (Contains s.prepared) b.before
   pub refused : IfSome b.refused (Refused s)
 
 concluded : (content : Content) (c : Configured) (script : Scripted) (s : State) (r : request.Request) (v : verdict.Verdict) (o : Option Based) → SaidRests content r v o → IsSound (setting_of c script content) s → BasisStands c s o
-    → (b : Based) × Concluded (setting_of c script content) s r v b
+    → (b : Based) × Concluded (setting_of c script content) s r v o b
 concluded content c script s r v None rests sound stands = absurd stands
 concluded content c script s r v (Some b) rests sound borne =
     let w = world_of c content in
@@ -54,14 +54,14 @@ concluded content c script s r v (Some b) rests sound borne =
       record {
         apart = here.apart;
         concludes = here.concludes s sound.closed (record { needs = borne.carried.0; prepared = imposed });
-        prepared = borne.carried.1;
+        before = λ h. h;
         refused = borne.carried.2;
       },
     )
 
 -- of a finding
 found : (content : Content) (c : Configured) (script : Scripted) (s : State) (f : Answered) (v : verdict.Verdict) → VerdictStands content c script s f v
-    → (b : Based) × Concluded (setting_of c script content) s f.request v b
+    → (b : Based) × Concluded (setting_of c script content) s f.request v f.basis b
 found content c script s f v h =
     concluded content c script s f.request v f.basis (subst (λ (a : answer.Answer). AnswerRests content f.request a f.basis) h.said h.rests) h.sound h.stands.basis
 
@@ -73,7 +73,7 @@ pub standing_answers : (content : Content) (c : Configured) (script : Scripted) 
     → AnswersPlan (setting_of c script content) s (request_of f.request) (verdict_of v)
 standing_answers content c script s f v h =
     let b = found content c script s f v h in
-    answered_by (setting_of c script content) s (request_of f.request) b.0.refused b.0.prepared (verdict_of v) b.1.concludes b.1.refused
+    answered_by (setting_of c script content) s (request_of f.request) b.0.refused b.0.before (verdict_of v) b.1.concludes b.1.refused
 
 -- ---- references
 
@@ -130,14 +130,14 @@ comes_by : (g : Setting) (s : State) (loader : ℕ) (name : List ℕ) (o : Optio
 comes_by g s loader name None cs v sound unlinked h prepared refused = end_comes g s loader name v unlinked h
 comes_by g s loader name (Some n) cs v sound unlinked h prepared refused = subst (λ (u : Verdict). ComesTo g s (Link loader name) u) (sym h.linkage) (refusal_comes g s loader name n cs v sound h prepared refused)
 
-link_comes_by : (g : Setting) (s : State) (r : request.Request) (v : verdict.Verdict) (b : Based) → IsSound g s → IsLink r → Concluded g s r v b → ComesTo g s (request_of r) (verdict_of v)
-link_comes_by g s (requests.Load loader name) v b sound link h = absurd link
-link_comes_by g s (requests.Resolve loader name i) v b sound link h = absurd link
-link_comes_by g s (requests.Link loader name) v b sound link h =
-    comes_by g s loader name b.refused b.prepared (verdict_of v) sound (λ d e. h.apart (linked_is_looked_up loader name v d e)) h.concludes h.prepared h.refused
+link_comes_by : (g : Setting) (s : State) (r : request.Request) (v : verdict.Verdict) (o : Option Based) (b : Based) → IsSound g s → IsLink r → Concluded g s r v o b → ArePreparedBefore s o → ComesTo g s (request_of r) (verdict_of v)
+link_comes_by g s (requests.Load loader name) v o b sound link h prepared = absurd link
+link_comes_by g s (requests.Resolve loader name i) v o b sound link h prepared = absurd link
+link_comes_by g s (requests.Link loader name) v o b sound link h prepared =
+    comes_by g s loader name b.refused b.before (verdict_of v) sound (λ d e. h.apart (linked_is_looked_up loader name v d e)) h.concludes (h.before prepared) h.refused
 
 pub standing_comes : (content : Content) (c : Configured) (script : Scripted) (s : State) (f : Answered) (v : verdict.Verdict) → VerdictStands content c script s f v
-    → IsLink f.request → ComesTo (setting_of c script content) s (request_of f.request) (verdict_of v)
-standing_comes content c script s f v h link =
+    → IsLink f.request → ArePreparedBefore s f.basis → ComesTo (setting_of c script content) s (request_of f.request) (verdict_of v)
+standing_comes content c script s f v h link prepared =
     let b = found content c script s f v h in
-    link_comes_by (setting_of c script content) s f.request v b.0 h.sound link b.1
+    link_comes_by (setting_of c script content) s f.request v f.basis b.0 h.sound link b.1 prepared

@@ -1,4 +1,5 @@
 pub mod Answered
+pub mod Carried
 pub mod Files
 pub mod Links
 pub mod Loads

@@ -1,6 +1,6 @@
 -- The refusal of an equality of a preparation comes next in a link, where the content is told.
 use Rattle.std.proofs.Common.{◌≡◌, ◌∙◌, ℕ, zero, suc, List, [], ◌∷◌, ◌++◌, map, reverse, Option, Some, None, refl, sym, ap, subst, append_assoc}
-use Rattle.std.specs.Prelude.{flat_map, option_map, slice_get, take}
+use Rattle.std.specs.Prelude.{flat_map, length, option_map, slice_get, take}
 use Rattle.std.specs.List.{AllByRecursion}
 use Rattle.std.proofs.lemmas.Grind.{reverse_onto}
 use Rattle.std.proofs.lemmas.List.{map_push, take-map}
@@ -13,7 +13,7 @@ use Rattle.cl_model.specs.Content.{Content}
 use Rattle.cl_model.specs.Homes.{World}
 use Rattle.cl_model.specs.Lineages.{Kin, IsLineage, classes, lineage}
 use Rattle.cl_model.specs.Preparation.{constraints_of}
-use Rattle.cl_model.specs.States.{State, Need, Entry, Equal, IsLinked, recorded_definer, AllMet, IsNext, IsRecorded}
+use Rattle.cl_model.specs.States.{State, Need, Entry, Equal, IsLinked, Linkage, recorded_definer, AllMet, IsNext, IsRecorded, Met}
 use Rattle.cl_model.specs.Plans.{Link}
 use Rattle.cl_model.specs.Machine.{HasLineage, IsClosed}
 use Rattle.cl_model.specs.Service.{IsNextNeed}
@@ -21,19 +21,19 @@ use Rattle.cl_model.specs.Views.{need_of, request_of}
 use Rattle.cl_model.proofs.Bind.{some_same}
 use Rattle.cl_model.proofs.Gone.{gone_on_next, link_goes_on}
 use Rattle.cl_model.proofs.Planned.{one_lineage}
-use Rattle.cl_model.proofs.Progress.{IsKept, lineage_kept}
+use Rattle.cl_model.proofs.Progress.{IsKept, lineage_kept, met_split}
 use Rattle.cl_model.proofs.Trees.{lineage_is_derived}
 use Rattle.cl_model.proofs.Aims.{next_left, next_right}
 use Rattle.cl_model.proofs.Closed.{all_left, all_right}
 use Rattle.cl_config.specs.Views.{Configured}
 use Rattle.cl_delegation.specs.Worlds.{world_of}
-use Rattle.cl_hierarchy.specs.Imposed.{AreLineages, AreOf, Listed, OfPreparation, Sprung, needs_of}
+use Rattle.cl_hierarchy.specs.Imposed.{AreLineages, AreOf, IsListed, Listed, OfPreparation, Sprung, needs_of}
 use Rattle.cl_hierarchy.specs.Lineages.{IsInOrder, IsLined, IsLineageOf, Lined, kin_of, rows_in}
 use Rattle.cl_hierarchy.specs.Rows.{Rowed}
 use Rattle.cl_hierarchy.specs.Trees.{kin_under, kins, kins_after}
 use Rattle.cl_hierarchy.proofs.Tours.{classes_both}
-use Rattle.cl_findings.specs.Findings.{HasImposed, LinkIsPlaced, NeedIsPlaced, Rests, loader_of, grounded_answer}
-use Rattle.cl_findings.specs.References.{AreLinked, link_basis}
+use Rattle.cl_findings.specs.Findings.{HasImposed, IsRefusal, LinkIsPlaced, NeedIsPlaced, Rests, loader_of, grounded_answer}
+use Rattle.cl_findings.specs.References.{AreLinked, AreOfRows, IsOfRow, all_needs, class_need, classes_before, imposed_basis, link_basis}
 use Rattle.cl_findings.proofs.Plain.{linkage_apart}
 use Rattle.cl_findings.proofs.References.{next_at}
 
@@ -141,33 +141,78 @@ link_concludes content loader l at place k needs n s order lin other config ther
       }),
     )
 
-preparation_of : (from : Sprung) (at : Lined) (needs : List Need) → from ≡ OfPreparation at → AreOf from needs → needs ≡ constraints_of (kin_of at)
+pub preparation_of : (from : Sprung) (at : Lined) (needs : List Need) → from ≡ OfPreparation at → AreOf from needs → needs ≡ constraints_of (kin_of at)
 preparation_of from at needs e h = subst (λ (x : Sprung). AreOf x needs) e h
 
-lineage_at : (told : Option Content) (from : Sprung) (at : Lined) → from ≡ OfPreparation at → AreLineages told from → IsLineageOf told at
+pub lineage_at : (told : Option Content) (from : Sprung) (at : Lined) → from ≡ OfPreparation at → AreLineages told from → IsLineageOf told at
 lineage_at told from at e h = let lined : IsLined told at = subst (λ (x : Sprung). AreLineages told x) e h in lined.lineage
 
-pub link_rests : (told : Option Content) (r : request.Request) (l : Lined) (place : ℕ) (e : Listed) (k : ℕ) (need : rust.Need) → AreLinked r l place e.origin → IsInOrder l → IsLineageOf told l → AreLineages told e.origin
-    → AreOf e.origin (needs_of e.needs) → slice_get (needs_of e.needs) k ≡ Some (need_of need) → Rests told (grounded_answer r (verdicts.Linkage need) (link_basis r l place e k (Some (need_of need))))
-link_rests None r l place e k need linked order lin others of is = tt
-link_rests (Some content) r l place e k need linked order lin others of is = record {
+-- what the refusal of an equality in a link concludes, where the constraints of all classes before are imposed
+refusal_concludes : (content : Content) (r : request.Request) (l : Lined) (place : ℕ) (e : Listed) (k : ℕ) (n : Need) → AreLinked r l place e.origin → IsInOrder l → IsLineageOf (Some content) l → IsListed (Some content) e → slice_get (needs_of e.needs) k ≡ Some n
+    → (s : State) → IsClosed (world_of l.config content) s → Met s (class_need r l.own.class) → AllMet s (take k (needs_of e.needs)) → AllByRecursion (HasImposed (world_of l.config content) s) (classes_before l place)
+    → IsRefusal (world_of l.config content) s (request_of r) n (classes_before l place) (Linkage n)
+refusal_concludes content r l place e k n linked order lin listed is s closed recorded met imposed =
+    let w = world_of l.config content in
+    let cs = classes_before l place in
+    let h = link_concludes content (loader_of r) l linked.at place k (needs_of e.needs) n s order lin (lineage_at (Some content) e.origin linked.at linked.prepares listed.lineages) linked.config linked.there
+    (preparation_of e.origin linked.at (needs_of e.needs) linked.prepares listed.are) is closed recorded met imposed in
+    record {
+      linkage = refl;
+      next = subst (λ (q : request.Request). IsNextNeed w s (request_of q) n) (sym linked.of) h.0;
+      placed = subst (λ (q : request.Request). NeedIsPlaced w s (request_of q) n cs) (sym linked.of) h.1;
+    }
+
+link_rests : (told : Option Content) (r : request.Request) (l : Lined) (place : ℕ) (e : Listed) (k : ℕ) (need : rust.Need) → AreLinked r l place e.origin → IsInOrder l → IsLineageOf told l → IsListed told e
+    → slice_get (needs_of e.needs) k ≡ Some (need_of need) → Rests told (grounded_answer r (verdicts.Linkage need) (link_basis r l place e k (Some (need_of need))))
+link_rests None r l place e k need linked order lin listed is = tt
+link_rests (Some content) r l place e k need linked order lin listed is = record {
   apart = linkage_apart r need;
-  concludes = λ s closed grounds.
-      let w = world_of l.config content in
-      let n = need_of need in
-      let cs = row_classes (take place (rows_in l)) in
-      let h = link_concludes content (loader_of r) l linked.at place k (needs_of e.needs) n s order lin (lineage_at (Some content) e.origin linked.at linked.prepares others) linked.config linked.there
-      (preparation_of e.origin linked.at (needs_of e.needs) linked.prepares of) is closed grounds.needs.0 grounds.needs.1 grounds.prepared in
-      record {
-        linkage = refl;
-        next = subst (λ (q : request.Request). IsNextNeed w s (request_of q) n) (sym linked.of) h.0;
-        placed = subst (λ (q : request.Request). NeedIsPlaced w s (request_of q) n cs) (sym linked.of) h.1;
-      };
+  concludes = λ s closed grounds. refusal_concludes content r l place e k (need_of need) linked order lin listed is s closed grounds.needs.0 grounds.needs.1 grounds.prepared;
 }
 
 -- as it is kept
-pub link_rests_kept : (told : Option Content) (r : request.Request) (l : Lined) (place : ℕ) (e : Listed) (k : ℕ) (need : rust.Need) → AreLinked r l place e.origin → IsInOrder l → IsLineageOf told l → AreLineages told e.origin
-    → AreOf e.origin (needs_of e.needs) → slice_get (needs_of e.needs) k ≡ Some (need_of need) → Rests told (grounded_answer r (verdicts.Linkage need) (link_basis r l place e k (slice_get (needs_of e.needs) k)))
-link_rests_kept told r l place e k need linked order lin others of is =
-    subst (λ (o : Option Need). Rests told (grounded_answer r (verdicts.Linkage need) (link_basis r l place e k o))) (sym is)
-    (link_rests told r l place e k need linked order lin others of is)
+pub link_rests_kept : (told : Option Content) (r : request.Request) (l : Lined) (place : ℕ) (e : Listed) (k : ℕ) (need : rust.Need) → AreLinked r l place e.origin → IsInOrder l → IsLineageOf told l → IsListed told e
+    → slice_get (needs_of e.needs) k ≡ Some (need_of need) → Rests told (grounded_answer r (verdicts.Linkage need) (link_basis r l place e k (slice_get (needs_of e.needs) k)))
+link_rests_kept told r l place e k need linked order lin listed is =
+    subst (λ (o : Option Need). Rests told (grounded_answer r (verdicts.Linkage need) (link_basis r l place e k o))) (sym is) (link_rests told r l place e k need linked order lin listed is)
+
+-- ---- the same with the lists of the classes before
+
+-- the class of a row has the lineage that its list was made from
+pub row_lineage : (content : Content) (c : Configured) (r : Rowed) (e : Listed) → (is : IsOfRow c r e) → IsListed (Some content) e → HasLineage (world_of c content) r.class (kin_of is.at)
+row_lineage content c r e is listed =
+    let w = world_of c content in
+    let here : IsLineage w (kin_of is.at) = subst (λ (k : Configured). IsLineage (world_of k content) (kin_of is.at)) is.config (lineage_at (Some content) e.origin is.at is.prepares listed.lineages) in
+    subst (λ (d : Class). HasLineage w d (kin_of is.at)) is.same (lineage_is_derived w (kin_of is.at) here)
+
+-- the classes of lists that are all imposed have imposed their constraints
+lists_imposed : (content : Content) (c : Configured) (s : State) (rows : List Rowed) (es : List Listed) → AreOfRows c rows es → AllByRecursion (IsListed (Some content)) es → AllMet s (all_needs es)
+    → AllByRecursion (HasImposed (world_of c content) s) (row_classes (take (length es) rows))
+lists_imposed content c s [] [] are listed met = tt
+lists_imposed content c s (r ∷ rows) [] are listed met = tt
+lists_imposed content c s [] (e ∷ es) are listed met = absurd are
+lists_imposed content c s (r ∷ rows) (e ∷ es) are listed met =
+    let both = met_split s (needs_of e.needs) (all_needs es) met in (
+      record {
+        kin = kin_of are.0.at;
+        lineage = row_lineage content c r e are.0 listed.0;
+        imposed = subst (λ (ns : List Need). AllMet s ns) (preparation_of e.origin are.0.at (needs_of e.needs) are.0.prepares listed.0.are) both.0;
+      },
+      lists_imposed content c s rows es are.1 listed.1 both.1,
+    )
+
+imposed_rests : (told : Option Content) (r : request.Request) (l : Lined) (es : List Listed) (e : Listed) (k : ℕ) (need : rust.Need) → AreLinked r l (length es) e.origin → AreOfRows l.config (rows_in l) es → IsInOrder l → IsLineageOf told l
+    → AllByRecursion (IsListed told) es → IsListed told e → slice_get (needs_of e.needs) k ≡ Some (need_of need) → Rests told (grounded_answer r (verdicts.Linkage need) (imposed_basis r l es e k (Some (need_of need))))
+imposed_rests None r l es e k need linked are order lin all listed is = tt
+imposed_rests (Some content) r l es e k need linked are order lin all listed is = record {
+  apart = linkage_apart r need;
+  concludes = λ s closed grounds.
+      let both = met_split s (all_needs es) (take k (needs_of e.needs)) grounds.needs.1 in
+      refusal_concludes content r l (length es) e k (need_of need) linked order lin listed is s closed grounds.needs.0 both.1 (lists_imposed content l.config s (rows_in l) es are all both.0);
+}
+
+-- as it is kept
+pub imposed_rests_kept : (told : Option Content) (r : request.Request) (l : Lined) (es : List Listed) (e : Listed) (k : ℕ) (need : rust.Need) → AreLinked r l (length es) e.origin → AreOfRows l.config (rows_in l) es → IsInOrder l → IsLineageOf told l
+    → AllByRecursion (IsListed told) es → IsListed told e → slice_get (needs_of e.needs) k ≡ Some (need_of need) → Rests told (grounded_answer r (verdicts.Linkage need) (imposed_basis r l es e k (slice_get (needs_of e.needs) k)))
+imposed_rests_kept told r l es e k need linked are order lin all listed is =
+    subst (λ (o : Option Need). Rests told (grounded_answer r (verdicts.Linkage need) (imposed_basis r l es e k o))) (sym is) (imposed_rests told r l es e k need linked are order lin all listed is)

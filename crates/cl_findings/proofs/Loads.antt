@@ -240,15 +240,15 @@ error_rests : (w : World) (r : request.Request) (kind : ErrorKind) (c : Class) (
     → VerdictRests w r (verdicts.Error kind c) b
 error_rests w r kind c b none h = record {
   apart = error_apart r kind c;
-  concludes = λ s closed grounds. subst (λ (o : Option Need). Concludes w s (request_of r) o b.prepared (Wrong (error_of kind c))) (sym none) (h s closed grounds.needs);
+  concludes = λ s closed grounds. subst (λ (o : Option Need). Concludes w s (request_of r) o b.before (Wrong (error_of kind c))) (sym none) (h s closed grounds.needs);
 }
 
-refusal_rests : (w : World) (r : request.Request) (need : rust.Need) (to place : ℕ) (other : List ℕ) (b : Based) → b.refused ≡ Some (Entry to other place) → b.prepared ≡ [] → need_of need ≡ Entry to other place
+refusal_rests : (w : World) (r : request.Request) (need : rust.Need) (to place : ℕ) (other : List ℕ) (b : Based) → b.refused ≡ Some (Entry to other place) → b.before ≡ [] → need_of need ≡ Entry to other place
     → ((s : State) → IsClosed w s → AllMet s b.needs → IsNextNeed w s (request_of r) (Entry to other place)) → VerdictRests w r (verdicts.Linkage need) b
 refusal_rests w r need to place other b some bare is h = record {
   apart = linkage_apart r need;
   concludes = λ s closed grounds.
-      subst (λ (o : Option Need). Concludes w s (request_of r) o b.prepared (Linkage (need_of need))) (sym some)
+      subst (λ (o : Option Need). Concludes w s (request_of r) o b.before (Linkage (need_of need))) (sym some)
       (subst (λ (cs : List Class). IsRefusal w s (request_of r) (Entry to other place) cs (Linkage (need_of need))) (sym bare)
       (record { linkage = ap (λ (n : Need). Linkage n) is; next = h s closed grounds.needs; placed = placed_record w s (request_of r) to place other }));
 }

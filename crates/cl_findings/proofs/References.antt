@@ -215,7 +215,7 @@ placed_reference w s r d i n is = subst (λ (q : request.Request). NeedIsPlaced 
 
 asked_rests_at : (content : Content) (r : request.Request) (from : Sprung) (needs : List Need) (k : ℕ) (need : rust.Need) → AreAsked r from → AreLineages (Some content) from → AreOf from needs
     → slice_get needs k ≡ Some (need_of need)
-    → VerdictRests (world_of (origin_config from) content) r (verdicts.Linkage need) (record { config = origin_config from; needs = sprung_needs r from ++ take k needs; prepared = []; refused = Some (need_of need) })
+    → VerdictRests (world_of (origin_config from) content) r (verdicts.Linkage need) (record { config = origin_config from; needs = sprung_needs r from ++ take k needs; prepared = []; before = []; refused = Some (need_of need) })
 asked_rests_at content r (OfPreparation at) needs k need asked lin of is = absurd asked
 asked_rests_at content r (OfReference d c i) needs k need to lin of is = record {
   apart = linkage_apart r need;
@@ -235,7 +235,7 @@ asked_rests (Some content) r e k need asked lin of is = asked_rests_at content r
 
 -- what equalities of an entry rest on, so many of which are met
 abbrev pub asked_by : request.Request → Sprung → List Need → Option Need → Based
-asked_by r from met refused = record { config = origin_config from; needs = sprung_needs r from ++ met; prepared = []; refused = refused }
+asked_by r from met refused = record { config = origin_config from; needs = sprung_needs r from ++ met; prepared = []; before = []; refused = refused }
 
 pub whole_taken : (ns : List Need) (n : ℕ) → n ≡ length ns → take n ns ≡ ns
 whole_taken [] zero e = refl

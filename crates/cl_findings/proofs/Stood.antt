@@ -1,16 +1,19 @@
 -- What tables tell of lists of needs, place by place.
-use Rattle.std.proofs.Common.{◌≡◌, ◌∙◌, ◌<◌, ◌≤◌, ℕ, zero, suc, Bool, true, false, List, [], ◌∷◌, ◌++◌, length, map, Option, Some, None, sym, ap, subst, arith}
+use Rattle.std.proofs.Common.{◌≡◌, ◌∙◌, ◌<◌, ◌≤◌, ◌+◌, ℕ, zero, suc, Bool, true, false, List, [], ◌∷◌, ◌++◌, length, map, Option, Some, None, sym, ap, subst, arith}
 use Rattle.std.specs.Prelude.{slice_get, take, IfSome}
 use Rattle.std.specs.List.{AllByRecursion}
 use Rattle.cl_model.specs.declared.class.Class.{Class}
 use Rattle.cl_model.specs.Classes.{class, Above}
 use Rattle.cl_model.specs.States.{State, Need, AllMet}
 use Rattle.cl_model.specs.Frames.{Frame, KeepsAccepted, kept_of}
+use Rattle.cl_model.proofs.Bind.{some_same}
 use Rattle.cl_model.proofs.Closed.{met_both}
 use Rattle.cl_model.proofs.Progress.{met_split}
 use Rattle.cl_model.proofs.Stacks.{kept_is_met}
 use Rattle.cl_hierarchy.specs.Frames.{accepted_of}
+use Rattle.cl_hierarchy.specs.Imposed.{Listed, needs_of}
 use Rattle.cl_constraints.specs.Books.{TellsOf, Wherever}
+use Rattle.cl_findings.specs.References.{all_needs}
 
 -- ---- what a frame accepted at a place
 
@@ -65,6 +68,14 @@ one_of_first P (x ∷ xs) zero k lt h = absurd (omega arith)
 one_of_first P (x ∷ xs) (suc n) zero lt h = h.0
 one_of_first P (x ∷ xs) (suc n) (suc k) lt h = one_of_first P xs n k (omega arith) h.1
 
+-- one place more
+pub one_more_there : {A : Type 0} (P : A → Type 0) (xs : List A) (n : ℕ) (x : A) → slice_get xs n ≡ Some x → ((k : ℕ) → k < n → IfSome (slice_get xs k) P) → P x → (k : ℕ) → k < n + 1 → IfSome (slice_get xs k) P
+one_more_there P [] n x at before here k lt = tt
+one_more_there P (y ∷ ys) zero x at before here zero lt = subst P (sym (some_same y x at)) here
+one_more_there P (y ∷ ys) zero x at before here (suc k) lt = absurd (omega (arith, lt))
+one_more_there P (y ∷ ys) (suc n) x at before here zero lt = before 0 (omega arith)
+one_more_there P (y ∷ ys) (suc n) x at before here (suc k) lt = one_more_there P ys n x at (λ j l. before (suc j) (omega (arith, l))) here k (omega (arith, lt))
+
 pub mapped : {A B : Type 0} (P : B → Type 0) (f : A → B) (xs : List A) → AllByRecursion (λ x. P (f x)) xs → AllByRecursion P (map f xs)
 mapped P f [] h = tt
 mapped P f (x ∷ xs) h = (h.0, mapped P f xs h.1)
@@ -110,3 +121,13 @@ frame_to_met s x h = (kept_is_met s (x ∷ [])).1 (h, tt)
 
 pub met_to_frame : (s : State) (x : Frame) → AllMet s (kept_of (x ∷ [])) → KeepsAccepted s x
 met_to_frame s x h = ((kept_is_met s (x ∷ [])).0 h).0
+
+-- ---- lists of equalities
+
+pub lists_to_met : (s : State) (es : List Listed) → AllByRecursion (λ (e : Listed). AllMet s (needs_of e.needs)) es → AllMet s (all_needs es)
+lists_to_met s [] h = tt
+lists_to_met s (e ∷ es) h = met_both s (needs_of e.needs) (all_needs es) h.0 (lists_to_met s es h.1)
+
+pub met_to_lists : (s : State) (es : List Listed) → AllMet s (all_needs es) → AllByRecursion (λ (e : Listed). AllMet s (needs_of e.needs)) es
+met_to_lists s [] h = tt
+met_to_lists s (e ∷ es) h = let both = met_split s (needs_of e.needs) (all_needs es) h in (both.0, met_to_lists s es both.1)

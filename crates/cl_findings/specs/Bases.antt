@@ -1,5 +1,5 @@
 -- What an answer rests on, as it is kept (JVMS SE 8, 5.3 to 5.4.3).
-use Rattle.std.specs.Prelude.{List, [], ◌∷◌, Option, Some, None, slice_get}
+use Rattle.std.specs.Prelude.{List, [], ◌∷◌, map, Option, Some, None, slice_get}
 use Rattle.cl_model.specs.declared.request.Request as request
 use Rattle.cl_model.specs.States.{Need, Entry}
 use Rattle.cl_model.specs.Content.{Content}
@@ -12,6 +12,7 @@ use Rattle.cl_findings.specs.References.{
   asked_basis,
   class_basis,
   entry_basis,
+  imposed_basis,
   link_basis,
 }
 use Rattle.cl_findings.specs.declared.basis.Basis.{Basis}
@@ -48,6 +49,9 @@ basis_of r (bases.Asked e met) =
     asked_basis r e.value met (slice_get (imposed.needs_of e.value.needs) met)
 basis_of r (bases.Linked l place e met) =
     link_basis r l place e.value met (slice_get (imposed.needs_of e.value.needs) met)
+basis_of r (bases.Imposed l earlier e met) =
+    imposed_basis r l (map (λ x. x.value) earlier.items) e.value met
+    (slice_get (imposed.needs_of e.value.needs) met)
 
 -- the file of the class that a target names is what that one's bytes spell (5.3.5)
 abbrev pub IsSpeltIn : {A : Type 0} → Option Content → Target A → Type 0

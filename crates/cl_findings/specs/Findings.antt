@@ -52,11 +52,12 @@ use Rattle.cl_delegation.specs.Worlds.{world_of}
 
 -- what an answer rests on: the configuration under which it was found, the needs that are met and
 -- the classes that are prepared where it is given, and the need that is refused there, if it is a
--- refusal (5.3 to 5.4.3)
+-- refusal; of a link's equality also the classes before its own in the lineage (5.3 to 5.4.3)
 pub record Based : Type 0 where
   pub config : Configured
   pub needs : List Need
   pub prepared : List Class
+  pub before : List Class
   pub refused : Option Need
 
 -- a request, its answer, and what that rests on, unless it is looked up (5.3 to 5.4.3)
@@ -118,7 +119,7 @@ pub record Grounds (w : World) (s : State) (b : Based) : Type 0 where
 -- the equality that comes next in a link stands among those of a class before which in the lineage
 -- these stand (5.4, 5.4.2)
 pub record LinkIsPlaced (w : World) (s : State) (loader : ℕ) (name : Name) (n : Need)
-    (prepared : List Class) : Type 0 where
+    (earlier : List Class) : Type 0 where
   pub place : ℕ
   pub kept : recorded_definer s.records loader name ≡ Some place
   pub kin : Kin
@@ -127,30 +128,30 @@ pub record LinkIsPlaced (w : World) (s : State) (loader : ℕ) (name : Name) (n 
   pub at : Kin
   pub behind : List Kin
   pub split : lineage kin ≡ before ++ at ∷ behind
-  pub are : classes before ≡ prepared
+  pub are : classes before ≡ earlier
   pub next : IsNext s (constraints_of at) n
 
 -- what is known of the place of a refused need in a request: of a link's equality, in which class's
 -- preparation it stands (5.4.2)
 abbrev pub NeedIsPlaced : World → State → Request → Need → List Class → Type 0
-NeedIsPlaced w s (Load loader name) n prepared = Unit {0}
-NeedIsPlaced w s (Resolve loader name i) n prepared = Unit {0}
-NeedIsPlaced w s (Link loader name) (Entry to other place) prepared = Unit {0}
-NeedIsPlaced w s (Link loader name) (Equal other a b) prepared =
-    LinkIsPlaced w s loader name (Equal other a b) prepared
+NeedIsPlaced w s (Load loader name) n earlier = Unit {0}
+NeedIsPlaced w s (Resolve loader name i) n earlier = Unit {0}
+NeedIsPlaced w s (Link loader name) (Entry to other place) earlier = Unit {0}
+NeedIsPlaced w s (Link loader name) (Equal other a b) earlier =
+    LinkIsPlaced w s loader name (Equal other a b) earlier
 
 -- the verdict is the refusal of this need, which comes next in the request's plan (5.3.4)
-pub record IsRefusal (w : World) (s : State) (r : Request) (n : Need) (prepared : List Class)
+pub record IsRefusal (w : World) (s : State) (r : Request) (n : Need) (earlier : List Class)
     (v : Verdict) : Type 0 where
   pub linkage : v ≡ Linkage n
   pub next : IsNextNeed w s r n
-  pub placed : NeedIsPlaced w s r n prepared
+  pub placed : NeedIsPlaced w s r n earlier
 
 -- the plan of a request ends in a verdict, and all its needs are met; or the need that is to be
 -- refused comes next in it (5.3.4, 5.3.5)
 abbrev pub Concludes : World → State → Request → Option Need → List Class → Verdict → Type 0
-Concludes w s r None prepared v = EndsHere w s r v
-Concludes w s r (Some n) prepared v = IsRefusal w s r n prepared v
+Concludes w s r None earlier v = EndsHere w s r v
+Concludes w s r (Some n) earlier v = IsRefusal w s r n earlier v
 
 -- a verdict that is looked up in the tables: the class of a load, the linked class of a link
 -- (5.3, 5.4)
@@ -165,7 +166,7 @@ pub record VerdictRests (w : World) (r : request.Request) (v : verdict.Verdict) 
     : Type 0 where
   pub apart : IsLookedUp r v → ⊥
   pub concludes : (s : State) → IsClosed w s → Grounds w s b
-      → Concludes w s (request_of r) b.refused b.prepared (verdict_of v)
+      → Concludes w s (request_of r) b.refused b.before (verdict_of v)
 
 -- a verdict rests on its basis, or is looked up (5.3 to 5.4.3)
 abbrev pub SaidRests : Content → request.Request → verdict.Verdict → Option Based → Type 0

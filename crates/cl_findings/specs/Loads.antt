@@ -124,6 +124,7 @@ load_basis r t p more refused = record {
   config = p.config;
   needs = target_needs r t ++ (kept_of (frames_of p) ++ more);
   prepared = [];
+  before = [];
   refused = refused;
 }
 

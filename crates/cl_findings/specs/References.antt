@@ -12,6 +12,8 @@ use Rattle.std.specs.Prelude.{
   ◌++◌,
   map,
   take,
+  flat_map,
+  length,
   Option,
   Some,
   None,
@@ -99,12 +101,24 @@ pub record IsAtClass (r : request.Request) (d c : Rowed) (v : Verdict) : Type 0 
 -- what an end of an entry rests on: the request's class is recorded (5.3)
 abbrev pub entry_basis : Configured → request.Request → Class → Based
 entry_basis config r d =
-    record { config = config; needs = class_need r d ∷ []; prepared = []; refused = None }
+    record {
+      config = config;
+      needs = class_need r d ∷ [];
+      prepared = [];
+      before = [];
+      refused = None;
+    }
 
 -- the same, and the class that the entry names is, too (5.3, 5.4.3.1)
 abbrev pub class_basis : Configured → request.Request → Class → Class → Based
 class_basis config r d c =
-    record { config = config; needs = reference_needs r d c; prepared = []; refused = None }
+    record {
+      config = config;
+      needs = reference_needs r d c;
+      prepared = [];
+      before = [];
+      refused = None;
+    }
 
 -- ---- members
 
@@ -145,6 +159,7 @@ member_basis r f e = record {
   config = f.d.config;
   needs = reference_needs r f.d.own.class f.c.own.class ++ imposed.needs_of e.needs;
   prepared = [];
+  before = [];
   refused = None;
 }
 
@@ -173,6 +188,7 @@ asked_basis r e k refused = record {
   config = origin_config e.origin;
   needs = sprung_needs r e.origin ++ take k (imposed.needs_of e.needs);
   prepared = [];
+  before = [];
   refused = refused;
 }
 
@@ -185,6 +201,10 @@ pub record AreLinked (r : request.Request) (l : Lined) (place : ℕ) (from : Spr
   pub config : at.config ≡ l.config
   pub there : option_map (λ row. row.class) (slice_get (rows_in l) place) ≡ Some at.own.class
 
+-- the classes before a place in a lineage (5.4)
+abbrev pub classes_before : Lined → ℕ → List Class
+classes_before l place = map (λ row. row.class) (take place (rows_in l))
+
 -- what an answer rests on that comes at the equality at a place of a preparation's list: the
 -- request's class is recorded, the classes before the place in its lineage are prepared, and the
 -- equalities before it are imposed; this one, if one is, is refused (5.3.4, 5.4.2)
@@ -192,6 +212,37 @@ abbrev pub link_basis : request.Request → Lined → ℕ → Listed → ℕ →
 link_basis r l place e k refused = record {
   config = l.config;
   needs = class_need r l.own.class ∷ take k (imposed.needs_of e.needs);
-  prepared = map (λ row. row.class) (take place (rows_in l));
+  prepared = classes_before l place;
+  before = classes_before l place;
+  refused = refused;
+}
+
+-- a list of equalities is that of the preparation of a row's class, under this configuration
+-- (5.4.2)
+pub record IsOfRow (c : Configured) (row : Rowed) (e : Listed) : Type 0 where
+  pub at : Lined
+  pub prepares : e.origin ≡ OfPreparation at
+  pub config : at.config ≡ c
+  pub same : at.own.class ≡ row.class
+
+-- these lists are those of the first of these rows, in order (5.4.2)
+abbrev pub AreOfRows : Configured → List Rowed → List Listed → Type 0
+AreOfRows c rows [] = Unit {0}
+AreOfRows c [] (e ∷ es) = ⊥
+AreOfRows c (row ∷ rows) (e ∷ es) = IsOfRow c row e × AreOfRows c rows es
+
+-- the equalities of these lists, in order (5.3.4)
+abbrev pub all_needs : List Listed → List Need
+all_needs es = flat_map (λ e. imposed.needs_of e.needs) es
+
+-- the same, where the classes before are those of these lists, and need not be prepared: all the
+-- equalities of the lists are imposed (5.3.4, 5.4.2)
+abbrev pub imposed_basis
+    : request.Request → Lined → List Listed → Listed → ℕ → Option Need → Based
+imposed_basis r l earlier e k refused = record {
+  config = l.config;
+  needs = class_need r l.own.class ∷ all_needs earlier ++ take k (imposed.needs_of e.needs);
+  prepared = [];
+  before = classes_before l (length earlier);
   refused = refused;
 }

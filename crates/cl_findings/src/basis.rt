@@ -66,6 +66,13 @@ pub enum Basis<T: Told> {
         equalities: Arc<Equalities<T>>,
         met: usize,
     },
+    /// The same of the class behind those of these lists, which need not be prepared: all their equalities are imposed.
+    Imposed {
+        lineage: Lineage<T>,
+        earlier: Vec<Arc<Equalities<T>>>,
+        equalities: Arc<Equalities<T>>,
+        met: usize,
+    },
 }
 
 impl<T: Told> Drop for Basis<T> {
@@ -90,6 +97,12 @@ impl<T: Told> Drop for Basis<T> {
             Basis::Linked {
                 lineage: _,
                 place: _,
+                equalities: _,
+                met: _,
+            } => {}
+            Basis::Imposed {
+                lineage: _,
+                earlier: _,
                 equalities: _,
                 met: _,
             } => {}

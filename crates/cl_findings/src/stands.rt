@@ -14,7 +14,7 @@ ghost use Rattle.cl_constraints.specs.Books.{TellsOf};
 ghost use Rattle.cl_findings.specs.Bases.{at_needs, at_refused, basis_of};
 ghost use Rattle.cl_findings.specs.Findings.{Carries, IsBorne};
 ghost use Rattle.cl_findings.specs.Loads.{load_basis, target_needs};
-ghost use Rattle.cl_findings.specs.References.{asked_basis, class_need, link_basis, reference_needs, sprung_needs};
+ghost use Rattle.cl_findings.specs.References.{all_needs, asked_basis, class_need, imposed_basis, link_basis, reference_needs, sprung_needs};
 ghost use Rattle.cl_findings.specs.Tables.{TellsStanding};
 
 use crate::basis::{At, Basis};
@@ -156,6 +156,33 @@ fn equalities_stand<X: Tables>(tables: &X, needs: &[Equality], met: usize) -> bo
     true
 }
 
+/// Whether the equalities of the list at an index, if there is one, join their loaders.
+fn list_stands<T: Told, X: Tables>(tables: &X, lists: &[Arc<Equalities<T>>], at: usize) -> bool
+    ensures { TellsOf (X.stands_for tables.now) result (λ s.
+        IfSome (slice_get (map (λ e. e.value) lists.now) at) (λ e. AllMet s (needs_of e.needs))) }
+{
+    match lists.get(at) {
+        None => true,
+        Some(list) => {
+            let needs = list.needs();
+            equalities_stand(tables, needs, needs.len())
+        }
+    }
+}
+
+/// Whether those of all these lists do.
+fn lists_stand<T: Told, X: Tables>(tables: &X, lists: &[Arc<Equalities<T>>]) -> bool
+    ensures { TellsOf (X.stands_for tables.now) result (λ s.
+        AllMet s (all_needs (map (λ e. e.value) lists.now))) }
+{
+    for at in 0..lists.len() {
+        if !list_stands(tables, lists, at) {
+            return false;
+        }
+    }
+    true
+}
+
 /// Whether the equality at an index, if there is one, is refused.
 fn equality_is_refused<X: Tables>(tables: &X, needs: &[Equality], at: usize) -> bool
     ensures { TellsOf (X.stands_for tables.now) result (λ s.
@@ -242,6 +269,7 @@ fn config_of<T: Told>(basis: &Basis<T>) -> &Config
             Origin::Preparation { lineage } => lineage.config(),
         },
         Basis::Linked { lineage, .. } => lineage.config(),
+        Basis::Imposed { lineage, .. } => lineage.config(),
     }
 }
 
@@ -301,6 +329,28 @@ fn link_stands<T: Told, X: Tables>(
     imposed_stand(tables, equalities, met)
 }
 
+/// Whether the same stands where the classes before need not be prepared.
+fn imposed_link_stands<T: Told, X: Tables>(
+    tables: &X,
+    request: &Request,
+    lineage: &Lineage<T>,
+    earlier: &[Arc<Equalities<T>>],
+    equalities: &Equalities<T>,
+    met: usize,
+) -> bool
+    ensures { TellsOf (X.stands_for tables.now) result (λ s.
+        Carries s (imposed_basis request.now lineage.now (map (λ e. e.value) earlier.now)
+        equalities.now met (slice_get (needs_of equalities.now.needs) met))) }
+{
+    if !class_stands(tables, request, lineage.class()) {
+        return false;
+    }
+    if !lists_stand(tables, earlier) {
+        return false;
+    }
+    imposed_stand(tables, equalities, met)
+}
+
 /// Whether what an answer of a request rests on stands, but for the configuration.
 fn needs_stand<T: Told, X: Tables>(tables: &X, request: &Request, basis: &Basis<T>) -> bool
     ensures { TellsOf (X.stands_for tables.now) result
@@ -318,6 +368,15 @@ fn needs_stand<T: Told, X: Tables>(tables: &X, request: &Request, basis: &Basis<
             equalities,
             met,
         } => link_stands(tables, request, lineage, *place, equalities, *met),
+        Basis::Imposed {
+            lineage,
+            earlier,
+            equalities,
+            met,
+        } => {
+            let earlier = earlier.as_slice();
+            imposed_link_stands(tables, request, lineage, earlier, equalities, *met)
+        }
     }
 }
 

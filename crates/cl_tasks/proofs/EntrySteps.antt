@@ -105,7 +105,7 @@ failed_unrecorded told c f failed g x served facts =
     let so = failed_facts told c f failed x facts in
     let load : Rests told (grounded_answer (load_alone r) v failed.basis) = subst (λ (k : Answered). Rests told (record k { request = load_alone r })) (failed_whole told c f failed) failed.own in
     let concludes = concludes_at told c g (state_of x) (load_alone r) v failed.basis served load failed.config failed.unprepared (so_met x failed.basis so) in
-    unrecorded g (state_of x) (loader_of r) (name_of r) v served.sound failed.failure (answered_by g (state_of x) (plans.Load (loader_of r) (name_of r)) failed.basis.refused failed.basis.prepared (verdict_of v) concludes (so_refuses x failed.basis so))
+    unrecorded g (state_of x) (loader_of r) (name_of r) v served.sound failed.failure (answered_by g (state_of x) (plans.Load (loader_of r) (name_of r)) failed.basis.refused failed.basis.before (verdict_of v) concludes (so_refuses x failed.basis so))
 
 -- so nothing is found there
 found_never : {A : Type 0} (told : Option Content) (c : Configured) (f : Failed A) → IsFailed told c f → (row : Arc (ClassRow A) Global) (g : Setting) (x : Shown) → ServedIn told c g (state_of x) → Tells {A = A} x (resolving_at c (resolutions.Checking f)) (reply.Looked (Some row)) → ⊥

@@ -72,7 +72,7 @@ borne told c r v b holds stood x config h = record {
 
 -- what rests on its basis is the conclusion, where that stands
 rests_concludes : (content : Content) (c : Configured) (script : Scripted) (s : State) (r : Request) (v : verdict.Verdict) (b : Based) → Rests (Some content) (grounded_answer r v b) → b.config ≡ c → b.prepared ≡ [] → IsSound (setting_of c script content) s → AllMet s b.needs
-    → Concludes (world_of c content) s (request_of r) b.refused b.prepared (verdict_of v)
+    → Concludes (world_of c content) s (request_of r) b.refused b.before (verdict_of v)
 rests_concludes content c script s r v b rests config bare sound needs =
     let w : World = world_of c content in
     let h : VerdictRests w r v b = subst (λ (k : Configured). VerdictRests (world_of k content) r v b) config rests in
@@ -80,20 +80,20 @@ rests_concludes content c script s r v b rests config bare sound needs =
 
 -- the same where the request is served
 pub concludes_at : (told : Option Content) (c : Configured) (g : Setting) (s : State) (r : Request) (v : verdict.Verdict) (b : Based) → ServedIn told c g s → Rests told (grounded_answer r v b) → b.config ≡ c → b.prepared ≡ [] → AllMet s b.needs
-    → Concludes g.world s (request_of r) b.refused b.prepared (verdict_of v)
+    → Concludes g.world s (request_of r) b.refused b.before (verdict_of v)
 concludes_at told c g s r v b served rests config bare needs =
-    subst (λ (k : Setting). Concludes k.world s (request_of r) b.refused b.prepared (verdict_of v)) (sym served.setting)
+    subst (λ (k : Setting). Concludes k.world s (request_of r) b.refused b.before (verdict_of v)) (sym served.setting)
     (rests_concludes served.content c served.script s r v b (subst (λ (t : Option Content). Rests t (grounded_answer r v b)) served.told_so rests) config bare (subst (λ (k : Setting). IsSound k s) served.setting served.sound) needs)
 
 -- the same of what stands
 pub stood_concludes : (told : Option Content) (c : Configured) (r : Request) (v : verdict.Verdict) (b : Based) (holds : Shown → Type 0) → Stood told c r v b holds → (g : Setting) (x : Shown) → ServedIn told c g (state_of x) → holds x
-    → Concludes g.world (state_of x) (request_of r) b.refused b.prepared (verdict_of v)
+    → Concludes g.world (state_of x) (request_of r) b.refused b.before (verdict_of v)
 stood_concludes told c r v b holds stood g x served h = concludes_at told c g (state_of x) r v b served stood.rests stood.config stood.unprepared (stood.needs x h)
 
 pub stood_answers : (told : Option Content) (c : Configured) (r : Request) (v : verdict.Verdict) (b : Based) (holds : Shown → Type 0) → Stood told c r v b holds → (g : Setting) (x : Shown) → ServedIn told c g (state_of x) → holds x
     → AnswersPlan g (state_of x) (request_of r) (verdict_of v)
 stood_answers told c r v b holds stood g x served h =
-    answered_by g (state_of x) (request_of r) b.refused b.prepared (verdict_of v) (stood_concludes told c r v b holds stood g x served h) (stood.refused x h)
+    answered_by g (state_of x) (request_of r) b.refused b.before (verdict_of v) (stood_concludes told c r v b holds stood g x served h) (stood.refused x h)
 
 -- ---- references
 
@@ -240,4 +240,4 @@ own_comes told c (requests.Resolve l n i) v b holds own g x served h =
 own_comes told c (requests.Link l n) v b holds own g x served h =
     let s = state_of x in
     let free = own_unrecorded told c (requests.Link l n) v b holds own g x served h in
-    link_comes_so g s l n b.refused b.prepared (verdict_of v) free own.record_is (stood_concludes told c (requests.Link l n) v b holds own.stood g x served h) (own.stood.refused x h)
+    link_comes_so g s l n b.refused b.before (verdict_of v) free own.record_is (stood_concludes told c (requests.Link l n) v b holds own.stood g x served h) (own.stood.refused x h)

@@ -1,6 +1,11 @@
--- What the linkage machine may post of a finding that stands or is looked up fits; nothing of another configuration is borne.
+-- What the linkage machine may post of a finding that stands, is looked up, or refuses a link's equality with all lists before fits;
+-- nothing of another configuration is borne.
 use Rattle.std.proofs.Common.{◌≡◌, ◌<◌, ◌∙◌, ◌⊎◌, inl, inr, ℕ, zero, suc, false, List, [], ◌∷◌, length, Option, Some, None, refl, sym, ap, subst, arith, is_some}
 use Rattle.std.specs.Prelude.{slice_get}
+use Rattle.std.specs.List.{AllByRecursion}
+use Rattle.cl_model.specs.declared.need.Equality.{Equality}
+use Rattle.cl_model.specs.declared.need.Need as rust_need
+use Rattle.cl_model.specs.declared.need.Need.TheVariants as needs
 use Rattle.cl_model.specs.declared.request.Request.{Request}
 use Rattle.cl_model.specs.declared.request.Request.TheVariants as requests
 use Rattle.cl_model.specs.declared.verdict.Verdict as rust_verdict
@@ -8,20 +13,31 @@ use Rattle.cl_model.specs.declared.verdict.Verdict.TheVariants as verdicts
 use Rattle.cl_model.specs.declared.answer.Answer as rust
 use Rattle.cl_model.specs.declared.answer.Answer.TheVariants as answers
 use Rattle.cl_model.specs.Content.{Content}
-use Rattle.cl_model.specs.Texts.{AnswerNames, VerdictNames}
+use Rattle.cl_model.specs.Texts.{AnswerNames, NeedNames, VerdictNames}
 use Rattle.cl_model.specs.States.{Answer}
-use Rattle.cl_model.specs.Machine.{Scheduled, MayPost, MaySay, MayAnswer}
+use Rattle.cl_model.specs.Machine.{AnswersPlan, Scheduled, MayPost, MaySay, MayAnswer}
 use Rattle.cl_model.specs.Tables.{Bears}
-use Rattle.cl_model.specs.Views.{answer_of, answers_of, answer_at, request_of, verdict_of}
-use Rattle.cl_model.proofs.Closed.{runs_are_closed}
+use Rattle.cl_model.specs.Views.{answer_of, answers_of, answer_at, need_of, request_of, verdict_of}
+use Rattle.cl_model.proofs.Bind.{some_same}
+use Rattle.cl_model.proofs.Closed.{all_right, runs_are_closed}
 use Rattle.cl_model.proofs.Tables.{may_bear}
 use Rattle.cl_config.specs.Loaders.{schedule_of}
+use Rattle.cl_config.specs.Views.{Configured}
 use Rattle.cl_delegation.specs.Worlds.{setting_of}
-use Rattle.cl_findings.specs.Findings.{Answered, Based, BasisStands, IsLookedUp, IsWithin, Stands, loader_of}
+use Rattle.cl_hierarchy.specs.Imposed.{Listed, OfPreparation, equal_need, needs_of}
+use Rattle.cl_hierarchy.specs.Lineages.{IsLined, IsWithinConfig, Lined, kin_of, rows_in}
+use Rattle.cl_hierarchy.specs.Rows.{Rowed}
+use Rattle.cl_findings.specs.Bases.{AreLineages, IsListed}
+use Rattle.cl_findings.specs.Findings.{Answered, Based, BasisStands, IsBorne, IsLookedUp, IsWithin, Stands, loader_of}
+use Rattle.cl_findings.specs.Laws.{IsListedRefusal}
+use Rattle.cl_findings.specs.References.{imposed_basis}
+use Rattle.cl_findings.proofs.Carried.{refusal_is_borne}
+use Rattle.cl_findings.proofs.Links.{preparation_of}
 use Rattle.cl_registry.specs.Tables.{Shown, steps, state_of, round_of, IsAsked, IsKept, IsLater, IsOpen, IsTrusted, NamesLoaders}
 use Rattle.cl_registry.specs.Posting.{AnswerBacked, VerdictBacked}
 use Rattle.cl_registry.specs.Allowed.{AllowedIsPosted}
 use Rattle.cl_registry.specs.SettlingLaws.{OtherFindingIsUnbacked}
+use Rattle.cl_registry.proofs.Equated.{Names, constraints, lined}
 use Rattle.cl_registry.proofs.Named.{record_is_named}
 use Rattle.cl_registry.proofs.Posted.{round_at, scheduled, scheduled_at}
 use Rattle.cl_registry.proofs.Running.{answered}
@@ -55,16 +71,16 @@ open_still content x q f a trusted asked may = is_open x.answers x.script.reques
 
 -- ---- what the tables bear of it
 
-said_borne : (content : Content) (x : Shown) (q : ℕ) (f : Answered) (v : rust_verdict.Verdict) → IsKept (Some content) x → IsAsked x q f → f.answer ≡ answers.Said v
-    → MayPost (setting_of x.config x.script content) (state_of x) q (answer_of f.answer) → Bears (state_of x) (request_of f.request) (verdict_of v)
-said_borne content x q f v kept asked is may =
+-- the machine may say it of the request
+may_be_said : (content : Content) (x : Shown) (q : ℕ) (f : Answered) (v : rust_verdict.Verdict) → IsKept (Some content) x → IsAsked x q f → f.answer ≡ answers.Said v
+    → MayPost (setting_of x.config x.script content) (state_of x) q (answer_of f.answer) → MaySay (setting_of x.config x.script content) (state_of x) (request_of f.request) (verdict_of v)
+may_be_said content x q f v kept asked is may =
     let g = setting_of x.config x.script content in
     let s = state_of x in
     let n = round_at x.script.requests x.script.rounds_of q f.request kept.trusted.script.each asked in
     let here : MayAnswer g s (request_of f.request) (answer_of f.answer) =
     subst (λ (e : Scheduled). MayAnswer g s e.request (answer_of f.answer)) (entry_is x q n.0 f may.scheduled asked n.1 may.asked) may.fits in
-    let say : MaySay g s (request_of f.request) (verdict_of v) = subst (λ (a : rust.Answer). MayAnswer g s (request_of f.request) (answer_of a)) is here in
-    may_bear g s (request_of f.request) (verdict_of v) (runs_are_closed g (steps x) kept.run) say
+    subst (λ (a : rust.Answer). MayAnswer g s (request_of f.request) (answer_of a)) is here
 
 -- ---- its loaders
 
@@ -95,6 +111,41 @@ looked_up x (requests.Link l name) verdicts.ArrayMember named is bears = absurd 
 looked_up x (requests.Link l name) (verdicts.Error k c) named is bears = absurd is
 looked_up x (requests.Link l name) (verdicts.Linkage n) named is bears = absurd is
 
+-- ---- a link's refusal with the lists of all classes before
+
+-- the equalities of a preparation name loaders of the configuration
+list_named : (content : Content) (x : Shown) (e : Listed) (at : Lined) → IsListed (Some content) e → e.origin ≡ OfPreparation at → at.config ≡ x.config → AllByRecursion (Names (λ l. l < length x.config.loaders)) (needs_of e.needs)
+list_named content x e at listed from config =
+    let P : ℕ → Type 0 = λ n. n < length x.config.loaders in
+    let lin : IsLined (Some content) at = subst (AreLineages (Some content)) from listed.lineages in
+    let within : AllByRecursion (λ (r : Rowed). P r.class.loader) (rows_in at) = subst (λ (c : Configured). AllByRecursion (IsWithinConfig c) (rows_in at)) config lin.within in
+    subst (AllByRecursion (Names P)) (sym (preparation_of e.origin at (needs_of e.needs) from listed.are)) (constraints P (kin_of at) (lined P at within))
+
+need_named : (count : ℕ) (es : List Equality) (k : ℕ) (n : rust_need.Need) → AllByRecursion (Names (λ l. l < count)) (needs_of es) → slice_get (needs_of es) k ≡ Some (need_of n) → NeedNames count n
+need_named count [] k n all at = absurd cc
+need_named count (e ∷ es) zero (needs.Entry loader name place) all at = absurd cc
+need_named count (e ∷ es) zero (needs.Equal d) all at = subst (Names (λ l. l < count)) (some_same (equal_need e) (equal_need d) at) all.0
+need_named count (e ∷ es) (suc k) n all at = need_named count es k n all.1 at
+
+-- it stands where it is the request's answer
+refusal_stands : (content : Content) (x : Shown) (f : Answered) (v : rust_verdict.Verdict) → IsKept (Some content) x → f.answer ≡ answers.Said v → IsListedRefusal content x.config f v
+    → AnswersPlan (setting_of x.config x.script content) (state_of x) (request_of f.request) (verdict_of v) → Stands x.config (state_of x) f
+refusal_stands content x f v kept is h answered =
+    let count = length x.config.loaders in
+    let own = h.lineage.own.class in
+    let closed = runs_are_closed (setting_of x.config x.script content) (steps x) kept.run in
+    let basis = refusal_is_borne content x.config x.script (state_of x) f v h closed answered in
+    let borne : IsBorne x.config (state_of x) (imposed_basis f.request h.lineage h.earlier h.list h.index (Some (need_of h.need))) = subst (BasisStands x.config (state_of x)) h.basis basis in
+    let listed : IsListed (Some content) h.list = (all_right (IsListed (Some content)) h.earlier (h.list ∷ []) h.listed).0 in
+    let named : NeedNames count h.need = need_named count h.list.needs h.index h.need (list_named content x h.list h.linked.at listed h.linked.prepares (h.linked.config ∙ h.config)) h.there in
+    record {
+      within = record {
+        loader = (record_is_named x (loader_of f.request) own.loader own.name kept.named borne.carried.0.0).0;
+        answer = subst (AnswerNames count) (sym (is ∙ ap (λ (u : rust_verdict.Verdict). answers.Said u) h.refuses)) named;
+      };
+      basis = basis;
+    }
+
 within : (x : Shown) (f : Answered) (v : rust_verdict.Verdict) → NamesLoaders x → f.answer ≡ answers.Said v → IsLookedUp f.request v ⊎ Stands x.config (state_of x) f → Bears (state_of x) (request_of f.request) (verdict_of v)
     → IsWithin (length x.config.loaders) f
 within x f v named is (inl looked) bears =
@@ -105,8 +156,16 @@ within x f v named is (inr stands) bears = stands.within
 -- ---- the laws
 
 pub allowed_is_posted : AllowedIsPosted
-allowed_is_posted content x q f v kept asked is grounded may =
-    let bears = said_borne content x q f v kept asked is may in
+allowed_is_posted content x q f v kept asked is given may =
+    let g = setting_of x.config x.script content in
+    let say = may_be_said content x q f v kept asked is may in
+    let bears = may_bear g (state_of x) (request_of f.request) (verdict_of v) (runs_are_closed g (steps x) kept.run) say in
+    let grounded : IsLookedUp f.request v ⊎ Stands x.config (state_of x) f =
+    elim given [
+      | inl looked ↦ inl looked
+      | inr (inl stands) ↦ inr stands
+      | inr (inr refusal) ↦ inr (refusal_stands content x f v kept is refusal say.answers)
+    ] in
     let backed : VerdictBacked x f v = record { grounded = grounded; borne = bears } in
     record {
       may = record {

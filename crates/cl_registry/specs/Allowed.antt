@@ -13,6 +13,7 @@ use Rattle.cl_hierarchy.specs.Drafts.{IsDraft, Drafted}
 use Rattle.cl_hierarchy.specs.Imposed.{IsListed, Listed, OfPreparation, equal_need, needs_of}
 use Rattle.cl_hierarchy.specs.Lineages.{Lined}
 use Rattle.cl_findings.specs.Findings.{Answered, IsLookedUp, Rests, Stands}
+use Rattle.cl_findings.specs.Laws.{IsListedRefusal}
 use Rattle.cl_registry.specs.declared.registry.RegistryFault.TheVariants.{Stray}
 use Rattle.cl_registry.specs.Imposing.{AreOfConfig, IsListOf, IsReady, MayImpose}
 use Rattle.cl_registry.specs.Posting.{AnswerFits}
@@ -99,13 +100,15 @@ FittingIsAllowed =
     → AnswerFits x q f → Rests (Some content) f
     → MayPost (machine x content) (state_of x) q (answer_of f.answer)
 
--- a verdict that a finding says of its request, and that the machine may post, fits where the finding stands, or the verdict is
--- one that is looked up: `post` takes it (5.3 to 5.4.3)
+-- a verdict that a finding says of its request, and that the machine may post, fits where the verdict is one that is looked up,
+-- where the finding stands, or where it refuses a link's equality with the lists of all classes before, which need not be
+-- prepared: `post` takes it (5.3 to 5.4.3)
 abbrev pub AllowedIsPosted : Type 0
 AllowedIsPosted =
     (content : Content) (x : Shown) (q : ℕ) (f : Answered) (v : Verdict) → IsKept (Some content) x
     → IsAsked x q f
-    → f.answer ≡ answers.Said v → IsLookedUp f.request v ⊎ Stands x.config (state_of x) f
+    → f.answer ≡ answers.Said v
+    → IsLookedUp f.request v ⊎ Stands x.config (state_of x) f ⊎ IsListedRefusal content x.config f v
     → MayPost (machine x content) (state_of x) q (answer_of f.answer) → AnswerFits x q f
 
 -- the next round may begin just where the machine may go on: both are `EndsRound` of the same script, so that nothing is left to show

@@ -51,8 +51,8 @@ pub fn fitting_is_allowed()
     ensures { FittingIsAllowed }
 {}
 
-/// A verdict that the linkage machine may post fits where the finding that says it stands, or where it is one that is looked up:
-/// `post` takes it.
+/// A verdict that the linkage machine may post fits where it is one that is looked up, where the finding that says it stands, or
+/// where it refuses a link's equality with the lists of all classes before: `post` takes it.
 pub fn allowed_is_posted()
     ensures { AllowedIsPosted }
 {}

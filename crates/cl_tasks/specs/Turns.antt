@@ -12,7 +12,7 @@ use Rattle.cl_model.specs.Views.{need_of}
 use Rattle.cl_config.specs.Loaders.{loaders_in}
 use Rattle.cl_config.specs.Views.{Configured}
 use Rattle.cl_source.specs.Views.{Found}
-use Rattle.cl_model.specs.Probes.{route}
+use Rattle.cl_model.specs.Probes.{first_places, route}
 use Rattle.cl_hierarchy.specs.Imposed.{Listed, equal_need}
 use Rattle.cl_hierarchy.specs.Lineages.{Lined}
 use Rattle.cl_findings.specs.Findings.{IsSettledFor, loader_of, name_of}
@@ -122,9 +122,9 @@ pub record DerivesUnrecorded {A : Type 0} (old new : Tasked) (r : Reply A)
   pub derived : AreDerived (WasAbsent old r) old.frames new.frames
   pub asked : AsksDerived new t
 
--- the loaders on the way of a class: those that are asked for its name where its own loader is asked for it (5.3.2)
+-- the loaders on the way of a class: those that are asked for its name where its own loader is asked for it, in order and each once (5.3.2)
 abbrev pub way_of : Configured → Class → List ℕ
-way_of config c = route (loaders_in config) c.loader c.name
+way_of config c = first_places [] (route (loaders_in config) c.loader c.name)
 
 -- a loader stands on a way directly behind that of a probe, which found nothing (5.3.2)
 pub record IsBehind (way : List ℕ) (p : Found) (loader : ℕ) : Type 0 where

@@ -11,4 +11,4 @@ returns-clause-leads g c =
     subst (λ (n : Next _). Leads g.T.Told.told c.args.job last_room (λ x. Unit {0}) n) (sym c.post.ensures)
     (rw (c.source_fault.ensures)
     (leads_fault g.T.Told.told c.args.job.path.config c.args.job.q c.args.job.request _ c.in-Some.loader (λ x. Unit {0}) c.requires.job.asked
-    (next_within c.args.search c.args.job.path.config _ c.in-Some.loader c.requires.search.seeks.config c.requires.search.seeks.asked c.requires.job.loader (sym c.in-Some.ensures.next))))
+    (next_within c.args.search c.args.job.path.config c.in-Some.loader c.requires.search.seeks.config (sym c.in-Some.ensures.next))))

@@ -35,9 +35,8 @@ added_is_first : (xs : List ℕ) → added [] xs ≡ first_places [] xs
 added_is_first xs = behind [] [] xs (λ n. refl)
 
 -- what a walk asks for a name that is none of the platform's is what is probed
-pub walk_is_probed : (ls : List WorldLoader) (loader : ℕ) (name : Name) (java : Bool) (before asked : List ℕ) → java ≡ is_java name → java ≡ false → before ≡ [] → asked ≡ added before (route_from ls name loader) → asked ≡ first_places [] (route ls loader name)
-walk_is_probed ls loader name java before asked is none begun e =
-    e ∙ ap (λ (ns : List ℕ). added ns (route_from ls name loader)) begun ∙ added_is_first (route_from ls name loader) ∙ ap (first_places []) (sym (at (is_java name) (sym is ∙ none)))
+pub walk_is_probed : (ls : List WorldLoader) (loader : ℕ) (name : Name) (java : Bool) → java ≡ is_java name → java ≡ false → added [] (route_from ls name loader) ≡ first_places [] (route ls loader name)
+walk_is_probed ls loader name java is none = added_is_first (route_from ls name loader) ∙ ap (first_places []) (sym (at (is_java name) (sym is ∙ none)))
   where
     at : (b : Bool) → b ≡ false → (elim b [ true ↦ if nat_lt loader (length ls) then 0 ∷ [] else [] | false ↦ route_from ls name loader ]) ≡ route_from ls name loader
     at true h = absurd cc

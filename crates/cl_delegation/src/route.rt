@@ -36,13 +36,27 @@ pub(crate) fn find_route(
     ensures { IfOk result (λ v. v.items ≡ first_places []
         (route (loaders_in config.now) loader name.now)) }
 {
-    let mut route = Vec::new(alloc);
     if is_java(name) {
+        let mut route = Vec::new(alloc);
         route.push(LoaderId(0))?;
         return Ok(route);
     }
+    walk_from(alloc, config, loader, name)
+}
+
+/// The same for a name that is none of the platform's.
+fn walk_from(
+    alloc: Global,
+    config: &Config,
+    loader: LoaderId,
+    name: &Name,
+) -> Result<Vec<LoaderId>, AllocError>
+    requires { loader < length config.now.loaders }
+    ensures { IfOk result (λ v. v.items
+        ≡ added [] (route_from (loaders_in config.now) name.now loader)) }
+{
     let mut walk = Walk {
-        route,
+        route: Vec::new(alloc),
         asked: vec![in alloc; false; config.count()]?,
         done: vec![in alloc; false; config.count()]?,
     };

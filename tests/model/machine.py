@@ -1,4 +1,6 @@
 """Loading and linking by the rules of docs/RULES.md, request by request. A class is its name and the loader that defined it."""
+import functools
+
 from classes import ABSTRACT, PRIVATE, PROTECTED, PUBLIC, STATIC, escaped
 
 OBJECT = "java/lang/Object"
@@ -29,6 +31,8 @@ class Machine:
     def __init__(self, loaders, content):
         self.loaders, self.content = loaders, content
         self.records, self.settled, self.prepared, self.equalities, self.history = {}, {}, set(), [], []
+        # several parents may lead to one loader, which is searched for a name once
+        self.home = functools.cache(self.home)
 
     # ---- texts
 
@@ -52,7 +56,7 @@ class Machine:
             if name.startswith(prefix):
                 return self.home(target, name)
         own = loader if (loader, name) in self.content else None
-        above = None if told["parent"] is None else self.home(told["parent"], name)
+        above = next((home for home in (self.home(parent, name) for parent in told["parents"]) if home is not None), None)
         first, second = (own, above) if told["order"] == "child" else (above, own)
         return second if first is None else first
 

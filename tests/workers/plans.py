@@ -12,7 +12,7 @@ sys.path.insert(0, os.path.join(os.path.dirname(os.path.realpath(__file__)), "..
 from classes import escaped, unescaped  # noqa: E402
 from machine import Machine, types_of  # noqa: E402
 
-ASKED_AGAIN = ("home", "superclasses", "superinterfaces", "lineage", "find_field")
+ASKED_AGAIN = ("superclasses", "superinterfaces", "lineage", "find_field")
 
 
 @dataclass(frozen=True)

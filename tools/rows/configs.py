@@ -10,7 +10,13 @@ def loader(name, *lines):
 
 
 def many(count, more=""):
-    return "".join(loader("l%d" % i) + (more if i == 2 else "") for i in range(count))
+    """So many loaders, with more that is said of the third."""
+    tables = ('{ name = "l%d"%s }' % (i, ", " + more if more and i == 2 else "") for i in range(count))
+    return "loader = [%s]\n" % ", ".join(tables)
+
+
+def parents(*names):
+    return "parents = [%s]" % ", ".join('"%s"' % name for name in names)
 
 
 def imports(*items):
@@ -23,6 +29,8 @@ def brought(prefix, source):
 
 FOUR = BOOT + loader("app", 'parent = "boot"') + loader("plug", 'parent = "app"', 'order = "child"') + loader("kid", 'parent = "app"')
 IMPORTED = brought("p/", "boot")
+L = ["l%d" % i for i in range(66)]
+ROW = "".join(map(loader, L[:65]))
 
 READ = [
     BOOT,
@@ -54,6 +62,13 @@ READ = [
     '[[ "loader" ]]\nname = "boot"\n',
     'loader = [ # first\n  { name = "boot" }, # second\n  { "name" = "app", parent = \'boot\' }, # no more\n]\n',
     '[[loader]]\r\nname = "boot" # x\r\n\r\n[[loader]]\r\nname = """\r\napp"""\r\nparent = \'boot\'\r\n',
+    # several parents, and many loaders
+    BOOT + loader("app", parents("boot")),
+    BOOT + loader("app", "parents = []"),
+    BOOT + loader("app", 'parent = "boot"') + loader("plug", parents("app", "boot"), 'order = "child"', imports(IMPORTED)),
+    ROW + loader("c", parents(*L[:64])),
+    many(65),
+    many(1024),
 ]
 
 BAD = "C2 BadLoader %d"
@@ -83,10 +98,10 @@ TOP = [
     ('[[Loader]]\nname = "boot"\n', BAD % 0),
     ("frob = 1\n" + BOOT, BAD % 0),
     (BOOT + loader("boot") + "[other]\n", BAD % 0),
-    (many(65), MANY),
-    ("frob = 1\n" + many(65), BAD % 0),
-    (many(65, "frob = 1\n"), MANY),
-    (many(66, 'parent = "x"\n'), MANY),
+    (many(1025), MANY),
+    ("frob = 1\n" + many(1025), BAD % 0),
+    (many(1025, "frob = 1"), MANY),
+    (many(1026, 'parent = "x"'), MANY),
     ('loader = [{ name = "boot", name = "boot" }]\n', "C1 NotToml"),
     ("loader = []\nloader = []\n", "C1 NotToml"),
     ('[[loader]]\nname = "bo\not"\n', "C1 NotToml"),
@@ -113,7 +128,7 @@ OWN = [
     (BOOT + BOOT + loader("a b"), BAD % 1),
     (loader("boot", "frob = 1"), BAD % 0),
     (loader("boot", 'Parent = "boot"'), BAD % 0),
-    (BOOT + loader("app", 'parents = ["boot"]'), BAD % 1),
+    (BOOT + loader("app", 'Parents = ["boot"]'), BAD % 1),
     (loader("boot", "dir = 1"), BAD % 0),
     (BOOT + loader("app", "parent = 0"), BAD % 1),
     (BOOT + loader("app", 'parent = ["boot"]'), BAD % 1),
@@ -179,4 +194,34 @@ LED = [
     (BOOT + loader("app", 'parent = "app"') + loader("kid", imports(*[IMPORTED] * 65)), MANY),
 ]
 
-UNREAD = TOP + OWN + LED
+# What is wrong with several parents: of a loader by itself, and of those that it names.
+SEVERAL = [
+    (BOOT + loader("app", parents("boot"), 'parent = "boot"'), BAD % 1),
+    (BOOT + loader("app", "parents = []", 'parent = "boot"'), BAD % 1),
+    (BOOT + loader("app", 'parents = "boot"'), BAD % 1),
+    (BOOT + loader("app", "parents = [1]"), BAD % 1),
+    (BOOT + loader("app", 'parents = [["boot"]]'), BAD % 1),
+    (BOOT + loader("app", "parents = {}"), BAD % 1),
+    (BOOT + loader("app", parents("boot", "boot")), BAD % 1),
+    (BOOT + loader("app", parents("x", "x")), BAD % 1),
+    (BOOT + loader("app") + loader("kid", parents("boot", "app", "boot")), BAD % 2),
+    (BOOT + loader("app", 'parents = ["boot", """bo\\u006ft"""]'), BAD % 1),
+    # over 64 parents, after all that is wrong with the loader by itself, and before the next one
+    (ROW + loader("c", parents(*L[:65])), MANY),
+    (ROW + loader("c", parents(*L[:65], "l0")), BAD % 65),
+    (ROW + loader("c", parents(*L[:65]), "frob = 1"), BAD % 65),
+    (ROW + loader("c", parents(*L[:65]), imports('{ from = "l0" }')), BAD % 65),
+    (ROW + loader("c", parents(*L[:65])) + loader("a b"), MANY),
+    # and before a loader that is none
+    (ROW + loader("c", parents(*L[:64], "l65")), MANY),
+    # the parents in order, then the imports
+    (loader("boot", parents("boot")), "C4 LaterLoader 0"),
+    (BOOT + loader("app", parents("x")), "C3 UnknownLoader 1"),
+    (BOOT + loader("app", parents("boot", "kid")) + loader("kid"), "C4 LaterLoader 1"),
+    (BOOT + loader("app", parents("x", "app")), "C3 UnknownLoader 1"),
+    (BOOT + loader("app", parents("app", "x")), "C4 LaterLoader 1"),
+    (BOOT + loader("app", parents("x"), imports(brought("p/", "app"))), "C3 UnknownLoader 1"),
+    (BOOT + loader("app", parents("boot"), imports(brought("p/", "app"))), "C4 LaterLoader 1"),
+]
+
+UNREAD = TOP + OWN + LED + SEVERAL

@@ -4,11 +4,10 @@ too, with so many classes that they have about a megabyte, under the name and `_
 
 Each is a bundle: classlink bundle < FILE.
 """
-import os
 import sys
 
 from loads import TOP, TWO, bundle, section
-from making import MADE, NAMES, made, with_lines
+from making import NAMES, made, with_lines, write_all
 
 LOADERS = [f"l{n}" for n in range(1, 64)]
 
@@ -86,13 +85,5 @@ def resolved_through(path, classes, over):
     bundle(path, TWO, classes, ["resolve app q/Use 1\n"])
 
 
-def main(folder):
-    os.makedirs(folder, exist_ok=True)
-    for name, (make, _, megabyte) in MADE.items():
-        make(f"{folder}/{name}")
-        if megabyte:
-            make(f"{folder}/{name}_mb", megabyte)
-
-
 if __name__ == "__main__":
-    main(sys.argv[1])
+    write_all(sys.argv[1])

@@ -8,7 +8,7 @@ use Rattle.std.proofs.Math.ListN.{set, get_or}
 use Rattle.std.proofs.lemmas.Option.{slice_get-get_or}
 use Rattle.std.proofs.lemmas.List.{get_or-set_same, get_or-set_other, length-set}
 use Rattle.cl_model.specs.Probes.{is_in}
-use Rattle.cl_delegation.specs.Walks.{with_one, added, own, AllIn, AreAsked}
+use Rattle.cl_delegation.specs.Walks.{with_one, added, own, AllIn, AreMarked}
 
 or_false : (b : Bool) → (b || false) ≡ b
 or_false true = refl
@@ -64,7 +64,7 @@ nothing_more ns (x ∷ xs) h = ap (λ (ms : List ℕ). added ms xs) same ∙ not
 
 -- ---- marks
 
-marked_at : (route : List ℕ) (asked : List Bool) (x n : ℕ) (b : Bool) → (x == n) ≡ b → AreAsked route asked → x < length asked → n < length asked → get_or (set asked x true) n true ≡ (is_in route n || b)
+marked_at : (route : List ℕ) (asked : List Bool) (x n : ℕ) (b : Bool) → (x == n) ≡ b → AreMarked route asked → x < length asked → n < length asked → get_or (set asked x true) n true ≡ (is_in route n || b)
 marked_at route asked x n true e h lt within =
     let same : n ≡ x = sym (eqb-true x n e) in
     subst (λ (k : ℕ). get_or (set asked x true) k true ≡ (is_in route k || true)) (sym same) (get_or-set_same asked x true true lt ∙ sym (or_right (is_in route x) true refl))
@@ -75,7 +75,7 @@ marked_at route asked x n false e h lt within =
     get_or-set_other asked x n true true other ∙ value ∙ sym (or_false (is_in route n))
 
 -- one that is asked is marked
-pub marked : (route : List ℕ) (asked : List Bool) (x : ℕ) → AreAsked route asked → x < length asked → AreAsked (route ++ x ∷ []) (set asked x true)
+pub marked : (route : List ℕ) (asked : List Bool) (x : ℕ) → AreMarked route asked → x < length asked → AreMarked (route ++ x ∷ []) (set asked x true)
 marked route asked x h lt n within =
     let n_in : n < length asked = omega (arith, within, length-set asked x true) in
     slice_get-get_or (set asked x true) n true within ∙ ap (λ (b : Bool). Some b) (marked_at route asked x n (x == n) refl h lt n_in ∙ sym (in_snoc route x n))
@@ -84,7 +84,7 @@ in_of : (b c : Bool) → Some b ≡ Some c → b ≡ c
 in_of b c e = cc
 
 -- one that is marked is not asked again
-pub asked_before : (route : List ℕ) (asked : List Bool) (x : ℕ) (wanted b : Bool) → AreAsked route asked → x < length asked → b ≡ get_or asked x b → b ≡ true → route ≡ added route (own wanted x)
+pub asked_before : (route : List ℕ) (asked : List Bool) (x : ℕ) (wanted b : Bool) → AreMarked route asked → x < length asked → b ≡ get_or asked x b → b ≡ true → route ≡ added route (own wanted x)
 asked_before route asked x false b h lt is true_is = refl
 asked_before route asked x true b h lt is true_is = sym (nothing_more route (x ∷ []) (there, tt))
   where

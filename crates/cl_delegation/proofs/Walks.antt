@@ -15,20 +15,20 @@ use Rattle.cl_classfile.specs.Files.{Name}
 use Rattle.cl_model.specs.Probes.{route_from}
 use Rattle.cl_config.specs.Views.{Configured}
 use Rattle.cl_config.specs.Loaders.{loaders_in}
-use Rattle.cl_delegation.specs.Walks.{with_one, added, own, AllIn, AreAsked, AreDone, IsWalk}
+use Rattle.cl_delegation.specs.Walks.{with_one, added, own, AllIn, AreMarked, AreDone, IsLoaderWalk}
 use Rattle.cl_delegation.proofs.Added.{all_stay, all_there, nothing_more}
 
 -- the first so many parents were asked, each by its whole search
 pub record IsSoFar (c : Configured) (name : Name) (parents : List ℕ) (i : ℕ) (before route : List ℕ) (seen full : List Bool) : Type 0 where
-  pub walk : IsWalk c name route seen full
+  pub walk : IsLoaderWalk c name route seen full
   pub way : route ≡ added before (flat_map (route_from (loaders_in c) name) (take i parents))
 
 -- none was asked
-pub begins : (c : Configured) (name : Name) (ps route : List ℕ) (seen full : List Bool) → IsWalk c name route seen full → IsSoFar c name ps 0 route route seen full
+pub begins : (c : Configured) (name : Name) (ps route : List ℕ) (seen full : List Bool) → IsLoaderWalk c name route seen full → IsSoFar c name ps 0 route route seen full
 begins c name ps route seen full w = record { walk = w; way = refl }
 
 -- one parent more
-pub one_more : (c : Configured) (name : Name) (parents : List ℕ) (i : ℕ) (before route new : List ℕ) (seen full more fuller : List Bool) (p : ℕ) → i < length parents → p ≡ get_or parents i 0 → IsSoFar c name parents i before route seen full → IsWalk c name new more fuller
+pub one_more : (c : Configured) (name : Name) (parents : List ℕ) (i : ℕ) (before route new : List ℕ) (seen full more fuller : List Bool) (p : ℕ) → i < length parents → p ≡ get_or parents i 0 → IsSoFar c name parents i before route seen full → IsLoaderWalk c name new more fuller
     → new ≡ added route (route_from (loaders_in c) name p) → IsSoFar c name parents (suc i) before new more fuller
 one_more c name parents i before route new seen full more fuller p lt is so walk way = record {
   walk = walk;
@@ -64,8 +64,8 @@ goes_on : (c : Configured) (name : Name) (route xs new : List ℕ) (full : List 
 goes_on c name route xs new full done is n e = subst (λ (r : List ℕ). AllIn r (route_from (loaders_in c) name n)) (sym is) (all_stay route xs (route_from (loaders_in c) name n) (done n e))
 
 -- one loader was asked
-pub asks_on : (c : Configured) (name : Name) (route new : List ℕ) (seen more full fuller : List Bool) (n : ℕ) (wanted : Bool) → IsWalk c name route seen full → new ≡ added route (own wanted n) → AreAsked new more → length more ≡ length seen → fuller ≡ full
-    → IsWalk c name new more fuller
+pub asks_on : (c : Configured) (name : Name) (route new : List ℕ) (seen more full fuller : List Bool) (n : ℕ) (wanted : Bool) → IsLoaderWalk c name route seen full → new ≡ added route (own wanted n) → AreMarked new more → length more ≡ length seen → fuller ≡ full
+    → IsLoaderWalk c name new more fuller
 asks_on c name route new seen more full fuller n wanted w is asked wide same = record {
   wide = wide ∙ w.wide;
   deep = ap length same ∙ w.deep;
@@ -74,7 +74,7 @@ asks_on c name route new seen more full fuller n wanted w is asked wide same = r
 }
 
 -- one loader more is marked
-pub closed : (c : Configured) (name : Name) (route : List ℕ) (seen full : List Bool) (n : ℕ) → n < length full → IsWalk c name route seen full → AllIn route (route_from (loaders_in c) name n) → IsWalk c name route seen (set full n true)
+pub closed : (c : Configured) (name : Name) (route : List ℕ) (seen full : List Bool) (n : ℕ) → n < length full → IsLoaderWalk c name route seen full → AllIn route (route_from (loaders_in c) name n) → IsLoaderWalk c name route seen (set full n true)
 closed c name route seen full n lt w there = record {
   wide = w.wide;
   deep = length-set full n true ∙ w.deep;
@@ -91,7 +91,7 @@ closed c name route seen full n lt w there = record {
         w.done m (slice_get-get_or full m true within ∙ ap (λ (b : Bool). Some b) (sym (get_or-set_other full n m true true other)) ∙ left)
 
 -- where a loader is marked its whole search is over
-pub over : (c : Configured) (name : Name) (route : List ℕ) (seen full : List Bool) (n : ℕ) (b : Bool) → IsWalk c name route seen full → n < length c.loaders → b ≡ get_or full n b → b ≡ true → route ≡ added route (route_from (loaders_in c) name n)
+pub over : (c : Configured) (name : Name) (route : List ℕ) (seen full : List Bool) (n : ℕ) (b : Bool) → IsLoaderWalk c name route seen full → n < length c.loaders → b ≡ get_or full n b → b ≡ true → route ≡ added route (route_from (loaders_in c) name n)
 over c name route seen full n b w lt is true_is = sym (nothing_more route (route_from (loaders_in c) name n) (w.done n (slice_get-get_or full n b (omega (arith, lt, w.deep)) ∙ ap (λ (c : Bool). Some c) (sym is ∙ true_is))))
 
 -- each parent is earlier

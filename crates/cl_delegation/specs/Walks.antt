@@ -30,8 +30,8 @@ abbrev pub AllIn : List ℕ → List ℕ → Type 0
 AllIn ns ms = AllByRecursion (λ m. is_in ns m ≡ true) ms
 
 -- of each loader whether it was asked
-abbrev pub AreAsked : List ℕ → List Bool → Type 0
-AreAsked route asked = (n : ℕ) → n < length asked → slice_get asked n ≡ Some (is_in route n)
+abbrev pub AreMarked : List ℕ → List Bool → Type 0
+AreMarked route asked = (n : ℕ) → n < length asked → slice_get asked n ≡ Some (is_in route n)
 
 -- of each loader that is marked all that its search asks was asked
 abbrev pub AreDone : Configured → Name → List ℕ → List Bool → Type 0
@@ -39,8 +39,8 @@ AreDone c name route done =
     (n : ℕ) → slice_get done n ≡ Some true → AllIn route (route_from (loaders_in c) name n)
 
 -- the marks of all loaders are true of what was asked
-pub record IsWalk (c : Configured) (name : Name) (route : List ℕ) (seen full : List Bool) : Type 0 where
+pub record IsLoaderWalk (c : Configured) (name : Name) (route : List ℕ) (seen full : List Bool) : Type 0 where
   pub wide : length seen ≡ length c.loaders
   pub deep : length full ≡ length c.loaders
-  pub asked : AreAsked route seen
+  pub asked : AreMarked route seen
   pub done : AreDone c name route full

@@ -7,7 +7,7 @@ ghost use Rattle.std.specs.Option.{option_map};
 ghost use Rattle.cl_model.specs.Homes.{is_java};
 ghost use Rattle.cl_config.specs.Loaders.{loaders_in};
 ghost use Rattle.cl_model.specs.Probes.{first_places, route, route_from};
-ghost use Rattle.cl_delegation.specs.Walks.{AllIn, AreAsked, IsWalk, added, is_child_first, own};
+ghost use Rattle.cl_delegation.specs.Walks.{AllIn, AreMarked, IsLoaderWalk, added, is_child_first, own};
 
 use cl_config::{Config, Import, Order};
 use cl_model::LoaderId;
@@ -87,10 +87,10 @@ fn is_child_first(config: &Config, loader: LoaderId) -> bool
 /// Asks a loader where it is wanted, unless it was asked.
 fn ask(walk: &mut Walk, loader: LoaderId, wanted: bool) -> Result<(), AllocError>
     requires within { loader < length walk.old.asked.items }
-    requires asked { AreAsked walk.old.route.items walk.old.asked.items }
+    requires asked { AreMarked walk.old.route.items walk.old.asked.items }
     ensures route { OnOk result (walk.new.route.items ≡ added walk.old.route.items
         (own wanted loader)) }
-    ensures asked { OnOk result (AreAsked walk.new.route.items walk.new.asked.items) }
+    ensures asked { OnOk result (AreMarked walk.new.route.items walk.new.asked.items) }
     ensures wide { length walk.new.asked.items ≡ length walk.old.asked.items }
     ensures done { walk.new.done.items ≡ walk.old.done.items }
 {
@@ -106,9 +106,9 @@ fn ask(walk: &mut Walk, loader: LoaderId, wanted: bool) -> Result<(), AllocError
 fn close(walk: &mut Walk, loader: LoaderId)
     requires within { loader < length walk.old.done.items }
     ensures route { walk.new.route.items ≡ walk.old.route.items }
-    ensures walk { (c : Configured) (name : List ℕ) → IsWalk c name walk.old.route.items
+    ensures walk { (c : Configured) (name : List ℕ) → IsLoaderWalk c name walk.old.route.items
         walk.old.asked.items walk.old.done.items → AllIn walk.old.route.items
-        (route_from (loaders_in c) name loader) → IsWalk c name walk.new.route.items
+        (route_from (loaders_in c) name loader) → IsLoaderWalk c name walk.new.route.items
         walk.new.asked.items walk.new.done.items }
 {
     walk.done[usize::from(loader.0)] = true;
@@ -117,9 +117,9 @@ fn close(walk: &mut Walk, loader: LoaderId)
 /// Asks all that a loader leads to, in order, and passes over those that were asked.
 fn visit(config: &Config, loader: LoaderId, name: &Name, walk: &mut Walk) -> Result<(), AllocError>
     requires within { loader < length config.now.loaders }
-    requires walk { IsWalk config.now name.now walk.old.route.items walk.old.asked.items
+    requires walk { IsLoaderWalk config.now name.now walk.old.route.items walk.old.asked.items
         walk.old.done.items }
-    ensures walk { OnOk result (IsWalk config.now name.now walk.new.route.items
+    ensures walk { OnOk result (IsLoaderWalk config.now name.now walk.new.route.items
         walk.new.asked.items walk.new.done.items) }
     ensures route { OnOk result (walk.new.route.items ≡ added walk.old.route.items
         (route_from (loaders_in config.now) name.now loader)) }

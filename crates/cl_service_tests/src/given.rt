@@ -1,4 +1,4 @@
-//! What the tests share: readers and writers that refuse, and runtimes whose random bytes are chosen.
+//! What the tests share: readers and writers that refuse, files, and runtimes whose random bytes are chosen.
 
 use cl_config::Config;
 use cl_model::Untold;
@@ -128,5 +128,38 @@ impl ReadFile for NoFiles {
 
     fn another(&self, _alloc: Global) -> Result<NoFiles, AllocError> {
         Ok(NoFiles)
+    }
+}
+
+/// A configuration, and a script at the path `script`.
+#[derive(Drop)]
+pub struct TwoFiles {
+    pub config: &'static str,
+    pub script: &'static str,
+}
+
+impl ReadFile for TwoFiles {
+    fn read_file(
+        &self,
+        alloc: Global,
+        path: &str,
+        most: usize,
+    ) -> Result<Option<Vec<u8>>, InputFault> {
+        let text = if path == "script" {
+            self.script
+        } else {
+            self.config
+        };
+        if text.len() > most {
+            return Err(InputFault::TooLarge);
+        }
+        Ok(Some(Vec::from_slice(alloc, text.as_bytes())?))
+    }
+
+    fn another(&self, _alloc: Global) -> Result<TwoFiles, AllocError> {
+        Ok(TwoFiles {
+            config: self.config,
+            script: self.script,
+        })
     }
 }

@@ -11,6 +11,7 @@ use cl_registry::Report;
 use cl_schedule::serve_one;
 use cl_source::{FaultySource, MemorySource, Source, Telling};
 use std::alloc::{AllocError, Global};
+use std::process::Abort;
 use std::test::Fail;
 
 /// The report of a script that is served over a source.
@@ -117,26 +118,48 @@ fn count_answers(answers: &[Answer]) -> (usize, usize) {
     (said, faults)
 }
 
-/// Requests of each kind, over a source of which a read fails, each in turn until none does: one request is answered so, the
-/// others are said. What failed is not kept: a resolution that is asked for again is said.
-#[test]
-fn each_read_of_every_kind_fails_once(rt: HostRuntime) -> Result<(), Fail> {
-    let alloc = rt.alloc();
-    let script =
-        "resolve plug p/Use 1\nlink plug p/Use\nthen\nresolve plug p/Use 1\nload app p/T\nload plug p/T\n";
+/// Scripts of requests of each kind, with how many these are.
+const SCRIPTS: [(&str, usize); 2] = [
+    (
+        "resolve plug p/Use 1\nthen\nload app p/T\nload plug p/T\n",
+        3,
+    ),
+    (
+        "resolve plug p/Use 1\nlink plug p/Use\nthen\nresolve plug p/Use 1\nload app p/T\nload plug p/T\n",
+        5,
+    ),
+];
+
+/// Serves a script over a source of which a read fails, each in turn until none does: one of so many requests is answered
+/// so, the others are said.
+fn fail_each_read<R: Abort>(
+    rt: &R,
+    alloc: Global,
+    script: &str,
+    requests: usize,
+) -> Result<(), Fail> {
     for at in 1..100u64 {
         let served = serve_failing(alloc, &SHARED, at, script)?;
         let counts = count_answers(served.report.answers.as_slice());
         let failures = served.failures;
         drop(served);
         if failures == 0 {
-            assert!(rt; counts == (5, 0));
-            assert!(rt; at > 3);
+            assert!(rt; counts == (requests, 0));
+            assert!(rt; at > 4);
             return Ok(());
         }
-        assert!(rt; counts == (4, 1));
+        assert!(rt; counts == (requests.saturating_sub(1), 1));
     }
     Err(Fail::new("a read fails each time"))
+}
+
+/// Each read fails in turn, of more than three. What failed is not kept: a resolution that is asked for again is said.
+#[test]
+fn each_read_of_every_kind_fails_once(rt: HostRuntime) -> Result<(), Fail> {
+    for (script, requests) in SCRIPTS {
+        fail_each_read(&rt, rt.alloc(), script, requests)?;
+    }
+    Ok(())
 }
 
 /// The report of a script over a source in memory.

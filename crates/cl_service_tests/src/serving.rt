@@ -2,14 +2,14 @@
 
 use Named::{T, Top};
 use cl_given::{
-    APP, BOOT, LOADERS, Named, SHARED, config, count_events, is_class, script, settles_once,
-    telling_source, thousand_resolutions,
+    APP, BOOT, LOADERS, Named, PLUG, SHARED, config, count_events, is_class, script, settles_once,
+    source, telling_source, thousand_resolutions,
 };
-use cl_model::{Answer, LoaderId, Untold, Verdict};
+use cl_model::{Answer, Class, Event, LoaderId, Untold, Verdict};
 use cl_names::Name;
 use cl_pool::{Gate, OpenGate, PoolFault, serve};
 use cl_registry::Report;
-use cl_source::{FaultySource, Source};
+use cl_source::{ChangingSource, FaultySource, Source};
 use std::alloc::Global;
 use std::sync::Wait;
 use std::sync::atomic::{AtomicU64, Ordering};
@@ -239,6 +239,81 @@ fn a_failed_read_stops_no_other(rt: HostRuntime) -> Result<(), Fail> {
         let are_classes = are_classes(report.answers.as_slice(), 3, at > 0);
         drop(report);
         assert!(rt; are_classes);
+    }
+    Ok(())
+}
+
+/// How often a loader defines a name.
+fn count_definitions(history: &[Event], of: &Class) -> usize {
+    let mut count = 0usize;
+    for event in history {
+        if let Event::Define(class) = event
+            && class.loader == of.loader
+            && class.name.bytes() == of.name.bytes()
+        {
+            count = count.saturating_add(1);
+        }
+    }
+    count
+}
+
+/// Whether no loader defines a name twice.
+fn are_defined_once(history: &[Event]) -> bool {
+    for event in history {
+        if let Event::Define(class) = event
+            && count_definitions(history, class) != 1
+        {
+            return false;
+        }
+    }
+    true
+}
+
+/// How often a request is posted.
+fn count_posts(history: &[Event], q: u32) -> usize {
+    let mut count = 0usize;
+    for event in history {
+        if matches!(event, Event::Post(number) if *number == q) {
+            count = count.saturating_add(1);
+        }
+    }
+    count
+}
+
+/// Whether this is a report of two requests whose tables can be trusted, or the tables had no place for what a worker read.
+fn is_trusted_or_stray(served: Result<Report, PoolFault<Untold>>) -> bool {
+    match served {
+        Ok(report) => {
+            let history = report.history.events();
+            let is_trusted = are_defined_once(history)
+                && count_posts(history, 0) == 1
+                && count_posts(history, 1) == 1
+                && report.answers.as_slice().len() == 2;
+            drop(report);
+            is_trusted
+        }
+        Err(fault) => {
+            let is_stray = matches!(&fault, PoolFault::Stray);
+            drop(fault);
+            is_stray
+        }
+    }
+}
+
+/// Eight workers over a source that changes, each at a read of its own: there is a report or a Stray. What the answers are
+/// no one can say, since one that was told two things may be out of memory.
+#[test]
+fn sources_change_for_each_worker(rt: HostRuntime) -> Result<(), Fail> {
+    let alloc = rt.alloc();
+    let later = [(BOOT, Top), (APP, T), (PLUG, T)];
+    let script = "load plug p/T\nload plug p/T\n";
+    for reads in 1..7u64 {
+        for _ in 0..200 {
+            let first = source(alloc, &[(APP, T)])?;
+            let changing = ChangingSource::new(first, source(alloc, &later)?, reads);
+            let served = serve_by(&rt, alloc, changing, script, 8, &OpenGate);
+            assert!(rt; is_trusted_or_stray(served));
+        }
     }
     Ok(())
 }

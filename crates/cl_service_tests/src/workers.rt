@@ -2,13 +2,13 @@
 
 ghost use Rattle.std.specs.Prelude.{◌≡◌, IfOk, IfErr, IsErrOf, ◌+◌, ◌^◌};
 
+use crate::given::TwoFiles;
 use cl_config::Config;
 use cl_model::{LoaderId, Untold};
 use cl_names::Name;
 use cl_program::{Asked, OpenDirectories, Options, RunWords, run_asked};
-use cl_source::{MemorySource, Probe, ReadFile, Source, SourceFault, Telling};
-use cl_streams::InputFault;
-use std::alloc::{AllocError, Global};
+use cl_source::{MemorySource, Probe, Source, SourceFault, Telling};
+use std::alloc::Global;
 use std::io;
 use std::random::RandomSource;
 use std::sync::Wait;
@@ -82,32 +82,11 @@ impl<'a, R> OpenDirectories for CountingRuntime<'a, R> {
     }
 }
 
-/// A configuration and a script.
-#[derive(Drop)]
-struct TwoFiles;
-
-impl ReadFile for TwoFiles {
-    fn read_file(
-        &self,
-        alloc: Global,
-        path: &str,
-        most: usize,
-    ) -> Result<Option<Vec<u8>>, InputFault> {
-        let text: &[u8] = if path == "script" {
-            b"load boot p/A\nload boot p/B\n"
-        } else {
-            b"[[loader]]\nname = \"boot\"\n"
-        };
-        if text.len() > most {
-            return Err(InputFault::TooLarge);
-        }
-        Ok(Some(Vec::from_slice(alloc, text)?))
-    }
-
-    fn another(&self, _alloc: Global) -> Result<TwoFiles, AllocError> {
-        Ok(TwoFiles)
-    }
-}
+/// Two loads of a loader that has nothing.
+const FILES: TwoFiles = TwoFiles {
+    config: "[[loader]]\nname = \"boot\"\n",
+    script: "load boot p/A\nload boot p/B\n",
+};
 
 /// As many workers serve as are asked for; a worker whose source is not to be had is left out, and the others serve.
 #[test]
@@ -138,7 +117,7 @@ fn workers_are_those_asked_for(rt: HostRuntime) {
             },
         });
         let input: &[u8] = b"";
-        let status = run_asked(alloc, &runtime, &TwoFiles, asked, input, &mut out, &mut err);
+        let status = run_asked(alloc, &runtime, &FILES, asked, input, &mut out, &mut err);
         assert_eq!(rt; status, 0);
         let lines: &[u8] =
             b"1 ClassNotFoundException p/A@boot\n2 ClassNotFoundException p/B@boot\n";
@@ -166,7 +145,7 @@ fn other_numbers_are_refused(rt: HostRuntime) {
             answers: true,
         });
         let input: &[u8] = b"%config\n[[loader]]\nname = \"boot\"\n%script\nload boot p/A\n";
-        let status = run_asked(alloc, &runtime, &TwoFiles, asked, input, &mut out, &mut err);
+        let status = run_asked(alloc, &runtime, &FILES, asked, input, &mut out, &mut err);
         assert_eq!(rt; status, 1);
         assert!(rt; out.is_empty());
         let line: &[u8] = b"classlink: V1 Workers\n";

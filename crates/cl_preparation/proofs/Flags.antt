@@ -4,8 +4,7 @@ use Rattle.std.specs.Prelude.{option_map, option_and_then, is_some, filter_map, 
 use Rattle.std.specs.List.{All, AllByRecursion}
 use Rattle.cl_descriptors.proofs.Methods.{whole_method_again}
 use Rattle.cl_classfile.specs.declared.entry.Entry.{Entry}
-use Rattle.cl_classfile.specs.Structure.{Structure, MemberInfo, IsClassFile}
-use Rattle.cl_classfile.specs.Flags.{has, interface}
+use Rattle.cl_classfile.specs.Structure.{Structure, MemberInfo, IsClassFile, owner_of}
 use Rattle.cl_classfile.specs.Members.{KeepsMethod}
 use Rattle.cl_classfile.specs.Files.{Name, Key, File, method_of, text_of}
 use Rattle.cl_classfile.specs.Files as files
@@ -15,8 +14,8 @@ use Rattle.std.proofs.lemmas.List.{take_more}
 use Rattle.std.proofs.lemmas.List.Elements.{All-from_recursion, All-get_or, filter_map-append}
 use Rattle.cl_preparation.specs.Methods.{IsTyped, is_public_or_protected}
 
-typed_by : (pool : List Entry) (b : Bool) (m : MemberInfo) → KeepsMethod pool b m → IsTyped pool m
-typed_by pool b m k = record {
+typed_by : (f : Structure) (m : MemberInfo) → KeepsMethod f.pool (owner_of f) m → IsTyped f.pool m
+typed_by f m k = record {
   name = k.name.text;
   descriptor = k.descriptor.text;
   named = ap text_of k.name.is_text;
@@ -24,13 +23,13 @@ typed_by pool b m k = record {
   typed = ap is_some (whole_method_again k.descriptor.text k.descriptor.kind.0 k.descriptor.kind.1);
 }
 
-all_typed : (pool : List Entry) (b : Bool) (ms : List MemberInfo) → AllByRecursion (KeepsMethod pool b) ms → AllByRecursion (IsTyped pool) ms
-all_typed pool b [] all = tt
-all_typed pool b (m ∷ ms) all = (typed_by pool b m all.0, all_typed pool b ms all.1)
+all_typed : (f : Structure) (ms : List MemberInfo) → AllByRecursion (KeepsMethod f.pool (owner_of f)) ms → AllByRecursion (IsTyped f.pool) ms
+all_typed f [] all = tt
+all_typed f (m ∷ ms) all = (typed_by f m all.0, all_typed f ms all.1)
 
 -- each method of a class file has a name and a method descriptor
 methods_typed : (f : Structure) → IsClassFile f → AllByRecursion (IsTyped f.pool) f.methods
-methods_typed f is = all_typed f.pool (has f.flags interface) f.methods is.kept.methods.each
+methods_typed f is = all_typed f f.methods is.kept.methods.each
 
 -- a test of the flags of a method, if it is declared
 pub flags_tell : (o : Option files.Member) (test : ℕ → Bool) (r : Option ℕ) → r ≡ option_map (λ m. m.flags) o → (b : Bool) → (r ≡ None → b ≡ false) → ((x : ℕ) → r ≡ Some x → b ≡ test x) → b ≡ if_declared o test

@@ -2,7 +2,7 @@
 (docs/FORMATS.md, 'Configuration', 'Script'; docs/RULES.md, 'Deriving a class'). They are written as tests/program/run
 reads them."""
 import configs
-from classfile import OBJECT_FILE, Attribute, File, Member, cls, integer, u2, utf8
+from classfile import OBJECT_FILE, Attribute, File, Member, cls, integer, utf8, version
 
 BOOT = '[[loader]]\nname = "boot"\n'
 LINE = "load boot p/A\n"
@@ -169,9 +169,9 @@ DRAFTS = [
     ("p/A", FULL.bytes() + b"\0", "ClassFormatError p/A@boot"),
     ("p/Z", FULL.bytes(), "NoClassDefFoundError p/Z@boot"),
     ("p/Z", p_a().bytes(), "NoClassDefFoundError p/Z@boot"),
-    ("p/A", p_a(version=u2(0) + u2(53)).bytes(), "UnsupportedClassVersionError p/A@boot"),
-    ("p/A", p_a(version=u2(0) + u2(51)).bytes(), "UnsupportedClassVersionError p/A@boot"),
-    ("p/Z", p_a(version=u2(1) + u2(52)).bytes(), "UnsupportedClassVersionError p/Z@boot"),
+    ("p/A", p_a(version=version(53)).bytes(), "UnsupportedClassVersionError p/A@boot"),
+    ("p/A", p_a(version=version(51, 65535)).bytes(), "class p/A@boot"),
+    ("p/Z", p_a(version=version(52, 1)).bytes(), "UnsupportedClassVersionError p/Z@boot"),
     # What a request asks for itself need not be public, and may be an interface.
     ("p/A", p_a(flags=0x20).bytes(), "class p/A@boot"),
     ("p/Z", p_a(flags=0x20).bytes(), "NoClassDefFoundError p/Z@boot"),
@@ -183,6 +183,13 @@ DRAFTS = [
     ("p/A", p_a(fields=[Member(2, 5, 9)]).bytes(), "ClassFormatError p/A@boot"),
     ("p/A", b"", "ClassFormatError p/A@boot"),
     ("p/A", bytes(100), "ClassFormatError p/A@boot"),
+    # Other versions; the name and the flags are looked at behind the version, the flags by it.
+    ("p/A", p_a(version=version(45)).bytes(), "class p/A@boot"),
+    ("p/A", p_a(version=version(44, 65535)).bytes(), "UnsupportedClassVersionError p/A@boot"),
+    ("p/Z", p_a(version=version(51)).bytes(), "NoClassDefFoundError p/Z@boot"),
+    ("p/A", p_a(version=version(53), flags=0x0201).bytes(), "UnsupportedClassVersionError p/A@boot"),
+    ("p/A", p_a(version=version(49), flags=0x0201).bytes(), "class p/A@boot"),
+    ("p/A", p_a(version=version(50), flags=0x0201).bytes(), "ClassFormatError p/A@boot"),
 ]
 
 

@@ -3,7 +3,6 @@ at here: a file may be no good one."""
 import struct
 
 MAGIC = b"\xca\xfe\xba\xbe"
-VERSION = b"\0\0\0\x34"
 
 
 def u2(n):
@@ -12,6 +11,13 @@ def u2(n):
 
 def u4(n):
     return struct.pack(">I", n)
+
+
+def version(major, minor=0):
+    return u2(minor) + u2(major)
+
+
+VERSION = version(52)
 
 
 class Entry:

@@ -1,10 +1,11 @@
 """Rows of class files: flags, members, supertypes, layout and order (docs/FORMATS.md, 'Class file')."""
 import itertools
+import struct
 
 import flags as f
 from classfile import (
     MAGIC, OBJECT, OBJECT_FILE, OBJECT_TEXT, THIS, VERSION, Attribute, File, Member, cls, double, dynamic,
-    fieldref, handle, imethodref, integer, long, method_type, methodref, pair, raw, real, string, utf8,
+    fieldref, handle, imethodref, integer, long, method_type, methodref, pair, raw, real, string, utf8, version,
 )
 from names import is_class
 from notation import word
@@ -13,10 +14,17 @@ FINE = "fine"
 F1, F2, F3, F4 = "F1 BadMagic", "F2 Version", "F3 Truncated", "F4 Trailing"
 F6, F7, F8, F9 = "F6 BadFlags", "F7 BadMember", "F8 Duplicate", "F9 BadSupertype"
 CLASS = File()
+# Older versions: on both sides of each change of a rule, and an early one. The minor number decides none.
+OLDER = ((45, 3), (48, 65535), (49, 0), (50, 0), (51, 65535))
 
 
 def bad_pool(index):
     return "F5 BadPool %d" % index
+
+
+def version_fault(major, minor):
+    """Read are 52.0 and, of the majors below it from 45 on, every minor."""
+    return FINE if 45 <= major < 52 or (major, minor) == (52, 0) else F2
 
 
 def ask(rows, file, answer):
@@ -25,6 +33,7 @@ def ask(rows, file, answer):
 
 # Names and descriptors of members, at 5 to 10.
 NAMES = [utf8(b"x"), utf8(b"I"), utf8(b"m"), utf8(b"()V"), utf8(b"<init>"), utf8(b"<clinit>")]
+METHODS = [("a method", 7, 8, f.method_keeps), ("<init>", 9, 8, f.init_keeps), ("<clinit>", 10, 8, f.clinit_keeps)]
 
 
 def of_flags(rows):
@@ -38,8 +47,7 @@ def of_flags(rows):
     sums |= {base ^ bit for base in (0x0021, 0x0600, 0x3601, 0x5031, 0x5421, 0x89CE, 0x8FCE) for bit in bits + [0]}
     for flags in sorted(sums):
         ask(rows, CLASS.changed(more=NAMES, flags=flags), FINE if f.class_keeps(flags) else F6)
-    named = [("a field", 5, 6, f.field_keeps), ("a method", 7, 8, f.method_keeps), ("<init>", 9, 8, f.init_keeps),
-        ("<clinit>", 10, 8, f.clinit_keeps)]
+    named = [("a field", 5, 6, f.field_keeps)] + METHODS
     bases = [0, 1, 2, 4, 0x19, 0x1019, 0xBF39, 0x5098, 0x50C8, 0xAF20, 0x14C1, 0x19F8, 0xE200, 0xFAC9, 0x0401, 0xFA81,
         0xFFFF]
     for what, name, descriptor, keeps in named:
@@ -53,6 +61,25 @@ def of_flags(rows):
                 file = CLASS.changed(more=NAMES, flags=0x0600 if of_interface else 0x0021)
                 file = file.changed(fields=members) if keeps is f.field_keeps else file.changed(methods=members)
                 ask(rows, file, FINE if keeps(flags, of_interface) else F7)
+
+
+def of_older_flags(rows):
+    few = [[sum(some) for count in range(most + 1) for some in itertools.combinations([1 << n for n in range(16)], count)]
+        for most in range(4)]
+    for major, minor in OLDER:
+        at = version(major, minor)
+        rows.about("Flags of a class of version %d.%d: up to three bits." % (major, minor))
+        for flags in sorted(few[3]):
+            ask(rows, CLASS.changed(version=at, flags=flags), FINE if f.class_keeps(flags, major) else F6)
+        for what, name, descriptor, keeps in METHODS:
+            for of_interface in (False, True):
+                rows.about("Flags of %s%s of that version: some bits, and some more or less than PUBLIC and ABSTRACT." % (what,
+                    " of an interface" if of_interface else ""))
+                some = few[2] if keeps is f.method_keeps else few[1]
+                for flags in sorted({base ^ bits for base in (0, 0x0401) for bits in some}):
+                    file = CLASS.changed(version=at, more=NAMES, flags=0x0600 if of_interface else 0x0021)
+                    file = file.changed(methods=[Member(flags, name, descriptor)])
+                    ask(rows, file, FINE if keeps(flags, of_interface, major) else F7)
 
 
 # What a member may be named and described by, and what it may not.
@@ -187,9 +214,10 @@ USE = bytes.fromhex(
 ) + b"java/lang/Object" + bytes.fromhex("07000900210008000a0000000000000000")
 
 
-def shown(file, this_name, super_name):
+def shown(file, at, this_name, super_name):
     p = file.parts
     text = "".join(entry.shown + ", " for entry in file.entries())
+    text += "version %d %d " % at
     text += "flags %d classes %d %s %d %s" % (p["flags"], p["this_class"], this_name, p["super_class"], super_name)
     text += "".join(" interface %d" % i for i in p["interfaces"])
     text += "".join(" field " + m.shown for m in p["fields"]) + "".join(" method " + m.shown for m in p["methods"])
@@ -206,9 +234,11 @@ def of_whole_files(rows):
         (OBJECT_FILE, "java/lang/Object", "-"), (CLASS, "p/A", "java/lang/Object"), (FULL, "p/A", "java/lang/Object"),
         (ENTRIES, "p/A", "java/lang/Object"),
     ):
-        ask(rows, file, FINE)
-        rows.ask("file", word(file.bytes()), shown(file, this_name, super_name))
-        rows.ask("write", word(file.bytes()), "the same")
+        for at in ((52, 0),) + OLDER:
+            file = file.changed(version=version(*at))
+            ask(rows, file, FINE)
+            rows.ask("file", word(file.bytes()), shown(file, at, this_name, super_name))
+            rows.ask("write", word(file.bytes()), "the same")
     ask_bytes(rows, USE, FINE)
     rows.ask("write", word(USE), "the same")
 
@@ -229,14 +259,14 @@ def of_headers(rows):
         for bit in range(8):
             changed = bytearray(data)
             changed[place] ^= 1 << bit
-            ask_bytes(rows, bytes(changed), F1 if place < 4 else F2)
-    for header, answer in (
-        (b"\xbe\xba\xfe\xca\0\0\0\x34", F1), (MAGIC + b"\0\0\0\x33", F2), (MAGIC + b"\0\0\0\x35", F2),
-        (MAGIC + b"\0\x03\0\x34", F2),
-        (MAGIC + b"\xff\xff\0\x34", F2), (MAGIC + b"\0\0\x01\x34", F2), (MAGIC + b"\0\x34\0\0", F2),
-        (MAGIC + VERSION, FINE),
-    ):
-        ask_bytes(rows, header + data[8:], answer)
+            minor, major = struct.unpack_from(">HH", changed, 4)
+            ask_bytes(rows, bytes(changed), F1 if place < 4 else version_fault(major, minor))
+    ask_bytes(rows, b"\xbe\xba\xfe\xca" + data[4:], F1)
+    for major, minor in ((0, 0), (0, 45), (0, 52), (52, 3), (308, 0), (13312, 0), (11520, 0), (65535, 65535)):
+        ask_bytes(rows, MAGIC + version(major, minor) + data[8:], version_fault(major, minor))
+    rows.about("Versions around those that are read.")
+    for major, minor in itertools.product(range(40, 65), (0, 1, 65535)):
+        ask_bytes(rows, MAGIC + version(major, minor) + data[8:], version_fault(major, minor))
 
 
 def of_pool_counts(rows):
@@ -248,17 +278,25 @@ def of_pool_counts(rows):
 
 
 def of_changed_bytes(rows):
-    data = OBJECT_FILE.bytes()
-    rows.about("Each change of one byte: of java/lang/Object the class flags alone may be others, at 32 and 33.")
-    ways = {
-        32: sum(f.class_keeps(byte << 8 | 0x21) for byte in range(1, 256)),
-        33: sum(f.class_keeps(byte) for byte in range(256) if byte != 0x21),
-    }
-    for place in range(len(data)):
-        rows.ask("changed", [word(data), str(place)], str(ways.get(place, 0)))
-    rows.ask("changes", word(data), str(sum(ways.values())))
+    rows.about("Each change of one byte: of java/lang/Object the version and the class flags alone may be others.")
+    for major, minor in ((52, 0), (51, 65535), (48, 3), (45, 0)):
+        data = OBJECT_FILE.changed(version=version(major, minor)).bytes()
+        others = {
+            4: [version_fault(major, byte << 8 | minor & 0xFF) for byte in range(256) if byte != minor >> 8],
+            5: [version_fault(major, minor & 0xFF00 | byte) for byte in range(256) if byte != minor & 0xFF],
+            6: [version_fault(byte << 8 | major, minor) for byte in range(1, 256)],
+            7: [version_fault(byte, minor) for byte in range(256) if byte != major],
+        }
+        ways = {place: faults.count(FINE) for place, faults in others.items()}
+        # An interface of this name would want a superclass.
+        keeps = lambda flags: f.class_keeps(flags, major) and not flags & f.INTERFACE
+        ways[32] = sum(keeps(byte << 8 | 0x21) for byte in range(1, 256))
+        ways[33] = sum(keeps(byte) for byte in range(256) if byte != 0x21)
+        for place in range(len(data)):
+            rows.ask("changed", [word(data), str(place)], str(ways.get(place, 0)))
+        rows.ask("changes", word(data), str(sum(ways.values())))
     rows.about("Of p/Use a reader that was written apart from this one, from the tables, took so many.")
-    rows.ask("changes", word(USE), "4016")
+    rows.ask("changes", word(USE), "4023")
 
 
 def of_dash(rows):
@@ -282,6 +320,7 @@ def of_short_bytes(rows):
     rows.about("The order of faults: bytes that end where they end.")
     for data, answer in (
         (b"\0\0\0", F3), (b"\xca\xfe\xba\xbf", F1), (b"\xca\xfe\xba\xbf\0\0\0\x35", F1), (MAGIC + b"\0\x01\0", F3),
+        (MAGIC + version(51), F3), (MAGIC + version(45, 3) + b"\0", F3), (MAGIC + version(45, 3) + b"\0\0", bad_pool(0)),
         (MAGIC + b"\0\0\0\x35", F2), (MAGIC + b"\0\x01\0\x34\0\0", F2),
     ):
         ask_bytes(rows, data, answer)
@@ -353,7 +392,7 @@ def broken(steps):
     methods = [x(9, 3 if "method" in steps else 1)] + ([x(9, 0)] if "method twice" in steps else [])
     data = File(
         magic=b"\xca\xfe\xba\0" if "magic" in steps else MAGIC,
-        version=b"\0\0\0\x33" if "version" in steps else VERSION,
+        version=version(53) if "version" in steps else VERSION,
         more=[string(0 if "entry" in steps else 2), raw(b"\x02") if "tag" in steps else integer(0), utf8(b"x"),
             utf8(b"I"), utf8(b"()V")],
         flags=0x2001 if "flags" in steps else 0x0001,
@@ -370,6 +409,7 @@ def broken(steps):
 def make(rows):
     of_layout(rows)
     of_flags(rows)
+    of_older_flags(rows)
     of_members(rows)
     of_supertypes(rows)
     of_order(rows)

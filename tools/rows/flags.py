@@ -25,13 +25,19 @@ def at_most_one(flags, bits):
     return bin(flags & bits).count("1") <= 1
 
 
-def class_keeps(flags):
+# The newest major version. A minor one decides no rule.
+NEWEST = 52
+
+
+def class_keeps(flags, major=NEWEST):
     if flags & INTERFACE:
-        return has_all(flags, ABSTRACT) and has_none(flags, FINAL | SUPER | ENUM)
+        has = ABSTRACT if major >= 50 else 0
+        has_not = FINAL | ENUM | (SUPER if major >= 49 else 0)
+        return has_all(flags, has) and has_none(flags, has_not)
     return has_none(flags, ANNOTATION) and not has_all(flags, FINAL | ABSTRACT)
 
 
-def field_keeps(flags, of_interface):
+def field_keeps(flags, of_interface, major=NEWEST):
     keeps = at_most_one(flags, PUBLIC | PRIVATE | PROTECTED) and not has_all(flags, FINAL | VOLATILE)
     if of_interface:
         constant = PUBLIC | STATIC | FINAL
@@ -39,20 +45,24 @@ def field_keeps(flags, of_interface):
     return keeps
 
 
-def method_keeps(flags, of_interface):
+def method_keeps(flags, of_interface, major=NEWEST):
     keeps = at_most_one(flags, PUBLIC | PRIVATE | PROTECTED)
     if flags & ABSTRACT:
-        keeps = keeps and has_none(flags, PRIVATE | STATIC | FINAL | SYNCHRONIZED | NATIVE | STRICT)
+        has_not = PRIVATE | STATIC | FINAL | NATIVE | (SYNCHRONIZED | STRICT if major >= 49 else 0)
+        keeps = keeps and has_none(flags, has_not)
     if of_interface:
-        keeps = keeps and bool(flags & PUBLIC) != bool(flags & PRIVATE)
+        if major >= 52:
+            keeps = keeps and bool(flags & PUBLIC) != bool(flags & PRIVATE)
+        else:
+            keeps = keeps and has_all(flags, PUBLIC | ABSTRACT)
         keeps = keeps and has_none(flags, PROTECTED | FINAL | SYNCHRONIZED | NATIVE)
     return keeps
 
 
-def init_keeps(flags, of_interface):
+def init_keeps(flags, of_interface, major=NEWEST):
     may_have = PUBLIC | PRIVATE | PROTECTED | VARARGS | STRICT | SYNTHETIC
-    return method_keeps(flags, of_interface) and has_none(flags, METHOD_BITS & ~may_have)
+    return method_keeps(flags, of_interface, major) and has_none(flags, METHOD_BITS & ~may_have)
 
 
-def clinit_keeps(flags, of_interface):
+def clinit_keeps(flags, of_interface, major=NEWEST):
     return True

@@ -2,8 +2,8 @@
 'Faults, and the order in which they are found')."""
 import itertools
 
-from classfile import OBJECT_FILE
-from files import F6, F7, F8, F9, bad_pool
+from classfile import OBJECT_FILE, File, cls, handle, imethodref, methodref, pair, utf8, version
+from files import F2, F6, F7, F8, F9, FINE, bad_pool, version_fault
 
 MOST = 65535
 # java/lang/Object, with a name and two descriptors for members at 3 to 5; the next index is 6.
@@ -108,6 +108,40 @@ def of_counts(rows):
     ask(rows, ["65535@field:0:3:4:0"], F8)
 
 
+# An InterfaceMethodref at 8 and a Methodref at 9; the next index is 10.
+CALLS = File(
+    pool=[utf8(b"p/A"), cls(1), utf8(b"java/lang/Object"), cls(3), utf8(b"m"), utf8(b"()V"), pair(5, 6), imethodref(2, 7),
+        methodref(2, 7)],
+    this_class=2, super_class=4,
+)
+
+
+def of_versions(rows):
+    object_words = OBJECT[:2] + ["flags:33", "this:2"]
+    rows.about("Versions of parts.")
+    for major, minor in itertools.product((0, 44, 45, 48, 51, 52, 53, 65535), (0, 1, 52, 65535)):
+        spelled = OBJECT_FILE.changed(version=version(major, minor)).bytes().hex()
+        kept = version_fault(major, minor) == FINE
+        rows.ask("parts", object_words + ["version:%d.%d" % (major, minor)], spelled if kept else F2 + " 2 2")
+    rows.about("The version comes before all else that may be wrong, also before what no width can say.")
+    for major, minor in ((53, 0), (52, 1), (44, 65535)):
+        at = ["version:%d.%d" % (major, minor)]
+        for words, count in ((["65530@integer"], 65530), (["65530@string:0"], 65530), (["double"], 1), (["unusable"], 1),
+            (["string:0"], 1), (["flags:8225"], 0), (["65536@interface:2"], 0), (["field:3:3:4:0"], 0),
+            (["method:0:3:5:65536"], 0), (["65536@attribute:1"], 0)):
+            ask(rows, at + words, F2, count)
+        ask(rows, at + ["this:1"], F2, this=1)
+    rows.about("What a handle may name: an InterfaceMethodref of kinds 6 and 7 from 52.0 on.")
+    may_name = {5: (9,), 6: (8, 9), 7: (8, 9), 8: (), 9: (8,)}
+    for at, kind, named in itertools.product(((45, 3), (51, 65535), (52, 0)), may_name, (8, 9)):
+        file = CALLS.changed(version=version(*at), more=[handle(kind, named)])
+        kept = named in may_name[kind] and (at[0] == 52 or (kind, named) not in ((6, 8), (7, 8)))
+        words = ["version:%d.%d" % at, "flags:33", "this:2", "super:4"]
+        words += [entry.shown.rstrip("'").replace(" ", ":") for entry in file.entries()]
+        rows.ask("parts", words, file.bytes().hex() if kept else bad_pool(10) + " 10 2")
+
+
 def make(rows):
     of_slots(rows)
     of_counts(rows)
+    of_versions(rows)

@@ -5,9 +5,9 @@ import itertools
 from classfile import (
     NEXT, OBJECT, THIS, THIS_TEXT, File, Member, cls, double, dynamic, fieldref, handle, imethodref, integer, long,
     method_type,
-    methodref, pair, raw, real, string, u2, utf8,
+    methodref, pair, raw, real, string, u2, utf8, version,
 )
-from files import CLASS, F3, F7, FINE, ask, bad_pool
+from files import CLASS, F3, F7, FINE, OLDER, ask, bad_pool
 from notation import repeated, word
 
 FIRST = bad_pool(NEXT)
@@ -191,6 +191,12 @@ def of_handles(rows):
         for index in range(24) if kind < 11 or kind == 255 else [METHOD]:
             ask(rows, CLASS.changed(more=NAMED + [handle(kind, index)]),
                 FINE if index in HANDLES.get(kind, []) else bad_pool(HANDLE))
+    for major, minor in OLDER:
+        rows.about("The kinds of a file of version %d.%d: 6 and 7 name a Methodref alone." % (major, minor))
+        for kind, index in itertools.product(range(11), range(15, 21)):
+            keeps = index in HANDLES.get(kind, []) and (kind not in (6, 7) or index == METHOD)
+            ask(rows, CLASS.changed(version=version(major, minor), more=NAMED + [handle(kind, index)]),
+                FINE if keeps else bad_pool(HANDLE))
 
 
 # What entries may name: at 7, 8 and 9 texts, at 10 and 11 the names and types of a field and of a method, at 12 a field.

@@ -1,6 +1,11 @@
 """Rows of lines, assembler texts and listings (docs/FORMATS.md, 'Texts', 'Assembler')."""
-from classfile import OBJECT_FILE, File, Member, cls, fieldref, imethodref, integer, methodref, pair, utf8
-from files import F6, F7, F8, F9, USE, bad_pool
+import itertools
+
+import flags as f
+from classfile import (
+    OBJECT_FILE, File, Member, cls, fieldref, imethodref, integer, methodref, pair, utf8, version,
+)
+from files import F2, F6, F7, F8, F9, FINE, USE, bad_pool, version_fault
 from notation import repeated, word
 
 CLASS = "class 0021 p/A java/lang/Object\n"
@@ -57,7 +62,8 @@ def of_bad_lines(rows):
         ("class +021 p/A -", 1), ("class 002g p/A -", 1),
         ("class 0021 p\\A -", 1), ("class 0021 p/A -\r\n", 1), ("class 0021 p/A \\u00", 1),
         ("class 0021 \u00e9 -", 1), ("Class 0021 p/A -", 1),
-        ("class\t0021 p/A -", 1), ("implements p/I", 1), ("ref int 1", 1), ("@hex", 1), ("%config", 1),
+        ("class\t0021 p/A -", 1), ("version 51 0", 1), ("version 51 0\n" + CLASS, 1),
+        ("implements p/I", 1), ("ref int 1", 1), ("@hex", 1), ("%config", 1),
     ):
         ask(rows, text, bad_line(line))
     for line in (
@@ -71,7 +77,10 @@ def of_bad_lines(rows):
         "field 0001 x\\ I", "field 0001 x \\u00g0",
         "method 0001 m", "method 0001 m ()V V", "method 001 m ()V", "method -001 m ()V", "unknown", "%script",
         "class 0021 p/A -", "field 0001 x I\r",
-        "field\t0001 x I", "ref  ",
+        "field\t0001 x I", "ref  ", "version", "version 51", "version 51 0 0", "version 51.0", "version +51 0", "version -0 0",
+        "version 51 +0", "version 51 -0", "version 65536 0", "version 51 65536", "version 000051 0", "version 51 000000",
+        "version 65588 0", "version 51 99999", "version 0x33 0", "version 51 a", "version 5_1 0", "version \\u0035 0",
+        "version \u0661 0", "version 51 0\r", "version\t51 0", "Version 51 0", "versions 51 0", "version 51 0 # note",
     ):
         ask(rows, CLASS + line, bad_line(2))
         ask(rows, "# before\n\n" + CLASS + "field 0001 y I\n   \n" + line + "\nfield 0001 z", bad_line(6))
@@ -116,6 +125,55 @@ def of_invalid(rows):
             front = "class %s p/A java/lang/Object\n" % flags
             rows.ask("entries", repeated(front.encode(), (line.encode(), 65536)), invalid(first))
     rows.ask("entries", repeated(CLASS.encode(), (b"implements p/I\n", 65535)), "6")
+
+
+def of_versions(rows):
+    rows.about("The version of a text: 52.0 where no line says another, which may stand anywhere behind the class line, once.")
+    for major, minor in itertools.product((0, 44, 45, 48, 51, 52, 53, 65535), (0, 1, 52, 65535)):
+        spelled = OBJECT_FILE.changed(version=version(major, minor)).bytes().hex()
+        kept = version_fault(major, minor) == FINE
+        ask(rows, "class 0021 java/lang/Object -\nversion %d %d" % (major, minor), spelled if kept else invalid(F2))
+    spelled = OBJECT_FILE.changed(version=version(51, 7)).bytes().hex()
+    for line in ("version 51 7", "  version  51   7  ", "version 00051 00007\n", "#\n\nversion 051 0007\n#"):
+        ask(rows, "class 0021 java/lang/Object -\n" + line, spelled)
+    lines = ["implements p/I", "field 0019 x I", "method 0401 m ()V", "ref int 7"]
+    pool = [integer(7), utf8(b"p/A"), cls(2), utf8(OBJECT), cls(4), utf8(b"p/I"), cls(6), utf8(b"x"), utf8(b"I"), utf8(b"m"),
+        utf8(b"()V")]
+    spelled = class_file(pool, 3, 5, version=version(45, 65535), interfaces=[7], fields=[Member(0x19, 8, 9)],
+        methods=[Member(0x401, 10, 11)])
+    for place in range(len(lines) + 1):
+        ask(rows, CLASS + "\n".join(lines[:place] + ["version 45 65535"] + lines[place:]), spelled)
+    rows.about("A second line is a bad one, whatever it says; a bad line comes before what a version breaks.")
+    for one, other in itertools.product(("51 0", "52 0", "53 0"), ("51 0", "52 0", "0 0", "99999 0")):
+        ask(rows, CLASS + "version %s\n#\nfield 0001 x I\nversion %s\nunknown" % (one, other), bad_line(5))
+    ask(rows, CLASS + "version 53 0\nfield 0003 x I\nversion 51", bad_line(4))
+    ask(rows, CLASS + "unknown\nversion 51 0\nversion 51 0", bad_line(2))
+    rows.about("The version comes before all else that a file may break.")
+    for text in ("class 0210 p/A java/lang/Object\n", "class 0021 p.A -\n", "class 0021 p/A -\n", CLASS + "field 0003 x I\n",
+        CLASS + "method 0001 m ()V\nmethod 0001 m ()V\n", CLASS + "ref class p.B\n"):
+        for numbers in ("53 0", "52 1", "44 65535"):
+            ask(rows, text + "version " + numbers, invalid(F2))
+    front = b"class 0021 java/lang/Object -\nversion %s 0\n"
+    rows.ask("entries", repeated(front % b"53", (b"ref int 0\n", 65533)), invalid(F2))
+    rows.ask("entries", repeated(front % b"51", (b"ref int 0\n", 65533)), invalid(bad_pool(0)))
+    rows.ask("entries", repeated(front % b"51", (b"ref int 0\n", 65532)), "65534")
+
+
+def of_judged_versions(rows):
+    rows.about("What is asked of an interface and of its methods, by the version.")
+    for flags, major in itertools.product((0x0200, 0x0201, 0x0600, 0x0601, 0x0621, 0x0221, 0x0611, 0x4601), range(45, 53)):
+        pool = [utf8(b"p/J"), cls(1), utf8(OBJECT), cls(3)]
+        spelled = class_file(pool, 2, 4, version=version(major), flags=flags)
+        text = "class %04x p/J java/lang/Object\nversion %d 0" % (flags, major)
+        ask(rows, text, spelled if f.class_keeps(flags, major) else invalid(F6))
+    some = [(b"m", flags, f.method_keeps) for flags in (0x0001, 0x0002, 0x0009, 0x0401, 0x0421, 0x0C01, 0x0402)]
+    some += [(b"<clinit>", 0x0008, f.clinit_keeps), (b"<clinit>", 0, f.clinit_keeps)]
+    some += [(b"<init>", flags, f.init_keeps) for flags in (0x0001, 0x0002, 0x0401)]
+    for (name, flags, keeps), major in itertools.product(some, range(45, 53)):
+        pool = [utf8(b"p/J"), cls(1), utf8(OBJECT), cls(3), utf8(name), utf8(b"()V")]
+        spelled = class_file(pool, 2, 4, version=version(major), flags=0x0601, methods=[Member(flags, 5, 6)])
+        text = "class 0601 p/J java/lang/Object\nmethod %04x %s ()V\nversion %d 0" % (flags, name.decode(), major)
+        ask(rows, text, spelled if keeps(flags, True, major) else invalid(F7))
 
 
 def class_file(pool, this_class, super_class, **parts):
@@ -172,6 +230,11 @@ def of_listings(rows):
     shuffled = "\n".join(["class 0021 p/Use java/lang/Object", "method 0001 b ()V", "ref int -7", "field 0001 a I"])
     listed = "class 0021 p/Use java/lang/Object | field 0001 a I | method 0001 b ()V | |"
     rows.ask("listing", text_word(shuffled), listed)
+    rows.about("The version is listed behind the class line, where it is not 52.0.")
+    for said, shows in (("51 0", "version 51 0 | "), ("00045 00003", "version 45 3 | "), ("48 65535", "version 48 65535 | "),
+        ("45 0", "version 45 0 | "), ("52 0", ""), ("00052 00000", "")):
+        rows.ask("listing", text_word(lines[0] + "\n" + lines[1] + "\nfield 0019 x I\nversion " + said),
+            lines[0] + " | " + shows + lines[1] + " | field 0019 x I | |")
 
 
 def make(rows):
@@ -179,5 +242,7 @@ def make(rows):
     of_lines(rows)
     of_bad_lines(rows)
     of_invalid(rows)
+    of_versions(rows)
+    of_judged_versions(rows)
     of_files(rows)
     of_listings(rows)

@@ -24,6 +24,9 @@ pub fn file_parts(alloc: Global, bytes: &[u8]) -> Result<String, AllocError> {
 /// The parts of a file, in order.
 fn parts_text(alloc: Global, file: &ClassFile) -> Result<String, AllocError> {
     let mut text = pool_text(alloc, file.pool())?;
+    let version = file.version();
+    let numbers = format!(in alloc; "version {} {} ", version.major, version.minor)?;
+    text.push_str(numbers.as_str())?;
     let flags = file.flags();
     let (this_class, super_class) = (file.this_class(), file.super_class());
     let this_name = show(alloc, file.this_name().bytes())?;

@@ -1,9 +1,10 @@
-//! Files made of parts. Each word adds one to those that stand, `KIND:NUMBER..`, and with `N@` before it N times.
+//! Files made of parts. Each word adds one to those that stand, `KIND:NUMBER..`, and with `N@` before it N times. The
+//! version is 52.0, or what `version:MAJOR.MINOR` says.
 
 use crate::input::{bytes_of, count_of, number};
 use crate::stop::Stop;
 use crate::texts::bytes_text;
-use cl_classfile::{Attribute, ClassFile, Entry, Member, Parts};
+use cl_classfile::{Attribute, ClassFile, Entry, Member, Parts, Version};
 use cl_lines::Words;
 use cl_names::Name;
 use std::alloc::Global;
@@ -12,6 +13,10 @@ use std::alloc::Global;
 /// the index of the class.
 pub fn made_of_parts(alloc: Global, words: Words<'_>) -> Result<String, Stop> {
     let mut parts = Parts {
+        version: Version {
+            major: 52,
+            minor: 0,
+        },
         pool: Vec::new(alloc),
         flags: 0,
         this_class: 0,
@@ -52,6 +57,7 @@ fn cut(text: &str) -> (&str, &str) {
 fn add(alloc: Global, parts: &mut Parts, word: &str) -> Result<(), Stop> {
     let (kind, rest) = cut(word);
     match kind {
+        "version" => parts.version = version(rest)?,
         "flags" => parts.flags = number(rest)?,
         "this" => parts.this_class = number(rest)?,
         "super" => parts.super_class = number(rest)?,
@@ -67,6 +73,14 @@ fn add(alloc: Global, parts: &mut Parts, word: &str) -> Result<(), Stop> {
         _ => parts.pool.push(entry(alloc, kind, rest)?)?,
     }
     Ok(())
+}
+
+fn version(text: &str) -> Result<Version, Stop> {
+    let (major, minor) = text.split_once('.').ok_or(Stop::NoRow)?;
+    Ok(Version {
+        major: number(major)?,
+        minor: number(minor)?,
+    })
 }
 
 /// A field or a method: its flags, the indices of its name and its descriptor, how many attributes of no bytes it has.
@@ -111,6 +125,30 @@ fn entry(alloc: Global, kind: &str, rest: &str) -> Result<Entry, Stop> {
         "unusable" => Ok(Entry::Unusable),
         "class" => Ok(Entry::Class(number(rest)?)),
         "string" => Ok(Entry::String(number(rest)?)),
+        _ => entry_of_two(kind, rest),
+    }
+}
+
+fn entry_of_two(kind: &str, rest: &str) -> Result<Entry, Stop> {
+    let (first, second) = cut(rest);
+    let (first, second) = (number(first)?, number(second)?);
+    match kind {
+        "pair" => Ok(Entry::NameAndType {
+            name: first,
+            descriptor: second,
+        }),
+        "methodref" => Ok(Entry::Methodref {
+            class: first,
+            name_and_type: second,
+        }),
+        "imethodref" => Ok(Entry::InterfaceMethodref {
+            class: first,
+            name_and_type: second,
+        }),
+        "handle" => Ok(Entry::MethodHandle {
+            kind: first as u8,
+            reference: second,
+        }),
         _ => Err(Stop::NoRow),
     }
 }

@@ -40,7 +40,7 @@ def assembled(lines):
             interfaces.append(words[1])
         elif words[0] in ("field", "method"):
             (fields if words[0] == "field" else methods).append(Member(int(words[1], 16), *words[2:]))
-        else:
+        elif words[0] == "ref":
             pool.append(tuple(words[1:]))
 
     def want(*entry):
@@ -74,7 +74,8 @@ def read(data):
     """The file that bytes are, or the name of the error that they load with. Of the rules of chapter 4 it looks at the layout alone."""
     if len(data) < 8 or data[:4] != b"\xca\xfe\xba\xbe":
         return "ClassFormatError"
-    if data[4:8] != b"\0\0\0\x34":
+    minor, major = struct.unpack_from(">HH", data, 4)
+    if not (45 <= major <= 51 or (major, minor) == (52, 0)):
         return "UnsupportedClassVersionError"
     try:
         return structure(data)

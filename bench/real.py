@@ -2,7 +2,7 @@
 """real.py FOLDER JAR..: real class files as directories, for the figures of docs/GATE.md.
 
   boot/         the classes of Java SE 8, from the ct.sym of the JDK whose home is JAVA_HOME (their version is set to 52.0)
-  app/          each class file of version 52.0 in the jars
+  app/          each class file of version 45.0 to 52.0 in the jars
   loaders.toml  boot, and app above it
   loads         a load of each class of app
   resolutions   60,000 references of these classes
@@ -38,6 +38,11 @@ def boot(folder):
                 write(folder, "/".join(rest[1:])[:-4], data[:4] + b"\0\0\0\x34" + data[8:])
                 count += 1
     return count
+
+
+def is_read(data):
+    minor, major = struct.unpack_from(">HH", data, 4)
+    return 45 <= major <= 51 or (major, minor) == (52, 0)
 
 
 def this_name(data):
@@ -76,7 +81,7 @@ def app(folder, jars):
             for entry in files.namelist():
                 if entry.endswith(".class") and not entry.startswith("META-INF/"):
                     data = files.read(entry)
-                    if data[:8] == b"\xca\xfe\xba\xbe\0\0\0\x34" and all(c.isalnum() or c in "/_$" for c in entry[:-6]):
+                    if is_read(data) and all(c.isalnum() or c in "/_$" for c in entry[:-6]):
                         classes.setdefault(this_name(data), data)
     for name, data in classes.items():
         write(folder, name, data)

@@ -1,9 +1,11 @@
 -- What lines say, and what they are assembled to, is one thing at most.
-use Rattle.std.proofs.Common.{◌≡◌, inl, inr, ℕ, ℤ, List, [], ◌∷◌, ◌++◌, fold, Some, None, Result, Ok, Err, codes, refl, sym, ap, subst, ◌∙◌, arith}
+use Rattle.std.proofs.Common.{◌≡◌, ◌⊎◌, inl, inr, ℕ, ◌+◌, ◌≤◌, ℤ, List, [], ◌∷◌, ◌++◌, fold, Some, None, Result, Ok, Err, codes, refl, sym, ap, subst, ◌∙◌, arith}
 use Rattle.std.specs.Prelude.{◌≢◌}
 use Rattle.cl_lines.specs.Lines.{Numbered, words_of}
+use Rattle.cl_lines.specs.Numbers.{WritesNumber}
 use Rattle.cl_names.specs.Escape.{WritesName}
 use Rattle.cl_names.proofs.Escapes.{name_alone}
+use Rattle.cl_classfile.specs.declared.version.Version as classfile
 use Rattle.cl_classfile.specs.declared.fault.Fault.{Fault}
 use Rattle.cl_classfile.specs.Structure.{Structure}
 use Rattle.cl_classfile.specs.Checking.{parts_of}
@@ -15,15 +17,16 @@ use Rattle.cl_writer.specs.declared.item.Item.TheVariants.{Text, Integer, Class,
 use Rattle.cl_writer.specs.declared.statement.ClassLine.{ClassLine}
 use Rattle.cl_writer.specs.declared.statement.MemberLine.{MemberLine}
 use Rattle.cl_writer.specs.declared.statement.Statement.{Statement}
-use Rattle.cl_writer.specs.declared.statement.Statement.TheVariants.{Implements, Field, Method, Ref}
+use Rattle.cl_writer.specs.declared.statement.Statement.TheVariants.{Implements, Field, Method, Ref, Version}
 use Rattle.cl_writer.specs.declared.fault.AssembleFault.{AssembleFault}
 use Rattle.cl_writer.specs.declared.fault.AssembleFault.TheVariants.{Memory, BadLine, Invalid}
-use Rattle.cl_writer.specs.Statements.{WritesInteger, WritesSuper, IsName, IsInteger, IsMemberLine, IsMemberName, IsClassLine, Begins, kind_word, Refers, Says}
-use Rattle.cl_writer.specs.Assemblies.{ListedClass, class_alone, with_said, AllSay, IsRest, StopsAt, IsRead, IsBadAt}
+use Rattle.cl_writer.specs.Statements.{WritesInteger, WritesSuper, IsName, IsInteger, IsMemberLine, IsMemberName, IsClassLine, IsVersion, Begins, kind_word, Refers, Says}
+use Rattle.cl_writer.specs.Assemblies.{ListedClass, class_alone, with_said, VersionAtMostOnce, AllSay, IsRest, StopsAt, IsRead, IsBadAt}
 use Rattle.cl_writer.specs.Described.{described_file}
 use Rattle.cl_writer.specs.Assembled.{IsAssembled, IsInvalid, AssembleOf}
-use Rattle.cl_writer.proofs.Rows.{first_of, second_of, third_of, head_of, only_of, letters, differs, other, behind, no_member_word}
-use Rattle.cl_writer.proofs.Words.{WritesFlags, One, Three, name_words, integer_words, member_line, member_line_words, member_name, member_name_words, class_line, class_line_words}
+use Rattle.cl_writer.proofs.Rows.{first_of, second_of, third_of, first_of_two, second_of_two, head_of, only_of, letters, differs, other, behind, no_member_word}
+use Rattle.cl_writer.proofs.Words.{WritesFlags, One, Two, Three, name_words, integer_words, version, version_words, member_line, member_line_words, member_name, member_name_words, class_line, class_line_words}
+use Rattle.cl_writer.proofs.Versions.{count, count_first, count_more}
 use Rattle.std.proofs.lemmas.Option.{same_Some}
 
 -- ---- words
@@ -44,8 +47,21 @@ one_flags text a b v w = same_Some a b (sym v ∙ w)
 one_number : Alone WritesInteger
 one_number text a b v w = v.value ∙ sym w.value
 
+one_count : Alone WritesNumber
+one_count text a b v w = v.value ∙ sym w.value
+
 one_alone : {A : Type 0} (P : List ℕ → A → Type 0) → Alone P → Alone (One P)
 one_alone P p words a b v w = p w.text a b (subst (λ s. P s a) (only_of (sym v.spelled ∙ w.spelled)) v.says) w.says
+
+same_two : {A B : Type 0} (x y : A × B) → x.0 ≡ y.0 → x.1 ≡ y.1 → x ≡ y
+same_two (a, b) (x, y) e f = cc
+
+two_alone : {A B : Type 0} (P : List ℕ → A → Type 0) (Q : List ℕ → B → Type 0) → Alone P → Alone Q → Alone (Two P Q)
+two_alone P Q p q words x y v w =
+    let texts = sym v.spelled ∙ w.spelled in
+    same_two x y
+    (p w.first x.0 y.0 (subst (λ s. P s x.0) (first_of_two texts) v.one) w.one)
+    (q w.second x.1 y.1 (subst (λ s. Q s x.1) (second_of_two texts) v.two) w.two)
 
 same_three : {A B C : Type 0} (x y : A × B × C) → x.0 ≡ y.0 → x.1 ≡ y.1 → x.2 ≡ y.2 → x ≡ y
 same_three (a, b, c) (x, y, z) e f g = cc
@@ -66,6 +82,9 @@ one_word words a b v w = one_alone WritesName name_alone words a b (name_words w
 
 one_integer : Alone IsInteger
 one_integer words a b v w = one_alone WritesInteger one_number words a b (integer_words words a v) (integer_words words b w)
+
+one_version : Alone IsVersion
+one_version words a b v w = ap version (two_alone WritesNumber WritesNumber one_count one_count words _ _ (version_words words a v) (version_words words b w))
 
 one_member_line : Alone IsMemberLine
 one_member_line words a b v w = ap member_line (three_alone WritesFlags WritesName WritesName one_flags name_alone name_alone words _ _ (member_line_words words a v) (member_line_words words b w))
@@ -115,6 +134,7 @@ one_statement words (Implements m) (Implements n) v w = ap (λ (x : List ℕ). I
 one_statement words (Field m) (Field n) v w = ap (λ (x : MemberLine). Field x) (begun_alone IsMemberLine (codes "field") one_member_line words m n v w)
 one_statement words (Method m) (Method n) v w = ap (λ (x : MemberLine). Method x) (begun_alone IsMemberLine (codes "method") one_member_line words m n v w)
 one_statement words (Ref m) (Ref n) v w = ap (λ (x : Item). Ref x) (begun_alone Refers (codes "ref") one_item words m n v w)
+one_statement words (Version m) (Version n) v w = ap (λ (x : classfile.Version). Version x) (begun_alone IsVersion (codes "version") one_version words m n v w)
 one_statement words a b v w = absurd (other _ _ w.spelled (differs _ _ (λ h. absurd (omega arith))) v)
 
 -- ---- texts
@@ -139,15 +159,14 @@ one_listed (l ∷ ls) a b v w =
     let same : a.class ≡ b.class = one_class_line (words_of l.text) a.class b.class v.0 w.0 in
     one_rest b.class ls a b (subst (λ c. IsRest c ls a) same v.1) w.1
 
--- ---- the first line that says nothing
+-- ---- the first line that is wrong
 
--- a line that says nothing
-Bad : Numbered → Type 0
-Bad line = (s : Statement) → Says (words_of line.text) s → ⊥
+-- a line that says nothing, or a version behind so many
+Bad : ℕ → Numbered → Type 0
+Bad before line = (s : Statement) → Says (words_of line.text) s → before + count (s ∷ []) ≤ 1 → ⊥
 
-not_bad : (s t : Numbered) (a : Statement) → s ≡ t → Says (words_of s.text) a → Bad t → ⊥
-unfolding Bad
-not_bad s t a e v bad = bad a (subst (λ (l : Numbered). Says (words_of l.text) a) e v)
+bad_at : (before after : ℕ) (s t : Numbered) → before ≡ after → s ≡ t → Bad before s → Bad after t
+bad_at before after s t e f bad = rw (e, f) at bad
 
 first_line : (s t : Numbered) (ls ms : List Numbered) → s ∷ ls ≡ t ∷ ms → s ≡ t
 first_line s t ls ms e = cc
@@ -155,32 +174,59 @@ first_line s t ls ms e = cc
 other_lines : (s t : Numbered) (ls ms : List Numbered) → s ∷ ls ≡ t ∷ ms → ls ≡ ms
 other_lines s t ls ms e = cc
 
-one_stop : (front before : List Numbered) (s t : Numbered) (behind after : List Numbered) (ss ts : List Statement)
-    → front ++ s ∷ behind ≡ before ++ t ∷ after → AllSay front ss → AllSay before ts → Bad s → Bad t → s ≡ t
-one_stop [] [] s t behind after ss ts e v w bad worse = first_line s t behind after e
-one_stop [] (m ∷ ms) s t behind after ss [] e v w bad worse = absurd w
-one_stop [] (m ∷ ms) s t behind after ss (b ∷ ts) e v w bad worse = absurd (not_bad m s b (sym (first_line s m behind (ms ++ t ∷ after) e)) w.0 bad)
-one_stop (l ∷ ls) before s t behind after [] ts e v w bad worse = absurd v
-one_stop (l ∷ ls) [] s t behind after (a ∷ ss) ts e v w bad worse = absurd (not_bad l t a (first_line l t (ls ++ s ∷ behind) after e) v.0 worse)
-one_stop (l ∷ ls) (m ∷ ms) s t behind after (a ∷ ss) [] e v w bad worse = absurd w
-one_stop (l ∷ ls) (m ∷ ms) s t behind after (a ∷ ss) (b ∷ ts) e v w bad worse = one_stop ls ms s t behind after ss ts (other_lines l m (ls ++ s ∷ behind) (ms ++ t ∷ after) e) v.1 w.1 bad worse
+-- where one that is bad stands, not all lines say something, behind so many versions
+all_but : (n : ℕ) (front : List Numbered) (s : Numbered) (behind : List Numbered) (ss ts : List Statement)
+    → AllSay (front ++ s ∷ behind) ss → n + count ss ≤ 1 → AllSay front ts → Bad (n + count ts) s → ⊥
+unfolding Bad
+all_but n [] s behind [] ts v once w bad = v
+all_but n [] s behind (a ∷ ss) [] v once w bad = bad a v.0 (omega (arith, count_first a ss, count_first a []))
+all_but n [] s behind (a ∷ ss) (b ∷ ts) v once w bad = w
+all_but n (l ∷ ls) s behind [] ts v once w bad = v
+all_but n (l ∷ ls) s behind (a ∷ ss) [] v once w bad = w
+all_but n (l ∷ ls) s behind (a ∷ ss) (b ∷ ts) v once w bad =
+    let same : count (a ∷ []) ≡ count (b ∷ []) = ap (λ (x : Statement). count (x ∷ [])) (one_statement (words_of l.text) a b v.0 w.0) in
+    all_but (n + count (a ∷ [])) ls s behind ss ts v.1 (omega (arith, count_first a ss)) w.1 (bad_at (n + count (b ∷ ts)) _ s s (omega (arith, same, count_first b ts)) refl bad)
+
+none_bad : (front : List Numbered) (s : Numbered) (behind : List Numbered) (ss ts : List Statement)
+    → AllSay (front ++ s ∷ behind) ss → VersionAtMostOnce ss → AllSay front ts → Bad (count ts) s → ⊥
+none_bad front s behind ss ts v once w bad = all_but 0 front s behind ss ts v (omega (arith, once)) w (bad_at (count ts) (0 + count ts) s s (omega arith) refl bad)
+
+-- the one line stands before the other, or they are the same
+Places : (front before : List Numbered) (s t : Numbered) → Type 0
+Places front before s t = (s ≡ t) ⊎ (((more : List Numbered) × (before ≡ front ++ s ∷ more)) ⊎ ((more : List Numbered) × (front ≡ before ++ t ∷ more)))
+
+places : (front before : List Numbered) (s t : Numbered) (behind after : List Numbered) → front ++ s ∷ behind ≡ before ++ t ∷ after → Places front before s t
+unfolding Places
+places [] [] s t behind after e = inl (first_line s t behind after e)
+places [] (m ∷ ms) s t behind after e = inr (inl (ms, ap (λ (l : Numbered). l ∷ ms) (sym (first_line s m behind (ms ++ t ∷ after) e))))
+places (l ∷ ls) [] s t behind after e = inr (inr (ls, ap (λ (m : Numbered). m ∷ ls) (first_line l t (ls ++ s ∷ behind) after e)))
+places (l ∷ ls) (m ∷ ms) s t behind after e = further (first_line l m _ _ e) (places ls ms s t behind after (other_lines l m _ _ e))
+  where
+    further : l ≡ m → Places ls ms s t → Places (l ∷ ls) (m ∷ ms) s t
+    further f (inl g) = inl g
+    further f (inr (inl g)) = inr (inl (g.0, ap (λ (x : Numbered). x ∷ ms) (sym f) ∙ ap (λ (r : List Numbered). l ∷ r) g.1))
+    further f (inr (inr g)) = inr (inr (g.0, ap (λ (x : Numbered). x ∷ ls) f ∙ ap (λ (r : List Numbered). m ∷ r) g.1))
+
+bad_stop : (lines : List Numbered) (n : ℕ) (v : StopsAt lines n) → Bad (count v.statements) v.line
+unfolding Bad
+bad_stop lines n v s says once = v.bad s says (omega (arith, count_more v.statements s, count_first s []))
+
+-- a line that is bad does not stand among those before another
+not_before : (lines : List Numbered) (m n : ℕ) (v : StopsAt lines m) (w : StopsAt lines n) (more : List Numbered) → w.front ≡ v.front ++ v.line ∷ more → ⊥
+not_before lines m n v w more e =
+    none_bad v.front v.line more w.statements v.statements (subst (λ (ls : List Numbered). AllSay ls w.statements) e w.said) w.once v.said (bad_stop lines m v)
 
 one_place : (lines : List Numbered) (m n : ℕ) → StopsAt lines m → StopsAt lines n → m ≡ n
-unfolding Bad
+unfolding Places
 one_place lines m n v w =
-    v.is ∙ ap (λ (l : Numbered). l.number) (one_stop v.front w.front v.line w.line v.behind w.behind v.statements w.statements (sym v.cut ∙ w.cut) v.said w.said v.bad w.bad) ∙ sym w.is
-
-all_but : (front : List Numbered) (s : Numbered) (behind : List Numbered) (ss : List Statement) → AllSay (front ++ s ∷ behind) ss → Bad s → ⊥
-unfolding Bad
-all_but [] s behind [] v bad = v
-all_but [] s behind (a ∷ ss) v bad = bad a v.0
-all_but (l ∷ ls) s behind [] v bad = v
-all_but (l ∷ ls) s behind (a ∷ ss) v bad = all_but ls s behind ss v.1 bad
+    elim (places v.front w.front v.line w.line v.behind w.behind (sym v.cut ∙ w.cut)) [
+      | inl e ↦ v.is ∙ ap (λ (l : Numbered). l.number) e ∙ sym w.is
+      | inr p ↦ elim p [ inl q ↦ absurd (not_before lines m n v w q.0 q.1) | inr q ↦ absurd (not_before lines n m w v q.0 q.1) ]
+    ]
 
 -- lines that all say something stop nowhere
 goes_on : (class : ClassLine) (lines : List Numbered) (a : ListedClass) (n : ℕ) → IsRest class lines a → StopsAt lines n → ⊥
-unfolding Bad
-goes_on class lines a n v w = all_but w.front w.line w.behind v.statements (subst (λ (ls : List Numbered). AllSay ls v.statements) w.cut v.said) w.bad
+goes_on class lines a n v w = none_bad w.front w.line w.behind v.statements w.statements (subst (λ (ls : List Numbered). AllSay ls v.statements) w.cut v.said) v.once w.said (bad_stop lines n w)
 
 -- lines that are read have no line that is wrong
 read_or_bad : (lines : List Numbered) (a : ListedClass) (n : ℕ) → IsRead lines a → IsBadAt lines n → ⊥

@@ -1,11 +1,13 @@
 -- Each text has an answer: what a line says is found, or that it says nothing.
-use Rattle.std.proofs.Common.{◌≡◌, ◌⊎◌, inl, inr, ℕ, ◌^◌, ◌<◌, eqb, ltb, List, [], ◌∷◌, length, fold, Option, Some, None, Result, Ok, Err, codes, refl, sym, ap, subst, ◌∙◌, arith}
+use Rattle.std.proofs.Common.{◌≡◌, ◌⊎◌, inl, inr, ℕ, ◌^◌, ◌<◌, ◌≤◌, eqb, ltb, List, [], ◌∷◌, length, Option, Some, None, Result, Ok, Err, codes, refl, sym, ap, subst, ◌∙◌, arith}
 use Rattle.std.specs.Prelude.{◌≢◌, slice_index}
 use Rattle.std.specs.Char.{digit_value}
-use Rattle.std.specs.Str.Parse.{AllDigits, IsNumeral, without_leading_sign, signed_digits_value}
+use Rattle.std.specs.Str.Parse.{AllDigits, IsNumeral, without_leading_sign, digits_value, signed_digits_value}
 use Rattle.std.proofs.lemmas.Bool.{cases_Bool, eqb-true, ltb-true, lt-ltb, false≢true}
 use Rattle.std.proofs.lemmas.Bool.Decides.{nat_tests}
 use Rattle.cl_lines.specs.Lines.{Numbered, words_of}
+use Rattle.cl_lines.specs.Numbers.{WritesNumber}
+use Rattle.cl_lines.specs.declared.number.TheConstants.{MOST_NUMBER}
 use Rattle.cl_names.specs.Escape.{WritesName, unescaped_name}
 use Rattle.cl_names.proofs.Escapes.{unescaped_from, unescaped_of}
 use Rattle.cl_classfile.specs.declared.fault.Fault.{Fault}
@@ -19,18 +21,18 @@ use Rattle.cl_writer.specs.declared.item.MemberKind.TheVariants as kinds
 use Rattle.cl_writer.specs.declared.item.MemberName.{MemberName}
 use Rattle.cl_writer.specs.declared.item.Item.TheVariants.{Text, Integer, Class, NameAndType, Member}
 use Rattle.cl_writer.specs.declared.statement.ClassLine.{ClassLine}
-use Rattle.cl_writer.specs.declared.statement.Statement.{Statement}
-use Rattle.cl_writer.specs.declared.statement.Statement.TheVariants.{Implements, Field, Method, Ref}
+use Rattle.cl_writer.specs.declared.statement.Statement.TheVariants.{Implements, Field, Method, Ref, Version}
 use Rattle.cl_writer.specs.declared.fault.AssembleFault.{AssembleFault}
 use Rattle.cl_writer.specs.declared.fault.AssembleFault.TheVariants.{Memory, BadLine, Invalid}
-use Rattle.cl_writer.specs.Statements.{hex_flags, WritesInteger, WritesSuper, IsName, IsInteger, IsMemberLine, IsMemberName, IsClassLine, Begins, kind_word, Refers, Says}
-use Rattle.cl_writer.specs.Assemblies.{ListedClass, class_alone, with_said, AllSay, IsRest, StopsAt, IsRead, IsBadAt}
+use Rattle.cl_writer.specs.Statements.{hex_flags, WritesInteger, WritesSuper, IsName, IsInteger, IsMemberLine, IsMemberName, IsClassLine, IsVersion, Begins, kind_word, Refers, Says}
+use Rattle.cl_writer.specs.Assemblies.{ListedClass, class_alone, with_said, IsRest, StopsAt, IsRead, IsBadAt}
 use Rattle.cl_writer.specs.Described.{described_file}
 use Rattle.cl_writer.specs.Listings.{listing_of}
 use Rattle.cl_writer.specs.Assembled.{IsAssembled, AssembleOf}
-use Rattle.cl_writer.proofs.Rows.{first_of, second_of, third_of, head_of, only_of, behind, no_super}
-use Rattle.cl_writer.proofs.Words.{WritesFlags, One, Three, name_words, integer_words, member_line, member_line_words, member_name, member_name_words, class_line, class_line_words}
-use Rattle.cl_writer.proofs.Gathered.{class_stays}
+use Rattle.cl_writer.proofs.Rows.{first_of, second_of, third_of, first_of_two, second_of_two, head_of, only_of, behind, no_super}
+use Rattle.cl_writer.proofs.Words.{WritesFlags, One, Two, Three, name_words, integer_words, version, version_words, member_line, member_line_words, member_name, member_name_words, class_line, class_line_words}
+use Rattle.cl_writer.proofs.Gathered.{IsReadSoFar, none_read, more_read, stops_here, second_here, whole_read, same_class}
+use Rattle.cl_writer.proofs.Versions.{is_second}
 use Rattle.cl_writer.proofs.Standing.{printed_so}
 
 -- P holds of nothing
@@ -53,6 +55,9 @@ nat_cases a b = elim (cases_Bool (eqb a b)) [ inl h ↦ inl (eqb-true a b h) | i
 
 less_cases : (a b : ℕ) → (a < b) ⊎ (a < b → ⊥)
 less_cases a b = elim (cases_Bool (ltb a b)) [ inl h ↦ inl (ltb-true a b h) | inr h ↦ inr (λ e. false≢true (sym h ∙ lt-ltb a b e)) ]
+
+not_less : {a b : ℕ} → (a < b → ⊥) → b ≤ a
+not_less {a} {b} none = elim (less_cases a b) [ inl h ↦ absurd (none h) | inr h ↦ omega arith ]
 
 same_word : (a b : ℕ) (xs ys : List ℕ) → a ≡ b → xs ≡ ys → a ∷ xs ≡ b ∷ ys
 same_word a b xs ys e f = cc
@@ -128,6 +133,18 @@ number_found text =
       ]
     ]
 
+count_found : (text : List ℕ) → Finds (WritesNumber text)
+count_found text = elim (numeral_found text) [
+  | inr none ↦ inr (λ n w. none w.digits)
+  | inl digits ↦ elim (less_cases 5 (length text)) [
+    | inl long ↦ inr (λ n w. absurd (omega (arith, w.few)))
+    | inr few ↦ elim (less_cases MOST_NUMBER (digits_value 10 text)) [
+      | inl large ↦ inr (λ n w. absurd (omega (arith, w.value, w.fits)))
+      | inr fits ↦ inl (digits_value 10 text, record { digits = digits; few = not_less few; value = refl; fits = not_less fits })
+    ]
+  ]
+]
+
 -- ---- what words say
 
 one_found : {A : Type 0} (P : List ℕ → A → Type 0) → ((text : List ℕ) → Finds (P text)) → (words : List (List ℕ)) → Finds (One P words)
@@ -136,6 +153,18 @@ one_found P found (text ∷ []) =
     found_as (P text) (One P (text ∷ [])) (λ a. a) (λ a w. record { text = text; spelled = refl; says = w })
     (λ none a t. none a (subst (λ s. P s a) (sym (only_of t.spelled)) t.says)) (found text)
 one_found P found (text ∷ next ∷ more) = inr (λ a t. absurd cc)
+
+two_found : {A B : Type 0} (P : List ℕ → A → Type 0) (Q : List ℕ → B → Type 0) → ((text : List ℕ) → Finds (P text)) → ((text : List ℕ) → Finds (Q text)) → (words : List (List ℕ)) → Finds (Two P Q words)
+two_found P Q p q [] = inr (λ said t. absurd cc)
+two_found P Q p q (a ∷ []) = inr (λ said t. absurd cc)
+two_found P Q p q (a ∷ b ∷ []) = elim (p a) [
+  | inr none ↦ inr (λ said t. none said.0 (subst (λ w. P w said.0) (sym (first_of_two t.spelled)) t.one))
+  | inl x ↦ elim (q b) [
+    | inr none ↦ inr (λ said t. none said.1 (subst (λ w. Q w said.1) (sym (second_of_two t.spelled)) t.two))
+    | inl y ↦ inl ((x.0, y.0), record { first = a; second = b; spelled = refl; one = x.1; two = y.1 })
+  ]
+]
+two_found P Q p q (a ∷ b ∷ c ∷ more) = inr (λ said t. absurd cc)
 
 three_found : {A B C : Type 0} (P : List ℕ → A → Type 0) (Q : List ℕ → B → Type 0) (R : List ℕ → C → Type 0)
     → ((text : List ℕ) → Finds (P text)) → ((text : List ℕ) → Finds (Q text)) → ((text : List ℕ) → Finds (R text)) → (words : List (List ℕ)) → Finds (Three P Q R words)
@@ -172,6 +201,11 @@ integer_found : (words : List (List ℕ)) → Finds (IsInteger words)
 integer_found words =
     found_as (One WritesInteger words) (IsInteger words) (λ n. n) (λ n t. record { text = t.text; spelled = t.spelled; writes = t.says })
     (λ none n t. none n (integer_words words n t)) (one_found WritesInteger number_found words)
+
+version_found : (words : List (List ℕ)) → Finds (IsVersion words)
+version_found words =
+    found_as (Two WritesNumber WritesNumber words) (IsVersion words) version (λ said t. record { major_text = t.first; minor_text = t.second; spelled = t.spelled; major = t.one; minor = t.two })
+    (λ none v t. none (v.major, v.minor) (version_words words v t)) (two_found WritesNumber WritesNumber count_found count_found words)
 
 member_line_found : (words : List (List ℕ)) → Finds (IsMemberLine words)
 member_line_found words =
@@ -225,11 +259,12 @@ item_found words = elim (begun_found IsName (codes "class") word_found words) [
 ]
 
 -- words that say nothing of any kind say nothing
-no_statement : (words : List (List ℕ)) → NoneOf (λ n. Says words (Implements n)) → NoneOf (λ l. Says words (Field l)) → NoneOf (λ l. Says words (Method l)) → NoneOf (λ i. Says words (Ref i)) → NoneOf (Says words)
-no_statement words a b c d (Implements n) t = a n t
-no_statement words a b c d (Field l) t = b l t
-no_statement words a b c d (Method l) t = c l t
-no_statement words a b c d (Ref i) t = d i t
+no_statement : (words : List (List ℕ)) → NoneOf (λ n. Says words (Implements n)) → NoneOf (λ l. Says words (Field l)) → NoneOf (λ l. Says words (Method l)) → NoneOf (λ i. Says words (Ref i)) → NoneOf (λ v. Says words (Version v)) → NoneOf (Says words)
+no_statement words a b c d e (Implements n) t = a n t
+no_statement words a b c d e (Field l) t = b l t
+no_statement words a b c d e (Method l) t = c l t
+no_statement words a b c d e (Ref i) t = d i t
+no_statement words a b c d e (Version v) t = e v t
 
 statement_found : (words : List (List ℕ)) → Finds (Says words)
 statement_found words = elim (begun_found IsName (codes "implements") word_found words) [
@@ -240,7 +275,10 @@ statement_found words = elim (begun_found IsName (codes "implements") word_found
       | inl l ↦ inl (Method l.0, l.1)
       | inr c ↦ elim (begun_found Refers (codes "ref") item_found words) [
         | inl i ↦ inl (Ref i.0, i.1)
-        | inr d ↦ inr (no_statement words a b c d)
+        | inr d ↦ elim (begun_found IsVersion (codes "version") version_found words) [
+          | inl v ↦ inl (Version v.0, v.1)
+          | inr e ↦ inr (no_statement words a b c d e)
+        ]
       ]
     ]
   ]
@@ -248,29 +286,29 @@ statement_found words = elim (begun_found IsName (codes "implements") word_found
 
 -- ---- what the lines of a text say
 
-rest_found : (lines : List Numbered) → ((ss : List Statement) × AllSay lines ss) ⊎ ((n : ℕ) × StopsAt lines n)
-rest_found [] = inl ([], tt)
-rest_found (l ∷ ls) =
+rest_found : (class : ClassLine) (lines left : List Numbered) (listed : ListedClass) → IsReadSoFar class lines left listed → ((a : ListedClass) × IsRest class lines a) ⊎ ((n : ℕ) × StopsAt lines n)
+rest_found class lines [] listed t = inl (listed, whole_read class lines [] listed t refl)
+rest_found class lines (l ∷ ls) listed t =
     elim (statement_found (words_of l.text)) [
-      | inr bad ↦ inr (l.number, record { front = []; line = l; behind = ls; statements = []; cut = refl; said = tt; bad = bad; is = refl })
-      | inl s ↦ elim (rest_found ls) [
-        | inl more ↦ inl (s.0 ∷ more.0, (s.1, more.1))
-        | inr n ↦ inr (n.0, record { front = l ∷ n.1.front; line = n.1.line; behind = n.1.behind; statements = s.0 ∷ n.1.statements; cut = ap (λ (r : List Numbered). l ∷ r) n.1.cut; said = (s.1, n.1.said); bad = n.1.bad; is = n.1.is })
+      | inr bad ↦ inr (l.number, stops_here class lines (l ∷ ls) ls listed l t refl (λ s says. absurd (bad s says)))
+      | inl s ↦ elim (cases_Bool (is_second listed s.0)) [
+        | inl second ↦ inr (l.number, second_here class lines (l ∷ ls) ls listed l s.0 t refl s.1 second)
+        | inr first ↦ rest_found class lines ls (with_said listed s.0) (more_read class lines (l ∷ ls) ls listed (with_said listed s.0) l s.0 t refl s.1 first refl)
       ]
     ]
 
-all_read : (l : Numbered) (ls : List Numbered) (class : ClassLine) (ss : List Statement) → IsClassLine (words_of l.text) class → AllSay ls ss → IsRead (l ∷ ls) (fold with_said (class_alone class) ss)
-all_read l ls class ss here more =
-    let same = sym (class_stays (class_alone class) ss) in
-    (subst (λ k. IsClassLine (words_of l.text) k) same here, subst (λ k. IsRest k ls (fold with_said (class_alone class) ss)) same (record { statements = ss; said = more; is = refl }))
+all_read : (l : Numbered) (ls : List Numbered) (class : ClassLine) (a : ListedClass) → IsClassLine (words_of l.text) class → IsRest class ls a → IsRead (l ∷ ls) a
+all_read l ls class a here more =
+    let same : class ≡ a.class = sym (same_class class ls a more) in
+    (subst (λ k. IsClassLine (words_of l.text) k) same here, subst (λ k. IsRest k ls a) same more)
 
 lines_found : (lines : List Numbered) → ((a : ListedClass) × IsRead lines a) ⊎ ((n : ℕ) × IsBadAt lines n)
 lines_found [] = inr (0, refl)
 lines_found (l ∷ ls) =
     elim (class_line_found (words_of l.text)) [
       | inr none ↦ inr (l.number, inl (refl, none))
-      | inl class ↦ elim (rest_found ls) [
-        | inl more ↦ inl (fold with_said (class_alone class.0) more.0, all_read l ls class.0 more.0 class.1 more.1)
+      | inl class ↦ elim (rest_found class.0 ls ls (class_alone class.0) (none_read class.0 ls)) [
+        | inl more ↦ inl (more.0, all_read l ls class.0 more.0 class.1 more.1)
         | inr n ↦ inr (n.0, inr ((class.0, class.1), n.1))
       ]
     ]

@@ -8,5 +8,6 @@ pub mod Pages
 pub mod Printed
 pub mod Rows
 pub mod Standing
+pub mod Versions
 pub mod Wanted
 pub mod Words

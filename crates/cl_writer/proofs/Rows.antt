@@ -1,6 +1,8 @@
 -- Lines that say nothing.
 use Rattle.std.proofs.Common.{◌≡◌, ℕ, ◌+◌, ◌*◌, ℤ, List, [], ◌∷◌, Option, Some, None, Result, Ok, Err, codes, sym, ap, subst, ◌∙◌, arith}
+use Rattle.cl_lines.specs.Numbers.{WritesNumber}
 use Rattle.cl_names.specs.Escape.{WritesName}
+use Rattle.cl_classfile.specs.declared.version.Version as classfile
 use Rattle.cl_writer.specs.declared.item.MemberKind.{MemberKind}
 use Rattle.cl_writer.specs.declared.item.MemberKind.TheVariants as kinds
 use Rattle.cl_writer.specs.declared.item.MemberName.{MemberName}
@@ -9,8 +11,8 @@ use Rattle.cl_writer.specs.declared.item.Item.TheVariants.{Text, Integer, Class,
 use Rattle.cl_writer.specs.declared.statement.ClassLine.{ClassLine}
 use Rattle.cl_writer.specs.declared.statement.MemberLine.{MemberLine}
 use Rattle.cl_writer.specs.declared.statement.Statement.{Statement}
-use Rattle.cl_writer.specs.declared.statement.Statement.TheVariants.{Implements, Field, Method, Ref}
-use Rattle.cl_writer.specs.Statements.{WritesSuper, IsName, IsInteger, IsMemberLine, IsMemberName, IsClassLine, Begins, kind_word, Refers, Says}
+use Rattle.cl_writer.specs.declared.statement.Statement.TheVariants.{Implements, Field, Method, Ref, Version}
+use Rattle.cl_writer.specs.Statements.{WritesSuper, IsName, IsInteger, IsMemberLine, IsMemberName, IsClassLine, IsVersion, Begins, kind_word, Refers, Says}
 use Rattle.cl_names.specs.Truth.{Reads}
 
 -- ---- a word that writes nothing
@@ -27,6 +29,12 @@ second_of h = cc
 
 pub third_of : {a b c d e f : List ℕ} → a ∷ b ∷ c ∷ [] ≡ d ∷ e ∷ f ∷ [] → c ≡ f
 third_of h = cc
+
+pub first_of_two : {a b d e : List ℕ} → a ∷ b ∷ [] ≡ d ∷ e ∷ [] → a ≡ d
+first_of_two h = cc
+
+pub second_of_two : {a b d e : List ℕ} → a ∷ b ∷ [] ≡ d ∷ e ∷ [] → b ≡ e
+second_of_two h = cc
 
 pub tail_of : {a b : List ℕ} {xs ys : List (List ℕ)} → a ∷ xs ≡ b ∷ ys → xs ≡ ys
 tail_of h = cc
@@ -46,6 +54,16 @@ no_line_name words flags name descriptor e none line t = along line.name (second
 
 pub no_line_descriptor : (words : List (List ℕ)) (flags name descriptor : List ℕ) → words ≡ flags ∷ name ∷ descriptor ∷ [] → NoName descriptor → (line : MemberLine) → IsMemberLine words line → ⊥
 no_line_descriptor words flags name descriptor e none line t = along line.descriptor (third_of (sym t.spelled ∙ e)) none t.descriptor
+
+-- a text that no number writes
+abbrev pub NoNumber : List ℕ → Type 0
+NoNumber text = (n : ℕ) → WritesNumber text n → ⊥
+
+pub no_major : (words : List (List ℕ)) (major minor : List ℕ) → words ≡ major ∷ minor ∷ [] → NoNumber major → (v : classfile.Version) → IsVersion words v → ⊥
+no_major words major minor e none v t = none v.major (subst (λ w. WritesNumber w v.major) (first_of_two (sym t.spelled ∙ e)) t.major)
+
+pub no_minor : (words : List (List ℕ)) (major minor : List ℕ) → words ≡ major ∷ minor ∷ [] → NoNumber minor → (v : classfile.Version) → IsVersion words v → ⊥
+no_minor words major minor e none v t = none v.minor (subst (λ w. WritesNumber w v.minor) (second_of_two (sym t.spelled ∙ e)) t.minor)
 
 pub no_member_class : (words : List (List ℕ)) (class name descriptor : List ℕ) → words ≡ class ∷ name ∷ descriptor ∷ [] → NoName class → (m : MemberName) → IsMemberName words m → ⊥
 no_member_class words class name descriptor e none m t = along m.class (first_of (sym t.spelled ∙ e)) none t.class
@@ -114,6 +132,11 @@ pub no_ref : (words rest : List (List ℕ)) → words ≡ codes "ref" ∷ rest �
 unfolding letters
 no_ref words rest e none (Ref i) t = none i (behind e t)
 no_ref words rest e none s t = other _ _ e (differs _ _ (λ h. absurd (omega arith))) t
+
+pub no_version : (words rest : List (List ℕ)) → words ≡ codes "version" ∷ rest → ((v : classfile.Version) → IsVersion rest v → ⊥) → (s : Statement) → Says words s → ⊥
+unfolding letters
+no_version words rest e none (Version v) t = none v (behind e t)
+no_version words rest e none s t = other _ _ e (differs _ _ (λ h. absurd (omega arith))) t
 
 pub no_ref_class : (words rest : List (List ℕ)) → words ≡ codes "class" ∷ rest → ((n : List ℕ) → IsName rest n → ⊥) → (i : Item) → Refers words i → ⊥
 unfolding letters

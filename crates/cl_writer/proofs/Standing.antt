@@ -12,10 +12,10 @@ use Rattle.cl_writer.specs.declared.item.Item.{Item}
 use Rattle.cl_writer.specs.declared.item.Item.TheVariants.{Text, Class}
 use Rattle.cl_writer.specs.declared.statement.ClassLine.{ClassLine}
 use Rattle.cl_writer.specs.declared.statement.MemberLine.{MemberLine}
-use Rattle.cl_writer.specs.Assemblies.{ListedClass}
+use Rattle.cl_writer.specs.Assemblies.{ListedClass, version_of}
 use Rattle.cl_writer.specs.Items.{same_item, index_from, index_of, index, with_item, class_wanted, line_wanted, wanted_items, all_wanted, items_of}
 use Rattle.cl_writer.specs.Described.{entry_of, member_of, super_index, described_file}
-use Rattle.cl_writer.specs.Listings.{printed_name, printed_type, printed_super, class_line, implements_line, member_line, listing_of, super_text, class_text, implements_text, member_text, listed_lines}
+use Rattle.cl_writer.specs.Listings.{printed_name, printed_type, printed_super, class_lines, version_line, implements_line, member_line, listing_of, super_text, class_text, implements_text, member_text, listed_lines}
 use Rattle.cl_writer.proofs.Indexed.{same_says, same_self, index_more, some_is}
 use Rattle.std.specs.Option.{option_or}
 
@@ -153,8 +153,8 @@ printed_so l =
     let above = split P (flat_map class_wanted (option_to_list l.class.superclass)) _ class.1 in
     let interfaces = split P (flat_map class_wanted l.interfaces) _ above.1 in
     let members = split P (flat_map line_wanted l.fields) (flat_map line_wanted l.methods) interfaces.1 in
-    joined (class_line (described_file l)) (class_text l.class) _ _ _ _ _ _
-    (class_line_named items l.class class.0 above.0)
+    joined (class_lines (described_file l)) (class_text l.class ++ version_line (version_of l)) _ _ _ _ _ _
+    (ap (λ t. t ++ version_line (version_of l)) (class_line_named items l.class class.0 above.0))
     (interfaces_named items l.interfaces (each P class_wanted l.interfaces interfaces.0))
     (members_named items (codes "field ") l.fields (each P line_wanted l.fields members.0))
     (members_named items (codes "method ") l.methods (each P line_wanted l.methods members.1))

@@ -1,10 +1,12 @@
--- Lines of one word, of three words, and of words behind a keyword, by what each word says.
+-- Lines of one word, of two words, of three words, and of words behind a keyword, by what each word says.
 use Rattle.std.proofs.Common.{◌≡◌, ℕ, ℤ, List, [], ◌∷◌, Option, Some, codes, refl}
+use Rattle.cl_lines.specs.Numbers.{WritesNumber}
 use Rattle.cl_names.specs.Escape.{WritesName}
+use Rattle.cl_classfile.specs.declared.version.Version as classfile
 use Rattle.cl_writer.specs.declared.item.MemberName.{MemberName}
 use Rattle.cl_writer.specs.declared.statement.ClassLine.{ClassLine}
 use Rattle.cl_writer.specs.declared.statement.MemberLine.{MemberLine}
-use Rattle.cl_writer.specs.Statements.{hex_flags, WritesInteger, WritesSuper, IsName, IsInteger, IsMemberLine, IsMemberName, IsClassLine, Begins}
+use Rattle.cl_writer.specs.Statements.{hex_flags, WritesInteger, WritesSuper, IsName, IsInteger, IsMemberLine, IsMemberName, IsClassLine, IsVersion, Begins}
 
 -- four hexadecimal digits write these flags
 abbrev pub WritesFlags : List ℕ → ℕ → Type 0
@@ -15,6 +17,14 @@ pub record One {A : Type 0} (P : List ℕ → A → Type 0) (words : List (List 
   pub text : List ℕ
   pub spelled : words ≡ text ∷ []
   pub says : P text said
+
+-- the two words say these, where P and Q say what the first and the second says
+pub record Two {A B : Type 0} (P : List ℕ → A → Type 0) (Q : List ℕ → B → Type 0) (words : List (List ℕ)) (said : A × B) : Type 0 where
+  pub first : List ℕ
+  pub second : List ℕ
+  pub spelled : words ≡ first ∷ second ∷ []
+  pub one : P first said.0
+  pub two : Q second said.1
 
 -- the three words say these, where P, Q and R say what the first, the second and the third says
 pub record Three {A B C : Type 0} (P : List ℕ → A → Type 0) (Q : List ℕ → B → Type 0) (R : List ℕ → C → Type 0) (words : List (List ℕ)) (said : A × B × C) : Type 0 where
@@ -33,6 +43,12 @@ name_words words name t = record { text = t.text; spelled = t.spelled; says = t.
 
 pub integer_words : (words : List (List ℕ)) (number : ℤ) → IsInteger words number → One WritesInteger words number
 integer_words words number t = record { text = t.text; spelled = t.spelled; says = t.writes }
+
+abbrev pub version : ℕ × ℕ → classfile.Version
+version said = record { major = said.0; minor = said.1 }
+
+pub version_words : (words : List (List ℕ)) (v : classfile.Version) → IsVersion words v → Two WritesNumber WritesNumber words (v.major, v.minor)
+version_words words v t = record { first = t.major_text; second = t.minor_text; spelled = t.spelled; one = t.major; two = t.minor }
 
 abbrev pub member_line : ℕ × List ℕ × List ℕ → MemberLine
 member_line said = record { flags = said.0; name = said.1; descriptor = said.2 }

@@ -14,7 +14,7 @@ use Rattle.cl_writer.specs.declared.item.Item.TheVariants.{
   Member,
 }
 use Rattle.cl_writer.specs.declared.statement.MemberLine.{MemberLine}
-use Rattle.cl_writer.specs.Assemblies.{ListedClass}
+use Rattle.cl_writer.specs.Assemblies.{ListedClass, version_of}
 use Rattle.cl_writer.specs.Items.{index, items_of}
 
 -- the reference to a member of such a kind (4.4.2)
@@ -51,6 +51,7 @@ super_index items (Some name) = index items (Class name)
 -- the file of these entries, with the flags, names and members of the lines (4.1)
 abbrev pub described_over : List Item → ListedClass → structure.Structure
 described_over items l = record {
+  version = version_of l;
   pool = map (entry_of items) items;
   flags = l.class.flags;
   this_class = index items (Class l.class.name);

@@ -17,6 +17,8 @@ use Rattle.std.specs.Prelude.{
 use Rattle.std.specs.Int.{w32}
 use Rattle.std.specs.Str.Parse.{IsNumeral, without_leading_sign, signed_digits_value}
 use Rattle.cl_names.specs.Escape.{number_written, WritesName}
+use Rattle.cl_lines.specs.Numbers.{WritesNumber}
+use Rattle.cl_classfile.specs.declared.version.Version as classfile
 use Rattle.cl_writer.specs.declared.item.MemberKind.{MemberKind}
 use Rattle.cl_writer.specs.declared.item.MemberKind.TheVariants as kinds
 use Rattle.cl_writer.specs.declared.item.MemberName.{MemberName}
@@ -31,7 +33,13 @@ use Rattle.cl_writer.specs.declared.item.Item.TheVariants.{
 use Rattle.cl_writer.specs.declared.statement.ClassLine.{ClassLine}
 use Rattle.cl_writer.specs.declared.statement.MemberLine.{MemberLine}
 use Rattle.cl_writer.specs.declared.statement.Statement.{Statement}
-use Rattle.cl_writer.specs.declared.statement.Statement.TheVariants.{Implements, Field, Method, Ref}
+use Rattle.cl_writer.specs.declared.statement.Statement.TheVariants.{
+  Implements,
+  Field,
+  Method,
+  Ref,
+  Version,
+}
 
 -- the value of four hexadecimal digits of either case
 abbrev pub hex_flags : List ℕ → Option ℕ
@@ -61,6 +69,14 @@ pub record IsInteger (words : List (List ℕ)) (number : ℤ) : Type 0 where
   pub text : List ℕ
   pub spelled : words ≡ text ∷ []
   pub writes : WritesInteger text number
+
+-- MAJOR MINOR
+pub record IsVersion (words : List (List ℕ)) (version : classfile.Version) : Type 0 where
+  pub major_text : List ℕ
+  pub minor_text : List ℕ
+  pub spelled : words ≡ major_text ∷ minor_text ∷ []
+  pub major : WritesNumber major_text version.major
+  pub minor : WritesNumber minor_text version.minor
 
 -- FLAGS NAME DESC
 pub record IsMemberLine (words : List (List ℕ)) (line : MemberLine) : Type 0 where
@@ -119,3 +135,4 @@ Says words (Implements name) = Begins (codes "implements") words (λ rest. IsNam
 Says words (Field line) = Begins (codes "field") words (λ rest. IsMemberLine rest line)
 Says words (Method line) = Begins (codes "method") words (λ rest. IsMemberLine rest line)
 Says words (Ref item) = Begins (codes "ref") words (λ rest. Refers rest item)
+Says words (Version version) = Begins (codes "version") words (λ rest. IsVersion rest version)

@@ -3,18 +3,27 @@
 ghost use Rattle.std.specs.Prelude.{◌≡◌, ◌<◌, ◌^◌, ◌++◌, ◌∷◌, OnOk, length};
 ghost use Rattle.std.specs.Int.{w16, to_be_bytes};
 ghost use Rattle.cl_classfile.specs.Pool.{two_indices, entry_spelling};
+ghost use Rattle.cl_classfile.specs.Versions.{version_spelling};
 ghost use Rattle.cl_classfile.specs.declared.entry.Entry.TheVariants.{Utf8};
 
-use cl_classfile::tags;
+use cl_classfile::{Version, tags};
 use std::alloc::AllocError;
 
-/// The magic, and version 52.0 as its minor and its major number (JVMS SE 8, 4.1).
-pub const HEADER: [u8; 8] = [0xca, 0xfe, 0xba, 0xbe, 0, 0, 0, 52];
+/// The magic (JVMS SE 8, 4.1).
+pub const MAGIC: [u8; 4] = [0xca, 0xfe, 0xba, 0xbe];
 
 pub fn put_u16(out: &mut Vec<u8>, number: u16) -> Result<(), AllocError>
     ensures { OnOk result (out.new.items ≡ out.old.items ++ to_be_bytes w16 number) }
 {
     out.extend_from_slice(&number.to_be_bytes())
+}
+
+/// The minor number, and then the major one (JVMS SE 8, 4.1).
+pub fn put_version(out: &mut Vec<u8>, version: Version) -> Result<(), AllocError>
+    ensures { OnOk result (out.new.items ≡ out.old.items ++ version_spelling version) }
+{
+    put_u16(out, version.minor)?;
+    put_u16(out, version.major)
 }
 
 /// A text's tag, its length and its bytes (JVMS SE 8, 4.4.7).

@@ -6,16 +6,18 @@ ghost use Rattle.std.specs.List.{flat_map};
 ghost use Rattle.std.specs.Option.{option_map};
 ghost use Rattle.std.specs.Char.{digit_char};
 ghost use Rattle.cl_classfile.specs.Files.{type_name, text_at};
-ghost use Rattle.cl_writer.specs.Listings.{printed_name, printed_super, printed_type, class_line, implements_line, member_line, listing_of};
+ghost use Rattle.cl_writer.specs.Listings.{printed_name, printed_super, printed_type, class_line, class_lines, implements_line, member_line, version_line, listing_of};
 ghost use Rattle.cl_writer.specs.Texts.{AreTexts};
 
+use crate::assembly::DEFAULT_VERSION;
 use crate::texts::Texts;
-use cl_classfile::{ClassFile, Entry, Member, type_name};
+use cl_classfile::{ClassFile, Entry, Member, Version, type_name};
 use cl_names::Name;
 use std::alloc::{AllocError, Global};
 
-/// The lines of a file in the assembler's form: its `class`, `implements`, `field` and `method` lines, each ended by
-/// U+000A. Flags are in lower case; a superclass that is not there is `-`. It is refused only where memory runs out.
+/// The lines of a file in the assembler's form: its `class` line, that of a version other than 52.0, its `implements`,
+/// `field` and `method` lines, each ended by U+000A. Flags are in lower case; a superclass that is not there is `-`. It is
+/// refused only where memory runs out.
 pub fn listing(alloc: Global, file: &ClassFile) -> Result<String, AllocError>
     ensures { IfOk result (λ text. string_bytes text ≡ listing_of file.now) }
 {
@@ -34,7 +36,15 @@ pub fn listing(alloc: Global, file: &ClassFile) -> Result<String, AllocError>
     Ok(text)
 }
 
+/// The line of the class, and that of its version.
 pub fn put_class(text: &mut String, file: &ClassFile) -> Result<(), AllocError>
+    ensures { OnOk result (string_bytes text.new ≡ string_bytes text.old ++ class_lines file.now) }
+{
+    put_class_line(text, file)?;
+    put_version(text, file.version())
+}
+
+fn put_class_line(text: &mut String, file: &ClassFile) -> Result<(), AllocError>
     ensures { OnOk result (string_bytes text.new ≡ string_bytes text.old ++ class_line file.now) }
 {
     put_head(text, "class ", file.flags())?;
@@ -42,6 +52,16 @@ pub fn put_class(text: &mut String, file: &ClassFile) -> Result<(), AllocError>
     text.push_str(" ")?;
     put_super(text, file.pool(), file.super_class())?;
     text.push_str("\n")
+}
+
+/// The line of a version, and nothing of 52.0.
+fn put_version(text: &mut String, version: Version) -> Result<(), AllocError>
+    ensures { OnOk result (string_bytes text.new ≡ string_bytes text.old ++ version_line version) }
+{
+    if version == DEFAULT_VERSION {
+        return Ok(());
+    }
+    write!(text, "version {} {}\n", version.major, version.minor)
 }
 
 /// A word, flags and a space.

@@ -22,6 +22,7 @@ pub fn parts_of(alloc: Global, items: &Items, assembly: &Assembly) -> Result<Par
 {
     let class = &assembly.class;
     Ok(Parts {
+        version: assembly.version(),
         pool: entries(alloc, items, items.as_slice())?,
         flags: class.flags,
         this_class: class_index(alloc, items, &class.name)?,

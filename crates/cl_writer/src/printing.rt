@@ -3,7 +3,7 @@
 ghost use Rattle.std.specs.Prelude.{◌≡◌, ◌++◌, OnOk, OnErr, codes, string_bytes};
 ghost use Rattle.std.specs.List.{flat_map};
 ghost use Rattle.cl_streams.specs.Writing.{PutsBehind, StopsWithin, WritesBytes, WritesPart, paged, stream};
-ghost use Rattle.cl_writer.specs.Listings.{class_line, implements_line, listing_of, member_line};
+ghost use Rattle.cl_writer.specs.Listings.{class_lines, implements_line, listing_of, member_line};
 ghost use Rattle.cl_writer.specs.Texts.{AreTexts};
 
 use crate::listings::{put_class, put_interface, put_member};

@@ -4,10 +4,11 @@ ghost use Rattle.std.specs.Prelude.{◌≡◌, List, ℕ, [], ◌∷◌, Some, N
 ghost use Rattle.cl_names.specs.Truth.{Reads, FoundBy};
 ghost use Rattle.cl_lines.specs.Lines.{words_of};
 ghost use Rattle.cl_names.specs.Escape.{digit_written, WritesName};
-ghost use Rattle.cl_writer.specs.Statements.{hex_flags, WritesInteger, WritesSuper, IsName, IsMemberLine, IsMemberName, IsInteger, IsClassLine, Refers, Says, kind_word};
+ghost use Rattle.cl_writer.specs.Statements.{hex_flags, WritesInteger, WritesSuper, IsName, IsMemberLine, IsMemberName, IsInteger, IsClassLine, IsVersion, Refers, Says, kind_word};
 
 use crate::item::{Item, MemberKind, MemberName};
-use cl_lines::Words;
+use cl_classfile::Version;
+use cl_lines::{Words, number_of};
 use cl_names::{Name, NameFault};
 use std::alloc::{AllocError, Global};
 
@@ -35,6 +36,7 @@ pub enum Statement {
     Method(MemberLine),
     /// An entry of the pool.
     Ref(Item),
+    Version(Version),
 }
 
 /// What the first line of a class says, if it is such a line.
@@ -99,6 +101,12 @@ pub fn said_by(alloc: Global, line: &str) -> Result<Option<Statement>, AllocErro
         };
         return Ok(Some(Statement::Ref(item)));
     }
+    if first == "version" {
+        let Some(version) = version_of(words) else {
+            return Ok(None);
+        };
+        return Ok(Some(Statement::Version(version)));
+    }
     Ok(None)
 }
 
@@ -162,6 +170,17 @@ fn integer_of(words: Words<'_>) -> Option<i32>
     written_integer(one(words)?)
 }
 
+/// MAJOR MINOR, and no word more.
+fn version_of(words: Words<'_>) -> Option<Version>
+    ensures { FoundBy (IsVersion (words_of words.entry)) result }
+{
+    let (major, minor) = two(words)?;
+    Some(Version {
+        major: number_of(major)?,
+        minor: number_of(minor)?,
+    })
+}
+
 /// FLAGS NAME DESC, and no word more.
 fn member_line(alloc: Global, words: Words<'_>) -> Result<Option<MemberLine>, AllocError>
     ensures { Reads (IsMemberLine (words_of words.entry)) result }
@@ -215,6 +234,17 @@ fn one(mut words: Words<'_>) -> Option<&str>
 {
     match (words.next(), words.next()) {
         (Some(word), None) => Some(word),
+        _ => None,
+    }
+}
+
+/// The two words that are left.
+fn two(mut words: Words<'_>) -> Option<(&str, &str)>
+    ensures { MatchOption result ((a b : List ℕ) → words_of words.entry ≡ a ∷ b ∷ []
+        → ⊥) (λ t. words_of words.entry ≡ t.0.now ∷ t.1.now ∷ []) }
+{
+    match (words.next(), words.next(), words.next()) {
+        (Some(a), Some(b), None) => Some((a, b)),
         _ => None,
     }
 }

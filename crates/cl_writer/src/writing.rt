@@ -8,7 +8,7 @@ ghost use Rattle.cl_classfile.specs.declared.entry.Entry.TheVariants.{MethodHand
 ghost use Rattle.cl_classfile.specs.Structure.{AllFit, AttributeFits, MemberFits, Spells, attribute_spelling, counted_list, member_spelling, pool_spelling};
 ghost use Rattle.cl_classfile.specs.Reading.{read_of};
 
-use crate::bytes::{HEADER, put_tagged, put_text, put_two, put_u16};
+use crate::bytes::{MAGIC, put_tagged, put_text, put_two, put_u16, put_version};
 use crate::fault::WriteFault;
 use cl_classfile::{Attribute, ClassFile, Entry, Member, tags};
 use std::alloc::{AllocError, Global};
@@ -28,7 +28,8 @@ fn bytes_of(alloc: Global, file: &ClassFile) -> Result<Vec<u8>, AllocError>
     ensures { IfOk result (λ bytes. Spells bytes.items file.now) }
 {
     let mut out = Vec::new(alloc);
-    out.extend_from_slice(&HEADER)?;
+    out.extend_from_slice(&MAGIC)?;
+    put_version(&mut out, file.version())?;
     put_pool(&mut out, file.pool())?;
     put_u16(&mut out, file.flags())?;
     put_u16(&mut out, file.this_class())?;

@@ -28,8 +28,8 @@ is taken from the working directory.";
 
 /// Which class files are read.
 const VERSION_READ: &str = "\
-Class files of version 52.0 are read, those of Java SE 8. Another version is
-told as F2 Version.";
+Class files of versions 45.0 to 52.0 are read, those of Java SE 8. Another
+version is told as F2 Version. A version that is not 52.0 is printed.";
 
 fn command<'a>(alloc: Global) -> Result<Command<'a>, AllocError>
     ensures { IfOk result (λ c. app_of c ≡ program) }

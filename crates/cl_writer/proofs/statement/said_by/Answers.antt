@@ -1,6 +1,6 @@
 use Rattle.std.proofs.Common.{rules, ◌≡◌, ◌∷◌, codes}
 use Rattle.cl_lines.specs.Lines.{words_of}
-use Rattle.cl_writer.proofs.Rows.{no_implements, no_field, no_method, no_ref}
+use Rattle.cl_writer.proofs.Rows.{no_implements, no_field, no_method, no_ref, no_version}
 use Rattle.cl_writer.proofs.statement.said_by.Goals as goal
 
 pub returns-in_default-2 : goal.returns-in_default-2
@@ -22,3 +22,8 @@ pub returns-in_default-5 : goal.returns-in_default-5
 returns-in_default-5 c =
     let words : words_of c.args.line.now ≡ codes "ref" ∷ words_of c.next.new.self = search rules in
     no_ref _ _ words (rw c.in_default-5.is at c.in_ok-item.ensures)
+
+pub returns-in_default-version_of : goal.returns-in_default-version_of
+returns-in_default-version_of c =
+    let words : words_of c.args.line.now ≡ codes "version" ∷ words_of c.next.new.self = search rules in
+    no_version _ _ words (rw c.in_default-version_of.is at c.version_of.ensures)

@@ -1,7 +1,7 @@
 use Rattle.std.proofs.Common.{[], ◌∷◌, ◌++◌, codes, string_bytes}
 use Rattle.cl_writer.specs.Listings.{printed_super, printed_type}
 use Rattle.cl_writer.proofs.Printed.{ends_class}
-use Rattle.cl_writer.proofs.listings.put_class.Goals as goal
+use Rattle.cl_writer.proofs.listings.put_class_line.Goals as goal
 use Rattle.cl_names.specs.Escape.{four_digits}
 
 pub returns : goal.returns

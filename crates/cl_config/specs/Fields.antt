@@ -66,7 +66,7 @@ optional_text wrong (Some d) = ok_or (as_str d) wrong >>= λ text. Ok (Some text
 abbrev pub name_of : ConfigFault → Option Data → Result (List ℕ) ConfigFault
 name_of wrong value = text_of wrong value >>= λ text. ok_or (unescaped_name text) wrong
 
--- where a loader looks first; its parent, where it is left out
+-- where a loader looks first; its parents, where it is left out
 abbrev pub order_of : ConfigFault → Option Data → Result Order ConfigFault
 order_of wrong None = Ok ParentFirst
 order_of wrong (Some d) = ok_or (as_str d) wrong >>= λ text.

@@ -12,9 +12,9 @@ use toml::Value;
 /// Where a loader looks first for a name that none of its imports decides (JVMS SE 8, 5.3.2).
 #[derive(Clone, Copy, Debug, PartialEq, Eq)]
 pub enum Order {
-    /// At its parent, then at its own content.
+    /// At its parents, then at its own content.
     ParentFirst,
-    /// At its own content, then at its parent.
+    /// At its own content, then at its parents.
     ChildFirst,
 }
 

@@ -23,7 +23,7 @@ pub enum DraftFault {
     /// They spell no class file, for another cause than the version.
     #[error("H1 Format {0}")]
     Format(Fault),
-    /// The version is not 52.0.
+    /// The version is none of 45.0 to 52.0.
     #[error("H2 Version")]
     Version,
     /// The file names another class.

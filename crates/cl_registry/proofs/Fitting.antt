@@ -24,10 +24,9 @@ use Rattle.cl_model.proofs.Tables.{may_bear}
 use Rattle.cl_config.specs.Loaders.{schedule_of}
 use Rattle.cl_config.specs.Views.{Configured}
 use Rattle.cl_delegation.specs.Worlds.{setting_of}
-use Rattle.cl_hierarchy.specs.Imposed.{Listed, OfPreparation, equal_need, needs_of}
+use Rattle.cl_hierarchy.specs.Imposed.{AreLineages, IsListed, Listed, OfPreparation, equal_need, needs_of}
 use Rattle.cl_hierarchy.specs.Lineages.{IsLined, IsWithinConfig, Lined, kin_of, rows_in}
 use Rattle.cl_hierarchy.specs.Rows.{Rowed}
-use Rattle.cl_findings.specs.Bases.{AreLineages, IsListed}
 use Rattle.cl_findings.specs.Findings.{Answered, Based, BasisStands, IsBorne, IsLookedUp, IsWithin, Stands, loader_of}
 use Rattle.cl_findings.specs.Laws.{IsListedRefusal}
 use Rattle.cl_findings.specs.References.{imposed_basis}

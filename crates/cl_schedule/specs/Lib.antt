@@ -13,3 +13,4 @@ pub mod Choices
 pub mod Seats
 pub mod Rooms
 pub mod Texts
+pub mod Examples

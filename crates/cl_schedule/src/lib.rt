@@ -2,6 +2,7 @@
 #![tactic(auto)]
 
 mod choices;
+pub mod examples;
 mod gather;
 mod replies;
 mod seats;

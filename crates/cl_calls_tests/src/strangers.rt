@@ -29,6 +29,20 @@ const ORDERS: [(u16, bool, [u16; 3]); 4] = [
     (BOOT, false, [BOOT, NOWHERE, NOWHERE]),
 ];
 
+/// Two loaders over the first one, and a last one over both.
+const TWO: &str =
+    "[[loader]]\nname = \"boot\"\n[[loader]]\nname = \"a\"\nparent = \"boot\"\n[[loader]]\nname = \"b\"\nparent = \"boot\"\n[[loader]]\nname = \"c\"\n";
+
+/// What the last of four loaders says, and the loaders that are probed for `p/X` while none has it: each once.
+const DIAMONDS: [(&str, [u16; 4]); 3] = [
+    ("parents = [\"a\", \"b\"]", [0, 1, 2, 3]),
+    ("parents = [\"a\", \"b\"]\norder = \"child\"", [3, 0, 1, 2]),
+    ("parents = [\"b\", \"a\"]", [0, 2, 1, 3]),
+];
+
+/// How many loaders stand over one another, each over the last two before it.
+const RUNGS: u16 = 1_024;
+
 /// Whether a search asks for the probe of a loader next, takes it then, and hands back those of another loader and of
 /// another name.
 fn takes_alone(
@@ -54,7 +68,7 @@ fn ask_probes<R: Abort>(
     alloc: Global,
     nothing: &mut Telling<Untold>,
     search: &mut Search<Untold>,
-    order: &[u16; 3],
+    order: &[u16],
     name: &Name,
 ) -> Result<(), AllocError> {
     for place in order {
@@ -83,29 +97,90 @@ fn is_unfound(search: Search<Untold>) -> bool {
     }
 }
 
-/// Asks all orders.
-fn ask_orders<R: Abort>(
+/// Asks for a name at a loader, while no loader has it: for its probes in this order, and for no more.
+fn ask_order<R: Abort>(
     rt: &R,
     alloc: Global,
     loaders: &Arc<Config>,
     nothing: &mut Telling<Untold>,
+    loader: u16,
+    text: &[u8],
+    order: &[u16],
 ) -> Result<(), AllocError> {
+    let name = class_name(alloc, text)?;
+    let mut search = search(alloc, loaders, loader, name.bytes())?;
+    let asked = ask_probes(rt, alloc, nothing, &mut search, order, &name);
+    let is_more = is_taken(alloc, nothing, &mut search, LoaderId(loader), &name);
+    let is_unfound = is_unfound(search);
+    asked?;
+    assert!(rt; !is_more? && is_unfound);
+    Ok(())
+}
+
+/// Asks all orders.
+fn ask_orders<R: Abort>(
+    rt: &R,
+    alloc: Global,
+    nothing: &mut Telling<Untold>,
+) -> Result<(), AllocError> {
+    let loaders = config(alloc, LOADERS)?;
     for (loader, is_java, order) in ORDERS {
-        let name = class_name(
-            alloc,
-            if is_java {
-                b"java/x".as_slice()
-            } else {
-                b"p/X"
-            },
-        )?;
-        let mut search = search(alloc, loaders, loader, name.bytes())?;
-        let asked = ask_probes(rt, alloc, nothing, &mut search, &order, &name);
-        let is_more = is_taken(alloc, nothing, &mut search, LoaderId(loader), &name);
-        let is_unfound = is_unfound(search);
-        asked?;
-        assert!(rt; !is_more? && is_unfound);
+        let text = if is_java {
+            b"java/x".as_slice()
+        } else {
+            b"p/X"
+        };
+        ask_order(rt, alloc, &loaders, nothing, loader, text, order.as_slice())?;
     }
+    drop(loaders);
+    Ok(())
+}
+
+/// Asks those of all diamonds.
+fn ask_diamonds<R: Abort>(
+    rt: &R,
+    alloc: Global,
+    nothing: &mut Telling<Untold>,
+) -> Result<(), AllocError> {
+    for (last, order) in DIAMONDS {
+        let text = format!(in alloc; "{TWO}{last}")?;
+        let loaders = config(alloc, text.as_str())?;
+        ask_order(rt, alloc, &loaders, nothing, 3, b"p/X", order.as_slice())?;
+        drop(loaders);
+    }
+    Ok(())
+}
+
+/// Asks the last loader of a ladder, in which the ways double with each rung.
+fn ask_ladder<R: Abort>(
+    rt: &R,
+    alloc: Global,
+    nothing: &mut Telling<Untold>,
+) -> Result<(), AllocError> {
+    let mut text = String::new(alloc);
+    let mut order = Vec::new(alloc);
+    for rung in 0..RUNGS {
+        text.push_str("[[loader]]\n")?;
+        text.push_str(format!(in alloc; "name = \"l{rung}\"\n")?.as_str())?;
+        if rung == 1 {
+            text.push_str("parent = \"l0\"\n")?;
+        } else if rung > 1 {
+            let (one, other) = (rung - 1, rung - 2);
+            text.push_str(format!(in alloc; "parents = [\"l{one}\", \"l{other}\"]\n")?.as_str())?;
+        }
+        order.push(rung)?;
+    }
+    let loaders = config(alloc, text.as_str())?;
+    ask_order(
+        rt,
+        alloc,
+        &loaders,
+        nothing,
+        RUNGS - 1,
+        b"p/X",
+        order.as_slice(),
+    )?;
+    drop(loaders);
     Ok(())
 }
 
@@ -113,12 +188,14 @@ fn ask_orders<R: Abort>(
 #[test]
 fn probes_in_order(rt: HostRuntime) -> Result<(), Fail> {
     let alloc = rt.alloc();
-    let loaders = config(alloc, LOADERS)?;
     let mut nothing = MemorySource::new(alloc).tell::<Untold>();
-    let asked = ask_orders(&rt, alloc, &loaders, &mut nothing);
+    let orders = ask_orders(&rt, alloc, &mut nothing);
+    let diamonds = ask_diamonds(&rt, alloc, &mut nothing);
+    let ladder = ask_ladder(&rt, alloc, &mut nothing);
     drop(nothing);
-    drop(loaders);
-    asked?;
+    orders?;
+    diamonds?;
+    ladder?;
     Ok(())
 }
 

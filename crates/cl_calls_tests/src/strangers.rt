@@ -19,7 +19,7 @@ use std::sync::Arc;
 use std::test::Fail;
 
 /// No loader, at the end of an order.
-const NOWHERE: u16 = 9;
+const NOWHERE: u16 = u16::MAX;
 
 /// Of a loader and `java/x` or `p/X`, the loaders that are probed while none has it.
 const ORDERS: [(u16, bool, [u16; 3]); 4] = [

@@ -1,7 +1,8 @@
 //! The way of a class file through reader, writer, listing and assembler.
 
-ghost use Rattle.std.specs.Prelude.{◌≡◌, Bool, IfOk, true};
+ghost use Rattle.std.specs.Prelude.{◌≡◌, Bool, IfOk, Ok, true};
 ghost use Rattle.cl_names.specs.Truth.{Decides};
+ghost use Rattle.cl_classfile.specs.Reading.{read_of};
 ghost use Rattle.cl_classfile.specs.Structure.{Spells};
 ghost use Rattle.classlink_corpus.specs.Rounds.{ListsAgain, OutcomeOfBytes};
 
@@ -25,15 +26,23 @@ pub enum Outcome {
 pub fn round_trip(alloc: Global, bytes: &[u8]) -> Result<Outcome, AllocError>
     ensures { IfOk result (OutcomeOfBytes bytes.now) }
 {
-    let file = match read(alloc, bytes) {
-        Ok(file) => file,
-        Err(ReadError::Memory) => return Err(AllocError),
-        Err(ReadError::Fault(fault)) => return Ok(Outcome::Refused(fault)),
-    };
-    if !is_written_as(alloc, &file, bytes)? {
+    match read(alloc, bytes) {
+        Ok(file) => outcome_of(alloc, &file, bytes),
+        Err(ReadError::Memory) => Err(AllocError),
+        Err(ReadError::Fault(fault)) => Ok(Outcome::Refused(fault)),
+    }
+}
+
+/// Writes the file that was read from these bytes, and assembles its listing.
+fn outcome_of(alloc: Global, file: &ClassFile, bytes: &[u8]) -> Result<Outcome, AllocError>
+    requires spelled { Spells bytes.now file.now }
+    requires read { read_of bytes.now ≡ Ok file.now }
+    ensures { IfOk result (OutcomeOfBytes bytes.now) }
+{
+    if !is_written_as(alloc, file, bytes)? {
         return Ok(Outcome::OtherBytes);
     }
-    Ok(if lists_again(alloc, &file)? {
+    Ok(if lists_again(alloc, file)? {
         Outcome::Same
     } else {
         Outcome::OtherListing

@@ -145,10 +145,13 @@ fn entry_of_two(kind: &str, rest: &str) -> Result<Entry, Stop> {
             class: first,
             name_and_type: second,
         }),
-        "handle" => Ok(Entry::MethodHandle {
-            kind: first as u8,
-            reference: second,
-        }),
+        "handle" => match u8::try_from(first) {
+            Ok(kind) => Ok(Entry::MethodHandle {
+                kind,
+                reference: second,
+            }),
+            Err(_) => Err(Stop::NoRow),
+        },
         _ => Err(Stop::NoRow),
     }
 }

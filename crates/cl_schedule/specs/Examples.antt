@@ -1,5 +1,5 @@
 -- The words of the worked examples: reports of two requests, and choices among requests (JVMS SE 8, 5.3 to 5.4.3).
-use Rattle.std.specs.Prelude.{ℕ, List, [], ◌∷◌, map, Option, None, codes}
+use Rattle.std.specs.Prelude.{ℕ, List, [], ◌∷◌, map, Option, codes}
 use Rattle.std.specs.declared.alloc.Global.{Global}
 use Rattle.std.specs.declared.sync.Arc.{Arc}
 use Rattle.cl_model.specs.declared.answer.Answer.{Answer}
@@ -32,7 +32,7 @@ lone = record {
   loaders = record {
     name = codes "boot";
     dir = [];
-    parent = None;
+    parents = [];
     order = ParentFirst;
     imports = [];
   } ∷ [];
